@@ -46,6 +46,14 @@ use Rattle.print_runs.proofs.TempLemmas.{room_step}
 use Rattle.operator_runs.specs.Meant.{IsAlong, IsPlainMask, PartFoldedMeant, ScannedMeant, FloodedMeant}
 use Rattle.operator_runs.proofs.MeantLemmas.{mask_in}
 use Rattle.operator_runs.proofs.SpareLemmas.{spares_temp}
+use Rattle.operator_runs.proofs.StateLemmas as state
+use Rattle.operator_runs.proofs.StateLemmas.{HasState}
+use Rattle.operator_runs.proofs.RemapHoistLemmas.{remap_hoists}
+use Rattle.operator_runs.specs.Meant.{RemappedMeant, count_of}
+use Rattle.std.proofs.lemmas.List.{length-replicate}
+use Rattle.zpl_nums.specs.declared.ends.TrapKind.TheVariants.{OutsideStorage}
+use Rattle.zpl_region.specs.Region.{IsRegion, members}
+use Rattle.zpl_meaning.specs.Fields.{arrays_over, has_target, remap_field}
 use Rattle.operator_runs.proofs.TempLemmas.{array_is, can_put, can_take, kept_written, loop_step, moved_is, temp_value}
 use Rattle.std.proofs.Common.{◌≡◌, refl, sym, ◌∙◌, ap, subst, arith, ℕ, ◌+◌, ◌<◌, ◌≤◌, Bool, true, false}
 use Rattle.std.proofs.Common.{List, [], ◌∷◌, ◌++◌, length, ℤ, pos, Option, Some, None}
@@ -223,25 +231,16 @@ module _ (tables : Tables) (n : ℕ) (spots : List Spot) (w : Where) (line : ℕ
   abbrev rows : List Row → Whole → Course Whole
   rows = rows_do (step tables n) (decide tables n)
 
-  -- a state with these slots, in which the store is seen
-  pub record IsState (now : Whole) : Type 0 where
-    pub sound : IsSound tables now
-    pub slots_are : now.slots ≡ slots
-    pub seen_is : seen_store spots w.numbers.arrays now ≡ store
+  abbrev pub IsState : Whole → Type 0
+  IsState = HasState tables spots w.numbers.arrays slots store
 
-  spared_state : (free : Free) (now after : Whole) → IsState now → Spared free now after
+  abbrev spared_state : (free : Free) (now after : Whole) → IsState now → Spared free now after
       → IsState after
-  spared_state free now after h s =
-      record { sound = s.sound; slots_are = s.slots ∙ h.slots_are; seen_is = s.seen ∙ h.seen_is }
+  spared_state = state.spared_state tables spots w.numbers.arrays slots store
 
-  slot_in_state : (now : Whole) → IsState now → (over : Slotted) (region : Region)
+  abbrev slot_in_state : (now : Whole) → IsState now → (over : Slotted) (region : Region)
       → InSlot slots over region → InSlot now.slots over region
-  slot_in_state now h over region i = record {
-    found = ap (λ (xs : List Region). slice_get xs over.slot) h.slots_are ∙ i.found;
-    is = i.is;
-    three = i.three;
-    flood = i.flood;
-  }
+  slot_in_state = state.slot_in_state tables spots w.numbers.arrays slots store
 
   pub scalars_here : (now : Whole) → IsState now → (place : ℕ)
       → IsInteger (scalar_at store (place_of spots place))
@@ -1143,130 +1142,6 @@ module _ (tables : Tables) (n : ℕ) (spots : List Spot) (w : Where) (line : ℕ
   plain_element None shift = refl
   plain_element (Some stored) shift = refl
 
-  pub hoists : (site : Site) (one : Slate) (meant : Term) → IsMeant w spots slots site one meant
-      → IsSite slots site → (now : Whole) → IsState now
-      → list_all (holds tables now) (referred w.numbers one) ≡ true → conforms meant ≡ true
-      → (free : Free) → next.scalars ≤ free.scalars
-      → free.scalars + (hoisted w.numbers line free one).scalars ≤ tables.scalars
-      → TempsAt tables.arrays free.temps (hoisted w.numbers line free one).temps
-      → Hoist site free (behind free (hoisted w.numbers line free one)) (tests_of one) now
-      (hoisted w.numbers line free one).left (field_of store meant)
-      (does tables n (hoisted w.numbers line free one).code now)
-  hoists site _ _ (ConstantMeant {value = value} is) i now here held conf free le space temps =
-      constant_hoists site free le now here value
-  hoists site _ _ (VariableMeant {place = place}) i now here held conf free le space temps =
-      variable_hoists site free le now here place
-  hoists _ _ _ (CoordinateMeant {over = over} {region = region} {k = k} lt) i now here held conf free le space temps =
-      part_hoists over region i (slate.Coordinate k) (term.Coordinate k)
-      (λ t. mean.Gives (coordinate_of k t)) refl free le refl now here refl (λ j. (tt, tt))
-      (λ later sound i. (
-        word.Coordinate k,
-        coordinate_part tables spots w line later region.rank over
-            (current_in later.slots over region i) k lt,
-      ))
-  hoists _ _ _ (ElementMeant {over = over} {region = region} {place = place} {shift = shift} r) i now
-      here held conf free le space temps =
-      part_hoists over region i (slate.Element over.slot place shift) (term.Element region place shift)
-      _ refl free le (plain_element (slice_get w.numbers.arrays place) shift) now here held
-      (λ j. element_names (slice_get w.numbers.arrays place) shift j)
-      (λ later sound i. element_at tables spots w line all later sound over region i place shift r)
-  hoists site _ _ (UnaryMeant {operator = op} {one = one} {operand = operand} h) i now here held conf free le space temps =
-      unary_hoists site free (behind free (hoisted w.numbers line free one)) (tests_of one) now
-      (hoisted w.numbers line free one).left op (field_of store operand)
-      (does tables n (hoisted w.numbers line free one).code now)
-      (hoists site one operand h i now here held conf free le space temps)
-  hoists site _ _ (BinaryMeant {operator = op} {one = one} {other = other} {left = left}
-      {right = right} h k) i now here held conf free le space temps =
-      let first = hoisted w.numbers line free one in
-      let mid = behind free first in
-      let second = hoisted w.numbers line mid other in
-      let parts = held_both now (referred w.numbers one) (referred w.numbers other) held in
-      let confs = both_true (conforms left) (conforms right) conf in
-      subst (λ (last : Free). Hoist site free last (tests_of one + tests_of other) now
-      (word.Operation op first.left second.left) (field_of store (term.Binary op left right))
-      (code.then_do (does tables n first.code now) (does tables n second.code)))
-      (behind_both (word.Operation op) free first second)
-      (binary_hoists site free mid (behind mid second) (tests_of one) (tests_of other) now op first.left
-      second.left (field_of store left) (field_of store right) (does tables n first.code now)
-      (does tables n second.code) (freer_behind free first) (freer_behind mid second)
-      (hoists site one left h i now here parts.0 confs.0 free le (omega (arith, space))
-      (temps_front tables.arrays free.temps first.temps second.temps temps))
-      (λ after s.
-      hoists site other right k i after (spared_state free now after here s)
-      (holds_on tables spots w.numbers.arrays now after s.slots (referred w.numbers other) ∙ parts.1)
-      confs.1 mid (omega (arith, le)) (omega (arith, space))
-      (temps_rest tables.arrays free.temps first.temps second.temps temps)))
-  hoists site _ _ (FoldedMeant {operator = operator} {over = over} {region = region} {one = one}
-      {operand = operand} j readable no_floods h) i now here held conf free le space temps =
-      let inner = hoisted w.numbers line free one in
-      let mid = behind free inner in
-      let parts = held_both now (referred w.numbers one) (over_reference w.numbers over) held in
-      fold_hoists site free mid (behind free (hoisted w.numbers line free (slate.Folded operator over one)))
-      now here (freer_behind free inner) (omega arith)
-      (omega (arith, length-append inner.temps [])) (omega (arith, le)) (omega (arith, space)) operator
-      over region j readable no_floods parts.1 inner.left (tests_of one) (field_of store operand)
-      (does tables n inner.code now)
-      (field_integers w spots slots store (scalars_here now here) (arrays_here now here)
-      (Under over region) one operand h j)
-      (hoists (Under over region) one operand h j now here parts.0 conf free le (omega (arith, space))
-      (temps_front tables.arrays free.temps inner.temps [] temps))
-  hoists _ _ _ (PartFoldedMeant {operator = operator} {over = over} {source = source}
-      {region = region} {tuples = tuples} {one = one} {operand = operand} j readable no_floods h) i now
-      here held conf free le space temps =
-      let inner = hoisted w.numbers line free one in
-      let mid = behind free inner in
-      let parts = held_both now (over_reference w.numbers over) (referred w.numbers one) held in
-      let confs = both_true (reduction_conforms region tuples) (conforms operand) conf in
-      let own = temps_rest tables.arrays free.temps inner.temps (source.flood ∷ over.flood ∷ []) temps
-      in
-      temp_hoists over region i source tuples j None tt everywhere (λ t. refl) free mid
-      (behind free (hoisted w.numbers line free (slate.PartFolded operator over source one))) now here
-      (freer_behind free inner) (omega arith)
-      (omega (arith, length-append inner.temps (source.flood ∷ over.flood ∷ []))) (omega (arith, le))
-      own.0 own.1.0 refl inner.left
-      (row.Plain (instr.Part (suc mid.temps) over.slot operator mid.temps source.slot))
-      (λ array t. partly_reduced operator region tuples (element array) t)
-      (λ state there held f source_there room.
-      part_does over region i source tuples j mid.temps own.0 own.1.0 state there f source_there room
-      operator confs.0 no_floods)
-      (tests_of one) (field_of store operand) (does tables n inner.code now)
-      (hoists (Under source tuples) one operand h j now here parts.1 confs.1 free le
-      (omega (arith, space))
-      (temps_front tables.arrays free.temps inner.temps (source.flood ∷ over.flood ∷ []) temps))
-  hoists _ _ _ (FloodedMeant {over = over} {source = source} {region = region} {tuples = tuples}
-      {one = one} {operand = operand} j readable h) i now here held conf free le space temps =
-      let inner = hoisted w.numbers line free one in
-      let mid = behind free inner in
-      let parts = held_both now (over_reference w.numbers over) (referred w.numbers one) held in
-      let confs = both_true (flood_conforms region tuples) (conforms operand) conf in
-      let own = temps_rest tables.arrays free.temps inner.temps (source.flood ∷ over.flood ∷ []) temps
-      in
-      temp_hoists over region i source tuples j None tt everywhere (λ t. refl) free mid
-      (behind free (hoisted w.numbers line free (slate.Flooded over source one))) now here
-      (freer_behind free inner) (omega arith)
-      (omega (arith, length-append inner.temps (source.flood ∷ over.flood ∷ []))) (omega (arith, le))
-      own.0 own.1.0 refl inner.left
-      (row.Plain (instr.Flood (suc mid.temps) over.slot mid.temps source.slot))
-      (λ array t. element array (flood_source tuples t))
-      (λ state there held f source_there room.
-      flood_does over region i source tuples j mid.temps own.0 own.1.0 state there f source_there room
-      confs.0)
-      (tests_of one) (field_of store operand) (does tables n inner.code now)
-      (hoists (Under source tuples) one operand h j now here parts.1 confs.1 free le
-      (omega (arith, space))
-      (temps_front tables.arrays free.temps inner.temps (source.flood ∷ over.flood ∷ []) temps))
-  hoists _ _ _ (ScannedMeant {operator = operator} {along = along} {over = over} {region = region}
-      {one = one} {operand = operand} readable plain_mask is_along no_floods h) i now here held conf
-      free le space temps =
-      let inner = hoisted w.numbers line free one in
-      let parts = held_both now (referred w.numbers one) (over_reference w.numbers over) held in
-      scan_at over region i operator along is_along readable no_floods free le now here inner
-      (tests_of one) (field_of store operand) over.mask refl plain_mask parts.1 temps
-      (λ fits.
-      hoists (Under over region) one operand h i now here parts.0 conf free le
-      (omega (arith, space, scan_scalars operator along over free inner over.mask)) fits)
-      (omega (arith, space, scan_scalars operator along over free inner over.mask))
-
   -- ---- several
 
   abbrev HoistsAll : Site → Free → Free → ℕ → Whole → List Expression → mean.Computed (List Field)
@@ -1310,35 +1185,225 @@ module _ (tables : Tables) (n : ℕ) (spots : List Spot) (w : Where) (line : ℕ
           (later_values site mid last after end ge r field left h, i)
           (omega (arith, few, less, sum_of jumps j))
 
-  pub all_hoist : (site : Site) (slates : Slates) (terms : Terms)
-      → AreMeant w spots slots site slates terms → IsSite slots site → (now : Whole) → IsState now
-      → list_all (holds tables now) (all_referred w.numbers slates) ≡ true → conform terms ≡ true
-      → (free : Free) → next.scalars ≤ free.scalars
-      → free.scalars + (all_hoisted w.numbers line free slates).scalars ≤ tables.scalars
-      → TempsAt tables.arrays free.temps (all_hoisted w.numbers line free slates).temps
-      → HoistsAll site free (behind free (all_hoisted w.numbers line free slates))
-      (tests_of_all slates) now (all_hoisted w.numbers line free slates).left (fields_of store terms)
-      (does tables n (all_hoisted w.numbers line free slates).code now)
-  all_hoist site _ _ NoneMeant i now here held conf free le space temps =
-      AllReach (spares_all tables spots w.numbers.arrays free now here.sound) tt (omega arith)
-  all_hoist site _ _ (MoreMeant {one = one} {rest = rest} {first = first} {terms = terms} h k) i now
-      here held conf free le space temps =
-      let first_one = hoisted w.numbers line free one in
-      let mid = behind free first_one in
-      let others = all_hoisted w.numbers line mid rest in
-      let parts = held_both now (referred w.numbers one) (all_referred w.numbers rest) held in
-      let confs = both_true (conforms first) (conform terms) conf in
-      subst (λ (last : Free). HoistsAll site free last (tests_of one + tests_of_all rest) now
-      (first_one.left ∷ others.left) (fields_of store (ThenTerm first terms))
-      (code.then_do (does tables n first_one.code now) (does tables n others.code)))
-      (behind_both (λ one others. one ∷ others) free first_one others)
-      (both_hoist site free mid (behind mid others) (tests_of one) (tests_of_all rest) now
-      first_one.left others.left (field_of store first) (fields_of store terms)
-      (does tables n first_one.code now) (does tables n others.code) (freer_behind free first_one)
-      (freer_behind mid others) (hoists site one first h i now here parts.0 confs.0 free le
-      (omega (arith, space)) (temps_front tables.arrays free.temps first_one.temps others.temps temps))
-      (λ after s.
-      all_hoist site rest terms k i after (spared_state free now after here s)
-      (holds_on tables spots w.numbers.arrays now after s.slots (all_referred w.numbers rest) ∙ parts.1)
-      confs.1 mid (omega (arith, le)) (omega (arith, space))
-      (temps_rest tables.arrays free.temps first_one.temps others.temps temps)))
+  -- ---- remap reads
+
+  left_count : (free : Free) (indices : Slates)
+      → length (all_hoisted w.numbers line free indices).left ≡ count_of indices
+  left_count free NoSlate = refl
+  left_count free (ThenSlate first rest) =
+      ap suc (left_count (behind free (hoisted w.numbers line free first)) rest)
+
+  remap_at : (over : Slotted) (region : Region) → InSlot slots over region
+      → IsReadableMask w region over.mask → no_flood region ≡ true → (place : ℕ) (stored : Stored)
+      → IsRegion stored.storage → (free : Free) → next.scalars ≤ free.scalars → (now : Whole)
+      → IsState now → (inner : Hoisted (List Expression))
+      → length inner.left ≡ stored.storage.rank
+      → list_all (holds tables now) (over_reference w.numbers over) ≡ true → (most : ℕ)
+      (c : mean.Computed (List Field)) (o : Option Stored) → slice_get w.numbers.arrays place ≡ Some stored
+      → o ≡ Some stored
+      → (let made = hoist.remapping w.numbers line free over o inner in
+      free.scalars + made.scalars ≤ tables.scalars → TempsAt tables.arrays free.temps made.temps
+      → (free.scalars + inner.scalars ≤ tables.scalars
+      → TempsAt tables.arrays free.temps inner.temps
+      → HoistsAll (Under over region) free (behind free inner) most now inner.left c
+      (does tables n inner.code now))
+      → Hoist (Under over region) free (behind free made) (most + 1) now made.left
+      (computed_then c (λ fields. computed_then (arrays_over region
+      (is_kept_in store (record { region = region; mask = over.mask })) fields) (λ arrays. mean.provided
+      (list_all (λ t. has_target (is_kept_in store (record { region = region; mask = over.mask }) t)
+      (array_at store place) arrays t) (members region)) OutsideStorage
+      (λ _. mean.Gives (remap_field (array_at store place) arrays)))))
+      (does tables n made.code now))
+  remap_at over region i readable no_floods place stored is free le now here inner ranked held most c
+      None in_numbers e space temps h = absurd (let no : ⊥ = cc in no)
+  remap_at over region i readable no_floods place stored is free le now here inner ranked held most c
+      (Some other) in_numbers e space temps h =
+      let same : other ≡ stored = cc in
+      let count = length inner.left in
+      let mid = behind free inner in
+      remap_hoists tables n spots w line all slots store over region i readable no_floods place other
+      (in_numbers ∙ sym e) (subst (λ (x : Stored). IsRegion x.storage) (sym same) is) free mid
+      (behind free (hoist.remapping w.numbers line free over (Some other) inner)) now here
+      (freer_behind free inner) (omega arith)
+      (rises_on 0 (numbered spots) next.scalars mid.scalars (omega (arith, le)) stands.rises)
+      (omega (arith, space)) inner.left
+      (subst (λ (x : Stored). count ≡ x.storage.rank) (sym same) ranked)
+      (omega (
+        arith,
+        length-append inner.temps (replicate (count + 1) over.flood),
+        length-replicate (count + 1) over.flood,
+      ))
+      (temps_rest tables.arrays free.temps inner.temps (replicate (count + 1) over.flood) temps) held
+      most c (does tables n inner.code now)
+      (h (omega (arith, space))
+      (temps_front tables.arrays free.temps inner.temps (replicate (count + 1) over.flood) temps))
+
+  -- ---- slates, and several of them
+
+  mutual
+    pub hoists : (site : Site) (one : Slate) (meant : Term) → IsMeant w spots slots site one meant
+        → IsSite slots site → (now : Whole) → IsState now
+        → list_all (holds tables now) (referred w.numbers one) ≡ true → conforms meant ≡ true
+        → (free : Free) → next.scalars ≤ free.scalars
+        → free.scalars + (hoisted w.numbers line free one).scalars ≤ tables.scalars
+        → TempsAt tables.arrays free.temps (hoisted w.numbers line free one).temps
+        → Hoist site free (behind free (hoisted w.numbers line free one)) (tests_of one) now
+        (hoisted w.numbers line free one).left (field_of store meant)
+        (does tables n (hoisted w.numbers line free one).code now)
+    hoists site _ _ (ConstantMeant {value = value} is) i now here held conf free le space temps =
+        constant_hoists site free le now here value
+    hoists site _ _ (VariableMeant {place = place}) i now here held conf free le space temps =
+        variable_hoists site free le now here place
+    hoists _ _ _ (CoordinateMeant {over = over} {region = region} {k = k} lt) i now here held conf free le space temps =
+        part_hoists over region i (slate.Coordinate k) (term.Coordinate k)
+        (λ t. mean.Gives (coordinate_of k t)) refl free le refl now here refl (λ j. (tt, tt))
+        (λ later sound i. (
+          word.Coordinate k,
+          coordinate_part tables spots w line later region.rank over
+              (current_in later.slots over region i) k lt,
+        ))
+    hoists _ _ _ (ElementMeant {over = over} {region = region} {place = place} {shift = shift} r) i now
+        here held conf free le space temps =
+        part_hoists over region i (slate.Element over.slot place shift) (term.Element region place shift)
+        _ refl free le (plain_element (slice_get w.numbers.arrays place) shift) now here held
+        (λ j. element_names (slice_get w.numbers.arrays place) shift j)
+        (λ later sound i. element_at tables spots w line all later sound over region i place shift r)
+    hoists site _ _ (UnaryMeant {operator = op} {one = one} {operand = operand} h) i now here held conf free le space temps =
+        unary_hoists site free (behind free (hoisted w.numbers line free one)) (tests_of one) now
+        (hoisted w.numbers line free one).left op (field_of store operand)
+        (does tables n (hoisted w.numbers line free one).code now)
+        (hoists site one operand h i now here held conf free le space temps)
+    hoists site _ _ (BinaryMeant {operator = op} {one = one} {other = other} {left = left}
+        {right = right} h k) i now here held conf free le space temps =
+        let first = hoisted w.numbers line free one in
+        let mid = behind free first in
+        let second = hoisted w.numbers line mid other in
+        let parts = held_both now (referred w.numbers one) (referred w.numbers other) held in
+        let confs = both_true (conforms left) (conforms right) conf in
+        subst (λ (last : Free). Hoist site free last (tests_of one + tests_of other) now
+        (word.Operation op first.left second.left) (field_of store (term.Binary op left right))
+        (code.then_do (does tables n first.code now) (does tables n second.code)))
+        (behind_both (word.Operation op) free first second)
+        (binary_hoists site free mid (behind mid second) (tests_of one) (tests_of other) now op first.left
+        second.left (field_of store left) (field_of store right) (does tables n first.code now)
+        (does tables n second.code) (freer_behind free first) (freer_behind mid second)
+        (hoists site one left h i now here parts.0 confs.0 free le (omega (arith, space))
+        (temps_front tables.arrays free.temps first.temps second.temps temps))
+        (λ after s.
+        hoists site other right k i after (spared_state free now after here s)
+        (holds_on tables spots w.numbers.arrays now after s.slots (referred w.numbers other) ∙ parts.1)
+        confs.1 mid (omega (arith, le)) (omega (arith, space))
+        (temps_rest tables.arrays free.temps first.temps second.temps temps)))
+    hoists site _ _ (FoldedMeant {operator = operator} {over = over} {region = region} {one = one}
+        {operand = operand} j readable no_floods h) i now here held conf free le space temps =
+        let inner = hoisted w.numbers line free one in
+        let mid = behind free inner in
+        let parts = held_both now (referred w.numbers one) (over_reference w.numbers over) held in
+        fold_hoists site free mid (behind free (hoisted w.numbers line free (slate.Folded operator over one)))
+        now here (freer_behind free inner) (omega arith)
+        (omega (arith, length-append inner.temps [])) (omega (arith, le)) (omega (arith, space)) operator
+        over region j readable no_floods parts.1 inner.left (tests_of one) (field_of store operand)
+        (does tables n inner.code now)
+        (field_integers w spots slots store (scalars_here now here) (arrays_here now here)
+        (Under over region) one operand h j)
+        (hoists (Under over region) one operand h j now here parts.0 conf free le (omega (arith, space))
+        (temps_front tables.arrays free.temps inner.temps [] temps))
+    hoists _ _ _ (PartFoldedMeant {operator = operator} {over = over} {source = source}
+        {region = region} {tuples = tuples} {one = one} {operand = operand} j readable no_floods h) i now
+        here held conf free le space temps =
+        let inner = hoisted w.numbers line free one in
+        let mid = behind free inner in
+        let parts = held_both now (over_reference w.numbers over) (referred w.numbers one) held in
+        let confs = both_true (reduction_conforms region tuples) (conforms operand) conf in
+        let own = temps_rest tables.arrays free.temps inner.temps (source.flood ∷ over.flood ∷ []) temps
+        in
+        temp_hoists over region i source tuples j None tt everywhere (λ t. refl) free mid
+        (behind free (hoisted w.numbers line free (slate.PartFolded operator over source one))) now here
+        (freer_behind free inner) (omega arith)
+        (omega (arith, length-append inner.temps (source.flood ∷ over.flood ∷ []))) (omega (arith, le))
+        own.0 own.1.0 refl inner.left
+        (row.Plain (instr.Part (suc mid.temps) over.slot operator mid.temps source.slot))
+        (λ array t. partly_reduced operator region tuples (element array) t)
+        (λ state there held f source_there room.
+        part_does over region i source tuples j mid.temps own.0 own.1.0 state there f source_there room
+        operator confs.0 no_floods)
+        (tests_of one) (field_of store operand) (does tables n inner.code now)
+        (hoists (Under source tuples) one operand h j now here parts.1 confs.1 free le
+        (omega (arith, space))
+        (temps_front tables.arrays free.temps inner.temps (source.flood ∷ over.flood ∷ []) temps))
+    hoists _ _ _ (FloodedMeant {over = over} {source = source} {region = region} {tuples = tuples}
+        {one = one} {operand = operand} j readable h) i now here held conf free le space temps =
+        let inner = hoisted w.numbers line free one in
+        let mid = behind free inner in
+        let parts = held_both now (over_reference w.numbers over) (referred w.numbers one) held in
+        let confs = both_true (flood_conforms region tuples) (conforms operand) conf in
+        let own = temps_rest tables.arrays free.temps inner.temps (source.flood ∷ over.flood ∷ []) temps
+        in
+        temp_hoists over region i source tuples j None tt everywhere (λ t. refl) free mid
+        (behind free (hoisted w.numbers line free (slate.Flooded over source one))) now here
+        (freer_behind free inner) (omega arith)
+        (omega (arith, length-append inner.temps (source.flood ∷ over.flood ∷ []))) (omega (arith, le))
+        own.0 own.1.0 refl inner.left
+        (row.Plain (instr.Flood (suc mid.temps) over.slot mid.temps source.slot))
+        (λ array t. element array (flood_source tuples t))
+        (λ state there held f source_there room.
+        flood_does over region i source tuples j mid.temps own.0 own.1.0 state there f source_there room
+        confs.0)
+        (tests_of one) (field_of store operand) (does tables n inner.code now)
+        (hoists (Under source tuples) one operand h j now here parts.1 confs.1 free le
+        (omega (arith, space))
+        (temps_front tables.arrays free.temps inner.temps (source.flood ∷ over.flood ∷ []) temps))
+    hoists _ _ _ (ScannedMeant {operator = operator} {along = along} {over = over} {region = region}
+        {one = one} {operand = operand} readable plain_mask is_along no_floods h) i now here held conf
+        free le space temps =
+        let inner = hoisted w.numbers line free one in
+        let parts = held_both now (referred w.numbers one) (over_reference w.numbers over) held in
+        scan_at over region i operator along is_along readable no_floods free le now here inner
+        (tests_of one) (field_of store operand) over.mask refl plain_mask parts.1 temps
+        (λ fits.
+        hoists (Under over region) one operand h i now here parts.0 conf free le
+        (omega (arith, space, scan_scalars operator along over free inner over.mask)) fits)
+        (omega (arith, space, scan_scalars operator along over free inner over.mask))
+    hoists _ _ _ (RemappedMeant {over = over} {region = region} {place = place} {stored = stored}
+        {indices = indices} {terms = terms} in_numbers is count readable no_floods h) i now here held
+        conf free le space temps =
+        let inner = all_hoisted w.numbers line free indices in
+        let parts = held_both now (over_reference w.numbers over) (all_referred w.numbers indices) held in
+        remap_at over region i readable no_floods place stored is free le now here inner
+        (left_count free indices ∙ count) parts.0 (tests_of_all indices) (fields_of store terms)
+        (slice_get w.numbers.arrays place) in_numbers in_numbers space temps
+        (λ space temps.
+        all_hoist (Under over region) indices terms h i now here parts.1 conf free le space temps)
+
+    pub all_hoist : (site : Site) (slates : Slates) (terms : Terms)
+        → AreMeant w spots slots site slates terms → IsSite slots site → (now : Whole) → IsState now
+        → list_all (holds tables now) (all_referred w.numbers slates) ≡ true → conform terms ≡ true
+        → (free : Free) → next.scalars ≤ free.scalars
+        → free.scalars + (all_hoisted w.numbers line free slates).scalars ≤ tables.scalars
+        → TempsAt tables.arrays free.temps (all_hoisted w.numbers line free slates).temps
+        → HoistsAll site free (behind free (all_hoisted w.numbers line free slates))
+        (tests_of_all slates) now (all_hoisted w.numbers line free slates).left (fields_of store terms)
+        (does tables n (all_hoisted w.numbers line free slates).code now)
+    all_hoist site _ _ NoneMeant i now here held conf free le space temps =
+        AllReach (spares_all tables spots w.numbers.arrays free now here.sound) tt (omega arith)
+    all_hoist site _ _ (MoreMeant {one = one} {rest = rest} {first = first} {terms = terms} h k) i now
+        here held conf free le space temps =
+        let first_one = hoisted w.numbers line free one in
+        let mid = behind free first_one in
+        let others = all_hoisted w.numbers line mid rest in
+        let parts = held_both now (referred w.numbers one) (all_referred w.numbers rest) held in
+        let confs = both_true (conforms first) (conform terms) conf in
+        subst (λ (last : Free). HoistsAll site free last (tests_of one + tests_of_all rest) now
+        (first_one.left ∷ others.left) (fields_of store (ThenTerm first terms))
+        (code.then_do (does tables n first_one.code now) (does tables n others.code)))
+        (behind_both (λ one others. one ∷ others) free first_one others)
+        (both_hoist site free mid (behind mid others) (tests_of one) (tests_of_all rest) now
+        first_one.left others.left (field_of store first) (fields_of store terms)
+        (does tables n first_one.code now) (does tables n others.code) (freer_behind free first_one)
+        (freer_behind mid others) (hoists site one first h i now here parts.0 confs.0 free le
+        (omega (arith, space)) (temps_front tables.arrays free.temps first_one.temps others.temps temps))
+        (λ after s.
+        all_hoist site rest terms k i after (spared_state free now after here s)
+        (holds_on tables spots w.numbers.arrays now after s.slots (all_referred w.numbers rest) ∙ parts.1)
+        confs.1 mid (omega (arith, le)) (omega (arith, space))
+        (temps_rest tables.arrays free.temps first_one.temps others.temps temps)))

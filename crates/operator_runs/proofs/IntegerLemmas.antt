@@ -1,7 +1,12 @@
 -- Values of what has operators over regions are integers of 64 bits.
-use Rattle.std.proofs.Common.{◌≡◌, refl, subst, ℕ, List, [], ◌∷◌}
+use Rattle.std.proofs.Common.{◌≡◌, refl, subst, ℕ, Bool, List, [], ◌∷◌, map, filter, ℤ}
+use Rattle.std.specs.Prelude.{fold}
+use Rattle.zpl_nums.specs.declared.folds.Fold.TheVariants.{Any}
+use Rattle.zpl_nums.specs.Fold.{joined, unit_of}
 use Rattle.zpl_nums.specs.Integer.{IsInteger}
+use Rattle.zpl_nums.proofs.IntegerLemmas.{IsInteger-truth}
 use Rattle.zpl_region.specs.declared.regions.Region.{Region}
+use Rattle.zpl_arrays.specs.Fold.{kept_fold}
 use Rattle.zpl_meaning.specs.Computed as mean
 use Rattle.zpl_meaning.specs.Computed.{both_then}
 use Rattle.zpl_meaning.specs.Store.{Store, scalar_at}
@@ -12,10 +17,20 @@ use Rattle.zpl_lowering.specs.Slate.{Slate, Slates}
 use Rattle.row_runs.specs.Straight.{Every}
 use Rattle.lowering_runs.specs.Seen.{Spot, place_of}
 use Rattle.array_runs.specs.Integers.{AreIntegers, GivesIntegers, HasIntegers}
-use Rattle.array_runs.proofs.IntegerLemmas.{IfGives, term_integers}
-use Rattle.operator_runs.specs.Meant.{Site, Alone, Under, IsMeant, IsSite, AreMeant, NoneMeant, MoreMeant}
+use Rattle.array_runs.proofs.IntegerLemmas.{IfGives, term_integers, unit_integer}
+use Rattle.operator_runs.specs.Meant.{Site, Under, IsMeant, IsSite, AreMeant, NoneMeant, MoreMeant}
 use Rattle.operator_runs.specs.Meant.{ConstantMeant, VariableMeant, CoordinateMeant, ElementMeant}
-use Rattle.operator_runs.specs.Meant.{UnaryMeant, BinaryMeant, FoldedMeant, PartFoldedMeant, ScannedMeant, FloodedMeant}
+use Rattle.operator_runs.specs.Meant.{UnaryMeant, BinaryMeant, FoldedMeant, PartFoldedMeant, ScannedMeant, FloodedMeant, RemappedMeant}
+
+any_from : (values : List ℤ) (own : ℤ) → IsInteger own → IsInteger (fold (joined Any) own values)
+any_from [] own is = is
+any_from (value ∷ values) own is = any_from values (joined Any own value) (IsInteger-truth _)
+
+-- whether any of them is true, whatever they are
+pub any_integer : (is_in : List ℤ → Bool) (value : List ℤ → ℤ) (ts : List (List ℤ))
+    → IsInteger (kept_fold Any is_in value ts)
+any_integer is_in value ts =
+    any_from (map value (filter is_in ts)) (unit_of Any) (unit_integer Any)
 
 module _ (w : Where) (spots : List Spot) (slots : List Region) (store : Store)
     (scalars : (place : ℕ) → IsInteger (scalar_at store (place_of spots place)))
@@ -42,6 +57,7 @@ module _ (w : Where) (spots : List Spot) (slots : List Region) (store : Store)
   meant_integers _ _ _ (FloodedMeant {source = source} {tuples = tuples} {one = one}
       {operand = operand} j readable m) i =
       (j.is, meant_integers (Under source tuples) one operand m j)
+  meant_integers _ _ _ (RemappedMeant in_numbers is count readable flat m) i = tt
 
   pub field_integers : (site : Site) (one : Slate) (meant : Term)
       → IsMeant w spots slots site one meant → IsSite slots site → IfGives (field_of store meant)

@@ -1,11 +1,13 @@
 pub mod JoinLemmas
 pub mod FoldLemmas
 pub mod SpareLemmas
+pub mod StateLemmas
 pub mod StandLemmas
 pub mod MeantLemmas
 pub mod IntegerLemmas
 pub mod HoistLemmas
 pub mod SettleLemmas
+pub mod StillLemmas
 pub mod PhaseLemmas
 pub mod LikeLemmas
 pub mod ScalarLemmas
@@ -15,5 +17,10 @@ pub mod FormLemmas
 pub mod LeafLemmas
 pub mod PrintLemmas
 pub mod TempLemmas
+pub mod PutsLemmas
+pub mod OutsideLemmas
+pub mod RemapHoistLemmas
+pub mod WrapLemmas
+pub mod WrapCopyLemmas
 pub mod TestLemmas
 mod Examples

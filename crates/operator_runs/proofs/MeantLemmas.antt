@@ -1,7 +1,7 @@
 -- What a slate asks before its operators are computed is what its term asks: whether regions
 -- conform, and whether references lie in storages.
 use Rattle.zpl_meaning.specs.Context.{Mask}
-use Rattle.std.proofs.Common.{◌≡◌, refl, ◌∙◌, ap, arith, ℕ, ◌+◌, Bool, true, false, ◌&&◌}
+use Rattle.std.proofs.Common.{◌≡◌, refl, ◌∙◌, ap, ℕ, Bool, true, false, ◌&&◌}
 use Rattle.std.proofs.Common.{List, [], ◌++◌, ℤ, Option, Some, None, append_assoc}
 use Rattle.std.specs.Prelude.{slice_get}
 use Rattle.std.specs.List.{list_all}
@@ -46,9 +46,8 @@ use Rattle.array_runs.proofs.ElementLemmas.{element_part}
 use Rattle.array_runs.proofs.MaskLemmas.{IsMasking, masking}
 use Rattle.operator_runs.specs.Meant.{Site, Under, InSlot, IsSite, IsMeant, AreMeant}
 use Rattle.operator_runs.specs.Meant.{ConstantMeant, VariableMeant, CoordinateMeant, ElementMeant}
-use Rattle.operator_runs.specs.Meant.{UnaryMeant, BinaryMeant, FoldedMeant, PartFoldedMeant, ScannedMeant, FloodedMeant, NoneMeant, MoreMeant}
+use Rattle.operator_runs.specs.Meant.{UnaryMeant, BinaryMeant, FoldedMeant, PartFoldedMeant, ScannedMeant, FloodedMeant, RemappedMeant, NoneMeant, MoreMeant}
 use Rattle.operator_runs.specs.Guards.{guard}
-use Rattle.operator_runs.specs.Hoists.{tests_of, tests_of_all}
 
 -- a slot with a region has it as the current one
 abbrev pub current_in : (slots : List Region) (over : Slotted) (region : Region) → InSlot slots over region
@@ -130,65 +129,72 @@ module _ (tables : Tables) (spots : List Spot) (w : Where) (line : ℕ)
         ∙ ap (λ c. a && c) k.gate;
   }
 
-  pub is_referred : (site : Site) (one : Slate) (meant : Term) → Meant site one meant
-      → IsSite now.slots site → AreReferred (referred w.numbers one) (refers seen meant)
-  is_referred site _ _ (ConstantMeant is) s = none_referred
-  is_referred site _ _ VariableMeant s = none_referred
-  is_referred _ _ _ (CoordinateMeant lt) s = none_referred
-  is_referred _ _ _ (ElementMeant {over = over} {region = region} {place = place} {shift = shift} r) s =
-      let p = element_at over region s place shift r in
-      record { there = p.1.there; gate = p.1.gate }
-  is_referred site _ _ (UnaryMeant {one = one} {operand = operand} h) s =
-      let r = is_referred site one operand h s in record { there = r.there; gate = r.gate }
-  is_referred site _ _ (BinaryMeant {one = one} {other = other} {left = left} {right = right} h k) s =
-      both_referred (referred w.numbers one) (referred w.numbers other) (refers seen left)
-      (refers seen right) (is_referred site one left h s) (is_referred site other right k s)
-  is_referred site _ _ (FoldedMeant {over = over} {region = region} {one = one} {operand = operand}
-      i readable flat h) s =
-      let r = is_referred (Under over region) one operand h i in
-      let m = mask_at over region i readable in
-      let b = both_referred (referred w.numbers one) (over_reference w.numbers over)
-      (refers seen operand) (has_mask_within seen (record { region = region; mask = over.mask })) r
-      (record { there = m.there; gate = m.gate }) in
-      record {
-        there = b.there;
-        gate = b.gate ∙ and_swap (refers seen operand)
-            (has_mask_within seen (record { region = region; mask = over.mask }));
-      }
-  is_referred _ _ _ (PartFoldedMeant {over = over} {source = source} {region = region}
-      {tuples = tuples} {one = one} {operand = operand} i readable no_floods h) s =
-      let r = is_referred (Under source tuples) one operand h i in
-      let m = mask_at over region s readable in
-      both_referred (over_reference w.numbers over) (referred w.numbers one)
-      (has_mask_within seen (record { region = region; mask = over.mask })) (refers seen operand)
-      (record { there = m.there; gate = m.gate }) r
-  is_referred _ _ _ (FloodedMeant {over = over} {source = source} {region = region}
-      {tuples = tuples} {one = one} {operand = operand} i readable h) s =
-      let r = is_referred (Under source tuples) one operand h i in
-      let m = mask_at over region s readable in
-      both_referred (over_reference w.numbers over) (referred w.numbers one)
-      (has_mask_within seen (record { region = region; mask = over.mask })) (refers seen operand)
-      (record { there = m.there; gate = m.gate }) r
-  is_referred _ _ _ (ScannedMeant {over = over} {region = region} {one = one} {operand = operand}
-      readable plain_mask is_along no_floods h) s =
-      let r = is_referred (Under over region) one operand h s in
-      let m = mask_at over region s readable in
-      let b = both_referred (referred w.numbers one) (over_reference w.numbers over)
-      (refers seen operand) (has_mask_within seen (record { region = region; mask = over.mask })) r
-      (record { there = m.there; gate = m.gate }) in
-      record {
-        there = b.there;
-        gate = b.gate ∙ and_swap (refers seen operand)
-            (has_mask_within seen (record { region = region; mask = over.mask }));
-      }
+  mutual
+    pub is_referred : (site : Site) (one : Slate) (meant : Term) → Meant site one meant
+        → IsSite now.slots site → AreReferred (referred w.numbers one) (refers seen meant)
+    is_referred site _ _ (ConstantMeant is) s = none_referred
+    is_referred site _ _ VariableMeant s = none_referred
+    is_referred _ _ _ (CoordinateMeant lt) s = none_referred
+    is_referred _ _ _ (ElementMeant {over = over} {region = region} {place = place} {shift = shift} r) s =
+        let p = element_at over region s place shift r in
+        record { there = p.1.there; gate = p.1.gate }
+    is_referred site _ _ (UnaryMeant {one = one} {operand = operand} h) s =
+        let r = is_referred site one operand h s in record { there = r.there; gate = r.gate }
+    is_referred site _ _ (BinaryMeant {one = one} {other = other} {left = left} {right = right} h k) s =
+        both_referred (referred w.numbers one) (referred w.numbers other) (refers seen left)
+        (refers seen right) (is_referred site one left h s) (is_referred site other right k s)
+    is_referred site _ _ (FoldedMeant {over = over} {region = region} {one = one} {operand = operand}
+        i readable flat h) s =
+        let r = is_referred (Under over region) one operand h i in
+        let m = mask_at over region i readable in
+        let b = both_referred (referred w.numbers one) (over_reference w.numbers over)
+        (refers seen operand) (has_mask_within seen (record { region = region; mask = over.mask })) r
+        (record { there = m.there; gate = m.gate }) in
+        record {
+          there = b.there;
+          gate = b.gate ∙ and_swap (refers seen operand)
+              (has_mask_within seen (record { region = region; mask = over.mask }));
+        }
+    is_referred _ _ _ (PartFoldedMeant {over = over} {source = source} {region = region}
+        {tuples = tuples} {one = one} {operand = operand} i readable no_floods h) s =
+        let r = is_referred (Under source tuples) one operand h i in
+        let m = mask_at over region s readable in
+        both_referred (over_reference w.numbers over) (referred w.numbers one)
+        (has_mask_within seen (record { region = region; mask = over.mask })) (refers seen operand)
+        (record { there = m.there; gate = m.gate }) r
+    is_referred _ _ _ (FloodedMeant {over = over} {source = source} {region = region}
+        {tuples = tuples} {one = one} {operand = operand} i readable h) s =
+        let r = is_referred (Under source tuples) one operand h i in
+        let m = mask_at over region s readable in
+        both_referred (over_reference w.numbers over) (referred w.numbers one)
+        (has_mask_within seen (record { region = region; mask = over.mask })) (refers seen operand)
+        (record { there = m.there; gate = m.gate }) r
+    is_referred _ _ _ (ScannedMeant {over = over} {region = region} {one = one} {operand = operand}
+        readable plain_mask is_along no_floods h) s =
+        let r = is_referred (Under over region) one operand h s in
+        let m = mask_at over region s readable in
+        let b = both_referred (referred w.numbers one) (over_reference w.numbers over)
+        (refers seen operand) (has_mask_within seen (record { region = region; mask = over.mask })) r
+        (record { there = m.there; gate = m.gate }) in
+        record {
+          there = b.there;
+          gate = b.gate ∙ and_swap (refers seen operand)
+              (has_mask_within seen (record { region = region; mask = over.mask }));
+        }
+    is_referred _ _ _ (RemappedMeant {over = over} {region = region} {indices = indices} {terms = terms}
+        in_numbers is count readable no_floods h) s =
+        let m = mask_at over region s readable in
+        both_referred (over_reference w.numbers over) (all_referred w.numbers indices)
+        (has_mask_within seen (record { region = region; mask = over.mask })) (refer seen terms)
+        (record { there = m.there; gate = m.gate }) (are_referred (Under over region) indices terms h s)
 
-  pub are_referred : (site : Site) (slates : Slates) (terms : Terms)
-      → AreMeant w spots now.slots site slates terms → IsSite now.slots site
-      → AreReferred (all_referred w.numbers slates) (refer seen terms)
-  are_referred site _ _ NoneMeant s = none_referred
-  are_referred site _ _ (MoreMeant {one = one} {rest = rest} {first = first} {terms = terms} h k) s =
-      both_referred (referred w.numbers one) (all_referred w.numbers rest) (refers seen first)
-      (refer seen terms) (is_referred site one first h s) (are_referred site rest terms k s)
+    pub are_referred : (site : Site) (slates : Slates) (terms : Terms)
+        → AreMeant w spots now.slots site slates terms → IsSite now.slots site
+        → AreReferred (all_referred w.numbers slates) (refer seen terms)
+    are_referred site _ _ NoneMeant s = none_referred
+    are_referred site _ _ (MoreMeant {one = one} {rest = rest} {first = first} {terms = terms} h k) s =
+        both_referred (referred w.numbers one) (all_referred w.numbers rest) (refers seen first)
+        (refer seen terms) (is_referred site one first h s) (are_referred site rest terms k s)
 
   -- ---- conformity
 
@@ -242,83 +248,50 @@ module _ (tables : Tables) (spots : List Spot) (w : Where) (line : ℕ)
         checked (registers_of now) (control.conforms kind region other) RegionMismatch line)))) f
         ∙ checked_does (control.conforms kind region tuples)
 
-    pub conformed : (site : Site) (one : Slate) (meant : Term) → Meant site one meant
-        → IsSite now.slots site → Conform (conforming line one) (conforms meant)
-    conformed site _ _ (ConstantMeant is) there rest = refl
-    conformed site _ _ VariableMeant there rest = refl
-    conformed _ _ _ (CoordinateMeant lt) there rest = refl
-    conformed _ _ _ (ElementMeant r) there rest = refl
-    conformed site _ _ (UnaryMeant {one = one} {operand = operand} h) there rest =
-        conformed site one operand h there rest
-    conformed site _ _ (BinaryMeant {one = one} {other = other} {left = left} {right = right} h k)
-        there rest =
-        both_conform (conforming line one) (conforming line other) (conforms left) (conforms right)
-        (conformed site one left h there) (conformed site other right k there) rest
-    conformed site _ _ (FoldedMeant {over = over} {region = region} {one = one} {operand = operand}
-        i readable flat h) there rest =
-        conformed (Under over region) one operand h i rest
-    conformed _ _ _ (ScannedMeant {over = over} {region = region} {one = one} {operand = operand}
-        readable plain_mask is_along no_floods h) there rest =
-        conformed (Under over region) one operand h there rest
-    conformed _ _ _ (PartFoldedMeant {over = over} {source = source} {region = region}
-        {tuples = tuples} {one = one} {operand = operand} i readable no_floods h) there rest =
-        ap (λ s. by_step now s (rows (conforming line one ++ rest)))
-        (same_step over.slot source.slot same.Part region tuples there.found i.found)
-        ∙ by_same (reduction_conforms region tuples) (rows (conforming line one ++ rest))
-        ∙ ap (guard RegionMismatch (reduction_conforms region tuples) line now)
-        (conformed (Under source tuples) one operand h i rest)
-        ∙ guard_both (reduction_conforms region tuples) (conforms operand) (rows rest now)
-    conformed _ _ _ (FloodedMeant {over = over} {source = source} {region = region}
-        {tuples = tuples} {one = one} {operand = operand} i readable h) there rest =
-        ap (λ s. by_step now s (rows (conforming line one ++ rest)))
-        (same_step over.slot source.slot same.Flood region tuples there.found i.found)
-        ∙ by_same (flood_conforms region tuples) (rows (conforming line one ++ rest))
-        ∙ ap (guard RegionMismatch (flood_conforms region tuples) line now)
-        (conformed (Under source tuples) one operand h i rest)
-        ∙ guard_both (flood_conforms region tuples) (conforms operand) (rows rest now)
+    mutual
+      pub conformed : (site : Site) (one : Slate) (meant : Term) → Meant site one meant
+          → IsSite now.slots site → Conform (conforming line one) (conforms meant)
+      conformed site _ _ (ConstantMeant is) there rest = refl
+      conformed site _ _ VariableMeant there rest = refl
+      conformed _ _ _ (CoordinateMeant lt) there rest = refl
+      conformed _ _ _ (ElementMeant r) there rest = refl
+      conformed site _ _ (UnaryMeant {one = one} {operand = operand} h) there rest =
+          conformed site one operand h there rest
+      conformed site _ _ (BinaryMeant {one = one} {other = other} {left = left} {right = right} h k)
+          there rest =
+          both_conform (conforming line one) (conforming line other) (conforms left) (conforms right)
+          (conformed site one left h there) (conformed site other right k there) rest
+      conformed site _ _ (FoldedMeant {over = over} {region = region} {one = one} {operand = operand}
+          i readable flat h) there rest =
+          conformed (Under over region) one operand h i rest
+      conformed _ _ _ (ScannedMeant {over = over} {region = region} {one = one} {operand = operand}
+          readable plain_mask is_along no_floods h) there rest =
+          conformed (Under over region) one operand h there rest
+      conformed _ _ _ (PartFoldedMeant {over = over} {source = source} {region = region}
+          {tuples = tuples} {one = one} {operand = operand} i readable no_floods h) there rest =
+          ap (λ s. by_step now s (rows (conforming line one ++ rest)))
+          (same_step over.slot source.slot same.Part region tuples there.found i.found)
+          ∙ by_same (reduction_conforms region tuples) (rows (conforming line one ++ rest))
+          ∙ ap (guard RegionMismatch (reduction_conforms region tuples) line now)
+          (conformed (Under source tuples) one operand h i rest)
+          ∙ guard_both (reduction_conforms region tuples) (conforms operand) (rows rest now)
+      conformed _ _ _ (FloodedMeant {over = over} {source = source} {region = region}
+          {tuples = tuples} {one = one} {operand = operand} i readable h) there rest =
+          ap (λ s. by_step now s (rows (conforming line one ++ rest)))
+          (same_step over.slot source.slot same.Flood region tuples there.found i.found)
+          ∙ by_same (flood_conforms region tuples) (rows (conforming line one ++ rest))
+          ∙ ap (guard RegionMismatch (flood_conforms region tuples) line now)
+          (conformed (Under source tuples) one operand h i rest)
+          ∙ guard_both (flood_conforms region tuples) (conforms operand) (rows rest now)
+      conformed _ _ _ (RemappedMeant {over = over} {region = region} {indices = indices} {terms = terms}
+          in_numbers is count readable no_floods h) there rest =
+          all_conformed (Under over region) indices terms h there rest
 
-    pub all_conformed : (site : Site) (slates : Slates) (terms : Terms)
-        → AreMeant w spots now.slots site slates terms → IsSite now.slots site
-        → Conform (all_conforming line slates) (conform terms)
-    all_conformed site _ _ NoneMeant there rest = refl
-    all_conformed site _ _ (MoreMeant {one = one} {rest = more} {first = first} {terms = terms} h k)
-        there rest =
-        both_conform (conforming line one) (all_conforming line more) (conforms first) (conform terms)
-        (conformed site one first h there) (all_conformed site more terms k there) rest
-
-no_more : (i j : ℕ) → i ≡ 0 → j ≡ 0 → i + j ≡ 0
-no_more i j e f = omega (arith, e, f)
-
--- so far no rows make tests
-pub no_tests : (w : Where) (spots : List Spot) (slots : List Region) (site : Site) (one : Slate)
-    (meant : Term) → IsMeant w spots slots site one meant → tests_of one ≡ 0
-no_tests w spots slots site _ _ (ConstantMeant is) = refl
-no_tests w spots slots site _ _ VariableMeant = refl
-no_tests w spots slots _ _ _ (CoordinateMeant lt) = refl
-no_tests w spots slots _ _ _ (ElementMeant r) = refl
-no_tests w spots slots site _ _ (UnaryMeant {one = one} {operand = operand} h) =
-    no_tests w spots slots site one operand h
-no_tests w spots slots site _ _ (BinaryMeant {one = one} {other = other} {left = left} {right = right}
-    h k) =
-    no_more (tests_of one) (tests_of other) (no_tests w spots slots site one left h)
-    (no_tests w spots slots site other right k)
-no_tests w spots slots site _ _ (FoldedMeant {over = over} {region = region} {one = one}
-    {operand = operand} i readable flat h) =
-    no_tests w spots slots (Under over region) one operand h
-no_tests w spots slots _ _ _ (PartFoldedMeant {source = source} {tuples = tuples} {one = one}
-    {operand = operand} i readable flat h) =
-    no_tests w spots slots (Under source tuples) one operand h
-no_tests w spots slots _ _ _ (FloodedMeant {source = source} {tuples = tuples} {one = one}
-    {operand = operand} i readable h) =
-    no_tests w spots slots (Under source tuples) one operand h
-no_tests w spots slots _ _ _ (ScannedMeant {over = over} {region = region} {one = one}
-    {operand = operand} readable plain_mask is_along flat h) =
-    no_tests w spots slots (Under over region) one operand h
-
-pub none_test : (w : Where) (spots : List Spot) (slots : List Region) (site : Site) (slates : Slates)
-    (terms : Terms) → AreMeant w spots slots site slates terms → tests_of_all slates ≡ 0
-none_test w spots slots site _ _ NoneMeant = refl
-none_test w spots slots site _ _ (MoreMeant {one = one} {rest = rest} {first = first} {terms = terms} h
-    k) =
-    no_more (tests_of one) (tests_of_all rest) (no_tests w spots slots site one first h)
-    (none_test w spots slots site rest terms k)
+      pub all_conformed : (site : Site) (slates : Slates) (terms : Terms)
+          → AreMeant w spots now.slots site slates terms → IsSite now.slots site
+          → Conform (all_conforming line slates) (conform terms)
+      all_conformed site _ _ NoneMeant there rest = refl
+      all_conformed site _ _ (MoreMeant {one = one} {rest = more} {first = first} {terms = terms} h k)
+          there rest =
+          both_conform (conforming line one) (all_conforming line more) (conforms first) (conform terms)
+          (conformed site one first h there) (all_conformed site more terms k there) rest

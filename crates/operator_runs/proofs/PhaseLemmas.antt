@@ -3,7 +3,7 @@
 use Rattle.zpl_lowering.specs.Lowered.{Lowered, both}
 use Rattle.lowering_runs.proofs.FitLemmas.{room_first}
 use Rattle.std.proofs.Common.{◌≡◌, refl, sym, ◌∙◌, ap, subst, arith, ℕ, ◌+◌, ◌≤◌, Bool, true, false, ◌&&◌}
-use Rattle.std.proofs.Common.{List, [], ◌++◌, map, Option, append-nil}
+use Rattle.std.proofs.Common.{List, [], ◌++◌, map, Option, append-nil, ◌∷◌}
 use Rattle.std.specs.List.{list_all}
 use Rattle.zpl_nums.specs.declared.ends.TrapKind.TheVariants.{OutsideStorage, RegionMismatch}
 use Rattle.zpl_meaning.specs.Computed as mean
@@ -33,10 +33,11 @@ use Rattle.lowering_runs.specs.Stands.{HasRoom, IsHeld, IsSound, Stands, TempsAt
 use Rattle.array_runs.specs.Gates.{holds, gate}
 use Rattle.array_runs.proofs.GateLemmas.{needs_gate}
 use Rattle.array_runs.proofs.PartLemmas.{both_true}
-use Rattle.operator_runs.specs.Meant.{Site, Alone, IsSite, AreMeant}
+use Rattle.operator_runs.specs.Meant.{Site, IsSite}
 use Rattle.operator_runs.specs.Hoists.{HoistAll, OneStumbles, tests_of_all}
 use Rattle.operator_runs.specs.Guards.{guard}
-use Rattle.operator_runs.proofs.MeantLemmas.{AreReferred, all_conformed, are_referred, both_referred, none_test}
+use Rattle.operator_runs.proofs.MeantLemmas.{AreReferred, all_conformed, are_referred, both_referred}
+use Rattle.operator_runs.proofs.StillLemmas.{AllOperated, each_still}
 use Rattle.operator_runs.proofs.HoistLemmas.{all_hoist, arrays_here, scalars_here}
 use Rattle.array_runs.specs.Integers.{GivesIntegers}
 use Rattle.operator_runs.proofs.IntegerLemmas.{fields_integers}
@@ -187,7 +188,15 @@ module _ (tables : Tables) (n : ℕ) (sight : Sight) (w : Where) (line : ℕ) (n
 
   -- they make no tests
   few : tests_of_all settled.slates ≡ 0
-  few = none_test w spots now.slots site settled.slates settled.terms settled.are
+  few =
+      ap (λ (it : Settled Slates). tests_of_all it.slate) (sym (settled.slated next))
+      ∙ each_still w place line under exprs next (each exprs operated)
+    where
+      each : (exprs : List Placed)
+          → AreOperated tables sight w line next now stands held site under exprs
+          → AllOperated w place line under exprs
+      each [] h = tt
+      each (placed ∷ rest) h = (h.1, each rest h.2)
 
   pub phases_few : Phases 0 (settled_each w line next exprs)
   phases_few = subst (λ (most : ℕ). Phases most (settled_each w line next exprs)) few phases_hoist

@@ -1,5 +1,5 @@
 -- A slate and the term that it stands for, where the regions of its operators are in slots.
-use Rattle.std.specs.Prelude.{◌≡◌, ℕ, ◌-◌, ◌<◌, true, ℤ, List, length, Some, slice_get, ◌≤◌, false, unsigned_abs, Option, None}
+use Rattle.std.specs.Prelude.{◌≡◌, ℕ, suc, ◌-◌, ◌<◌, true, ℤ, List, length, Some, slice_get, ◌≤◌, false, unsigned_abs, Option, None}
 use Rattle.zpl_nums.specs.declared.operators.Op.{Op}
 use Rattle.zpl_nums.specs.declared.operators.UnaryOp.{UnaryOp}
 use Rattle.zpl_nums.specs.declared.folds.Fold.{Fold}
@@ -10,7 +10,7 @@ use Rattle.zpl_meaning.specs.Context.{Mask}
 use Rattle.zpl_meaning.specs.Term as term
 use Rattle.zpl_meaning.specs.Term.{Term, Terms, NoTerm, ThenTerm}
 use Rattle.flat_form.specs.Right.{no_flood}
-use Rattle.zpl_lowering.specs.Where.{Slotted, Where, flood_of}
+use Rattle.zpl_lowering.specs.Where.{Slotted, Stored, Where, flood_of}
 use Rattle.zpl_lowering.specs.Slate as slate
 use Rattle.zpl_lowering.specs.Slate.{Slate, Slates, NoSlate, ThenSlate}
 use Rattle.lowering_runs.specs.Seen.{Spot, place_of}
@@ -39,53 +39,67 @@ abbrev pub IsAlong : Option ℤ → Type 0
 IsAlong None = Unit {0}
 IsAlong (Some k) = 1 ≤ unsigned_abs k
 
--- Each slot has the region that the term names, and what is read has its flood dimensions.
-pub data IsMeant (w : Where) (spots : List Spot) (slots : List Region) : Site → Slate → Term → Type 0 where
-  ConstantMeant : {site : Site} {value : ℤ} → IsInteger value
-      → IsMeant w spots slots site (slate.Constant value) (term.Constant value)
-  VariableMeant : {site : Site} {place : ℕ}
-      → IsMeant w spots slots site (slate.Variable place) (term.Variable (place_of spots place))
-  CoordinateMeant : {over : Slotted} {region : Region} {k : ℕ} → k - 1 < 3
-      → IsMeant w spots slots (Under over region) (slate.Coordinate k) (term.Coordinate k)
-  ElementMeant : {over : Slotted} {region : Region} {place : ℕ} {shift : List ℤ}
-      → IsReadable region shift (slice_get w.numbers.arrays place)
-      → IsMeant w spots slots (Under over region) (slate.Element over.slot place shift)
-      (term.Element region place shift)
-  UnaryMeant : {site : Site} {operator : UnaryOp} {one : Slate} {operand : Term}
-      → IsMeant w spots slots site one operand
-      → IsMeant w spots slots site (slate.Unary operator one) (term.Unary operator operand)
-  BinaryMeant : {site : Site} {operator : Op} {one other : Slate} {left right : Term}
-      → IsMeant w spots slots site one left → IsMeant w spots slots site other right
-      → IsMeant w spots slots site (slate.Binary operator one other)
-      (term.Binary operator left right)
-  FoldedMeant : {site : Site} {operator : Fold} {over : Slotted} {region : Region} {one : Slate}
-      {operand : Term} → InSlot slots over region → IsReadableMask w region over.mask
-      → no_flood region ≡ true → IsMeant w spots slots (Under over region) one operand
-      → IsMeant w spots slots site (slate.Folded operator over one)
-      (term.Folded operator (record { region = region; mask = over.mask }) operand)
-  PartFoldedMeant : {operator : Fold} {over source : Slotted} {region tuples : Region} {one : Slate}
-      {operand : Term} → InSlot slots source tuples → IsReadableMask w region over.mask
-      → no_flood tuples ≡ true → IsMeant w spots slots (Under source tuples) one operand
-      → IsMeant w spots slots (Under over region) (slate.PartFolded operator over source one)
-      (term.PartFolded operator (record { region = region; mask = over.mask }) tuples operand)
-  ScannedMeant : {operator : Fold} {along : Option ℤ} {over : Slotted} {region : Region} {one : Slate}
-      {operand : Term} → IsReadableMask w region over.mask → IsPlainMask over.mask → IsAlong along
-      → no_flood region ≡ true → IsMeant w spots slots (Under over region) one operand
-      → IsMeant w spots slots (Under over region) (slate.Scanned operator along over one)
-      (term.Scanned operator along (record { region = region; mask = over.mask }) operand)
-  FloodedMeant : {over source : Slotted} {region tuples : Region} {one : Slate} {operand : Term}
-      → InSlot slots source tuples → IsReadableMask w region over.mask
-      → IsMeant w spots slots (Under source tuples) one operand
-      → IsMeant w spots slots (Under over region) (slate.Flooded over source one)
-      (term.Flooded (record { region = region; mask = over.mask }) tuples operand)
+abbrev pub count_of : Slates → ℕ
+count_of NoSlate = 0
+count_of (ThenSlate first rest) = suc (count_of rest)
 
--- each of several at the same site
-pub data AreMeant (w : Where) (spots : List Spot) (slots : List Region) (site : Site)
-    : Slates → Terms → Type 0 where
-  NoneMeant : AreMeant w spots slots site NoSlate NoTerm
-  MoreMeant : {one : Slate} {rest : Slates} {first : Term} {terms : Terms}
-      → IsMeant w spots slots site one first → AreMeant w spots slots site rest terms
-      → AreMeant w spots slots site (ThenSlate one rest) (ThenTerm first terms)
+-- Each slot has the region that the term names, and what is read has its flood dimensions.
+-- The array of a remap read has as many dimensions as there are indices; it is read under a region
+-- without flood dimension.
+mutual
+  pub data IsMeant (w : Where) (spots : List Spot) (slots : List Region) : Site → Slate → Term → Type 0 where
+    ConstantMeant : {site : Site} {value : ℤ} → IsInteger value
+        → IsMeant w spots slots site (slate.Constant value) (term.Constant value)
+    VariableMeant : {site : Site} {place : ℕ}
+        → IsMeant w spots slots site (slate.Variable place) (term.Variable (place_of spots place))
+    CoordinateMeant : {over : Slotted} {region : Region} {k : ℕ} → k - 1 < 3
+        → IsMeant w spots slots (Under over region) (slate.Coordinate k) (term.Coordinate k)
+    ElementMeant : {over : Slotted} {region : Region} {place : ℕ} {shift : List ℤ}
+        → IsReadable region shift (slice_get w.numbers.arrays place)
+        → IsMeant w spots slots (Under over region) (slate.Element over.slot place shift)
+        (term.Element region place shift)
+    UnaryMeant : {site : Site} {operator : UnaryOp} {one : Slate} {operand : Term}
+        → IsMeant w spots slots site one operand
+        → IsMeant w spots slots site (slate.Unary operator one) (term.Unary operator operand)
+    BinaryMeant : {site : Site} {operator : Op} {one other : Slate} {left right : Term}
+        → IsMeant w spots slots site one left → IsMeant w spots slots site other right
+        → IsMeant w spots slots site (slate.Binary operator one other)
+        (term.Binary operator left right)
+    FoldedMeant : {site : Site} {operator : Fold} {over : Slotted} {region : Region} {one : Slate}
+        {operand : Term} → InSlot slots over region → IsReadableMask w region over.mask
+        → no_flood region ≡ true → IsMeant w spots slots (Under over region) one operand
+        → IsMeant w spots slots site (slate.Folded operator over one)
+        (term.Folded operator (record { region = region; mask = over.mask }) operand)
+    PartFoldedMeant : {operator : Fold} {over source : Slotted} {region tuples : Region} {one : Slate}
+        {operand : Term} → InSlot slots source tuples → IsReadableMask w region over.mask
+        → no_flood tuples ≡ true → IsMeant w spots slots (Under source tuples) one operand
+        → IsMeant w spots slots (Under over region) (slate.PartFolded operator over source one)
+        (term.PartFolded operator (record { region = region; mask = over.mask }) tuples operand)
+    ScannedMeant : {operator : Fold} {along : Option ℤ} {over : Slotted} {region : Region} {one : Slate}
+        {operand : Term} → IsReadableMask w region over.mask → IsPlainMask over.mask → IsAlong along
+        → no_flood region ≡ true → IsMeant w spots slots (Under over region) one operand
+        → IsMeant w spots slots (Under over region) (slate.Scanned operator along over one)
+        (term.Scanned operator along (record { region = region; mask = over.mask }) operand)
+    FloodedMeant : {over source : Slotted} {region tuples : Region} {one : Slate} {operand : Term}
+        → InSlot slots source tuples → IsReadableMask w region over.mask
+        → IsMeant w spots slots (Under source tuples) one operand
+        → IsMeant w spots slots (Under over region) (slate.Flooded over source one)
+        (term.Flooded (record { region = region; mask = over.mask }) tuples operand)
+    RemappedMeant : {over : Slotted} {region : Region} {place : ℕ} {stored : Stored}
+        {indices : Slates} {terms : Terms} → slice_get w.numbers.arrays place ≡ Some stored
+        → IsRegion stored.storage → count_of indices ≡ stored.storage.rank
+        → IsReadableMask w region over.mask → no_flood region ≡ true
+        → AreMeant w spots slots (Under over region) indices terms
+        → IsMeant w spots slots (Under over region) (slate.Remapped over place indices)
+        (term.Remapped (record { region = region; mask = over.mask }) place terms)
+
+  -- each of several at the same site
+  pub data AreMeant (w : Where) (spots : List Spot) (slots : List Region)
+      : Site → Slates → Terms → Type 0 where
+    NoneMeant : {site : Site} → AreMeant w spots slots site NoSlate NoTerm
+    MoreMeant : {site : Site} {one : Slate} {rest : Slates} {first : Term} {terms : Terms}
+        → IsMeant w spots slots site one first → AreMeant w spots slots site rest terms
+        → AreMeant w spots slots site (ThenSlate one rest) (ThenTerm first terms)
 
 -- the site's region is in its slot
 abbrev pub IsSite : List Region → Site → Type 0
