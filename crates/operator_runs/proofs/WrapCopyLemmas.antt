@@ -1,31 +1,34 @@
 -- A copy of an array over its home box, with its borders wrapped, is read with the copy's shift as the
 -- array is read round its home box.
-use Rattle.std.proofs.Common.{◌≡◌, refl, sym, ◌∙◌, ap, subst, arith, ℕ, zero, suc, ◌<◌, Bool, true, false, ◌&&◌}
+use Rattle.std.proofs.Common.{◌≡◌, refl, sym, ◌∙◌, ap, subst, arith, ℕ, zero, suc, ◌<◌, ◌≤◌, Bool, true, false, ◌&&◌}
 use Rattle.std.proofs.Common.{List, [], ◌∷◌, length, ℤ, pos, ◌+ℤ◌, ◌-ℤ◌, ◌*ℤ◌, ◌≤ℤ◌, ◌<ℤ◌, All, ◌⊎◌, inl, inr, cond}
-use Rattle.std.specs.Prelude.{if◌then◌else◌, int_lt}
+use Rattle.std.specs.Prelude.{◌||◌, if◌then◌else◌, int_lt, int_rem, nat_le, unsigned_abs}
+use Rattle.std.specs.Ordering.{int_eq}
+use Rattle.std.proofs.lemmas.Bool.Decides.{Decides-int_eq, nat_tests}
 use Rattle.std.specs.Int.{int_max, int_min}
 use Rattle.std.specs.List.{AllZip}
-use Rattle.std.proofs.lemmas.Int.{ints, clamps}
+use Rattle.std.proofs.lemmas.Int.{ints, clamps, rem_below}
 use Rattle.std.proofs.lemmas.List.Elements.{All-cons, All-head, All-nil, All-tail}
-use Rattle.std.proofs.lemmas.Bool.{false≢true}
+use Rattle.std.proofs.lemmas.Bool.{and_from, false≢true}
 use Rattle.zpl_nums.specs.declared.ends.Border.TheVariants.{Wrap}
 use Rattle.zpl_region.specs.declared.dims.Dim.{Dim}
 use Rattle.zpl_region.specs.declared.dims.Dim.TheVariants.{Flood, Range}
 use Rattle.zpl_region.specs.declared.regions.Region.{Region}
-use Rattle.zpl_region.specs.Dim.{HasStep, IsCoordinate, dim_moved, dim_outside_of}
+use Rattle.zpl_region.specs.Dim.{HasStep, IsCoordinate, extent, dim_moved, dim_outside_of}
 use Rattle.zpl_region.specs.Ends.{coordinate_count, first_of, has_none, tuple_count}
 use Rattle.zpl_region.specs.Hull.{IsBoxed, all_from, dim_hull_with, each_hull_with}
 use Rattle.zpl_region.specs.Region.{IsMember, IsRegion, components, each, moved, outside_of, tuple_moved}
 use Rattle.zpl_region.specs.Tests.{is_member}
+use Rattle.zpl_region.proofs.DimLemmas.{pos-extent}
 use Rattle.zpl_region.proofs.EndLemmas.{positive_left, positive_right}
 use Rattle.zpl_region.proofs.HullLemmas.{ends_in_bounds, first-all_from, has_steps, last-all_from, some_from}
 use Rattle.zpl_region.proofs.HullWithLemmas.{with_by}
 use Rattle.zpl_region.proofs.ListLemmas.{Among, int_lt-false, int_lt-true}
 use Rattle.zpl_region.proofs.TestLemmas.{is_member_iff}
-use Rattle.zpl_arrays.specs.Around.{around_source, copy_shift, copy_storage, dim_around, each_around, zeros}
+use Rattle.zpl_arrays.specs.Around.{around_source, copy_shift, copy_storage, dim_around, dim_rest, each_around, each_rest, zeros}
 use Rattle.zpl_arrays.specs.AroundCopy.{around_copy, copied_from}
-use Rattle.zpl_arrays.specs.Array.{Array, array_of, element, flattened}
-use Rattle.zpl_arrays.specs.Border.{border_conforms, border_source, border_sources}
+use Rattle.zpl_arrays.specs.Array.{Array, element, flattened}
+use Rattle.zpl_arrays.specs.Border.{border_conforms, border_source, dim_border_conforms, each_border_conforms}
 use Rattle.zpl_arrays.proofs.AroundLemmas.{copy_over_home, read_of_copy, wraps_fill_copy}
 use Rattle.zpl_arrays.proofs.ArrayLemmas.{element_of_member, flattened_member}
 use Rattle.zpl_arrays.proofs.CheckLemmas.{has_none-moved}
@@ -366,3 +369,66 @@ module _ (home : Region) (a : Array) (d : List ℤ) (is : IsRegion home) (b : Al
           (border_in_copy home d i.vector (tuple_moved (copy_shift home d) home t) b own_long some
           (border_kept i.vector i.among) i.is)
           (inr (i.vector, i.among, i.is))
+
+-- ---- the copy's shift is as long as there are dimensions, and conforms
+
+rest_long : (d : List ℤ) (dims : List Dim) → length d ≡ length dims
+    → length (each_rest d dims) ≡ length dims
+rest_long [] [] l = refl
+rest_long [] (dim ∷ dims) l = absurd (omega (arith, l))
+rest_long (x ∷ d) [] l = absurd (omega (arith, l))
+rest_long (x ∷ d) (dim ∷ dims) l = ap suc (rest_long d dims (omega (arith, l)))
+
+pub shift_long : (home : Region) (d : List ℤ) → length d ≡ length home.dims
+    → length (copy_shift home d) ≡ length home.dims
+shift_long home d l = by (has_none home)
+  where
+    by : (t : Bool) → length (cond t (zeros d) (each_rest d home.dims)) ≡ length home.dims
+    by true = zeros_long d ∙ l
+    by false = rest_long d home.dims l
+
+or_right : (a b : Bool) → b ≡ true → (a || b) ≡ true
+or_right true b e = refl
+or_right false b e = e
+
+rest_conforms : (d : ℤ) (dim : Dim) → IsBoxed dim → 0 < coordinate_count dim
+    → dim_border_conforms (dim_rest d dim) dim ≡ true
+rest_conforms d Flood b some = refl
+rest_conforms d (Range lo hi step align) b some =
+    let e = ends_in_bounds lo hi step align (let s : step ≡ pos 1 = b.0 in omega (arith, ints, s)) some in
+    let wide : 0 < extent lo hi =
+    omega (arith, ints, clamps, e.0, e.1, e.2, pos-extent lo hi) in
+    let below = rem_below d (pos (extent lo hi)) wide in
+    or_right (int_eq (dim_rest d (Range lo hi step align)) (pos 0)) _
+    (and_from (int_eq step (pos 1)) (nat_le (unsigned_abs (int_rem d (pos (extent lo hi)))) (extent lo hi))
+    ((Decides-int_eq step (pos 1)).1 b.0)
+    (le_test (unsigned_abs (int_rem d (pos (extent lo hi)))) (extent lo hi) (omega (arith, below))))
+  where
+    le_test : (m n : ℕ) → m ≤ n → nat_le m n ≡ true
+    le_test m n h = grind (arith, nat_tests)
+
+rests_conform : (rank : ℕ) (d : List ℤ) (dims : List Dim) → All IsBoxed dims → 0 < tuple_count dims
+    → each_border_conforms (components rank (each_rest d dims)) dims ≡ true
+rests_conform rank [] dims b some = refl
+rests_conform rank (x ∷ d) [] b some = refl
+rests_conform zero (x ∷ d) (dim ∷ dims) b some =
+    and_from (dim_border_conforms (pos 0) dim) _ (none dim)
+    (rests_conform zero d dims (All-tail IsBoxed dim dims b)
+    (positive_right (coordinate_count dim) (tuple_count dims) some))
+  where
+    none : (dim : Dim) → dim_border_conforms (pos 0) dim ≡ true
+    none Flood = refl
+    none (Range lo hi step align) = refl
+rests_conform (suc rank) (x ∷ d) (dim ∷ dims) b some =
+    and_from (dim_border_conforms (dim_rest x dim) dim) _
+    (rest_conforms x dim (All-head IsBoxed dim dims b)
+    (positive_left (coordinate_count dim) (tuple_count dims) some))
+    (rests_conform rank d dims (All-tail IsBoxed dim dims b)
+    (positive_right (coordinate_count dim) (tuple_count dims) some))
+
+pub shift_conforms : (home : Region) (d : List ℤ) → All IsBoxed home.dims
+    → has_none home ≡ false → border_conforms (copy_shift home d) home ≡ true
+shift_conforms home d b some =
+    ap (λ t. each_border_conforms (components home.rank (cond t (zeros d) (each_rest d home.dims)))
+    home.dims) some
+    ∙ rests_conform home.rank d home.dims b (some_from home some)
