@@ -1,0 +1,171 @@
+-- Programs all of whose statements are of forms for which it is proved that code goes as they do,
+-- whatever their numbers are. Of text alone.
+use Rattle.std.specs.Prelude.{◌≡◌, ◌⊎◌, ℕ, zero, suc, Bool, true, false, List, [], ◌∷◌, Option, Some, None, ⊤}
+use Rattle.zpl_nums.specs.declared.operators.Op.{Op}
+use Rattle.zpl_tree.specs.Syntax.{Name, Expr, Number, Truth, Coord, Named, Shifted, Around, Remap, Call, Paren, Neg, Not, Abs, Pair, Reduce, Scan, Flood, Exprs, NoExpr, ThenExpr, Item, Str, Value, Stmt, Prefixed, Stmts, NoStmt, ThenStmt, Form, Assign, Invoke, Block, If, While, Repeat, For, Border, Write, Return, Arm, Tested, Arms, NoArm, ThenArm, Otherwise, NoElse, Else, Program}
+use Rattle.zpl_names.specs.Kinds.{Formal, ScalarFormal, ArrayFormal}
+use Rattle.zpl_names.specs.Ranks.{is_above_zero}
+use Rattle.zpl_names.specs.Scope.{kind_of, is_array}
+use Rattle.zpl_names.specs.Shapes.{unknown_shapes}
+use Rattle.zpl_names.specs.Sites.{Reach, in_body, Assigned, Printed, whole_rank, handed, is_shattered}
+use Rattle.zpl_names.specs.Declared.{Routine, routine_named, scope_of}
+use Rattle.zpl_names.specs.Reached.{longest_chain}
+use Rattle.zpl_meaning.specs.Points.{assigned_expr}
+use Rattle.zpl_meaning.specs.Calls.{formals_in}
+use Rattle.zpl_meaning.specs.Statement.{step_expr}
+use Rattle.served_places.specs.Told.{IsPlainExpr}
+use Rattle.shown_programs.specs.Text.{behind_prefixes}
+
+-- ---- expressions
+
+-- numbers, truth values, names and operators on them
+abbrev pub HasScalarForm : Expr → Type 0
+HasScalarForm (Number at value) = ⊤
+HasScalarForm (Truth at value) = ⊤
+HasScalarForm (Named at name) = ⊤
+HasScalarForm (Paren at inside) = HasScalarForm inside
+HasScalarForm (Neg at operand) = HasScalarForm operand
+HasScalarForm (Not at operand) = HasScalarForm operand
+HasScalarForm (Abs at operand) = HasScalarForm operand
+HasScalarForm (Pair at op left right) = HasScalarForm left × HasScalarForm right
+HasScalarForm (Coord at k) = ⊥
+HasScalarForm (Shifted at name shift) = ⊥
+HasScalarForm (Around at name shift) = ⊥
+HasScalarForm (Remap at name indices) = ⊥
+HasScalarForm (Call at name actuals) = ⊥
+HasScalarForm (Reduce at operator over operand) = ⊥
+HasScalarForm (Scan at operator along operand) = ⊥
+HasScalarForm (Flood at source operand) = ⊥
+
+-- what parameters take: a value of a scalar is of scalars
+abbrev pub HaveCallForms : List Formal → Exprs → Type 0
+HaveCallForms [] actuals = ⊤
+HaveCallForms (formal ∷ formals) NoExpr = ⊤
+HaveCallForms (ScalarFormal false base ∷ formals) (ThenExpr actual rest) =
+    HasScalarForm actual × HaveCallForms formals rest
+HaveCallForms (ScalarFormal true base ∷ formals) (ThenExpr actual rest) =
+    HaveCallForms formals rest
+HaveCallForms (ArrayFormal by_ref base shape ∷ formals) (ThenExpr actual rest) =
+    HaveCallForms formals rest
+
+-- a scalar is printed, or an array without operators over regions
+abbrev pub HasPrintForm : Reach → Expr → Type 0
+HasPrintForm reach expr =
+    ((whole_rank reach Printed expr ≡ Some 0) × HasScalarForm expr)
+    ⊎ ((is_above_zero (whole_rank reach Printed expr) ≡ true) × IsPlainExpr expr)
+
+abbrev pub HavePrintForms : Reach → List Item → Type 0
+HavePrintForms reach [] = ⊤
+HavePrintForms reach (Str bytes ∷ items) = HavePrintForms reach items
+HavePrintForms reach (Value expr ∷ items) = HasPrintForm reach expr × HavePrintForms reach items
+
+-- ---- statements, where these procedures may be called, for an answer or without one
+
+module _ (IsCallable : Bool → List ℕ → Type 0) where
+  -- the answer of a call is assigned
+  pub record HasAskingForm (reach : Reach) (op : Option Op) (value : Expr) : Type 0 where
+    pub at : ℕ
+    pub name : Name
+    pub actuals : Exprs
+    pub no_operator : op ≡ None
+    pub call : value ≡ Call at name actuals
+    pub forms : HaveCallForms (formals_in (kind_of reach.scope name)) actuals
+    pub callable : IsCallable true name.text
+
+  -- a scalar is assigned, or an array without operators over regions, or the answer of a call
+  abbrev pub HasAssignForm : Reach → Name → Option Op → Expr → Type 0
+  HasAssignForm reach name op value =
+      ((handed reach (Assigned name op) ≡ Some 0)
+      × (whole_rank reach (Assigned name op) (assigned_expr name op value) ≡ Some 0)
+      × HasScalarForm value)
+      ⊎ (((is_array (kind_of reach.scope name) ≡ true) × IsPlainExpr value)
+      ⊎ HasAskingForm reach op value)
+
+  abbrev mutual
+    pub HasStmtForm : Reach → Stmt → Type 0
+    HasStmtForm reach (Prefixed at prefixes form) =
+        HasForm (behind_prefixes reach prefixes) form
+
+    pub HaveForms : Reach → Stmts → Type 0
+    HaveForms reach NoStmt = ⊤
+    HaveForms reach (ThenStmt first rest) = HasStmtForm reach first × HaveForms reach rest
+
+    pub HasForm : Reach → Form → Type 0
+    HasForm reach (Assign name op value) = HasAssignForm reach name op value
+    HasForm reach (Invoke name actuals) =
+        HaveCallForms (formals_in (kind_of reach.scope name)) actuals
+        × IsCallable false name.text
+    HasForm reach (Block body) = HaveForms reach body
+    HasForm reach (If arms otherwise) =
+        (is_shattered reach (If arms otherwise) ≡ true)
+        ⊎ (HaveArmForms reach arms × HasElseForm reach otherwise)
+    HasForm reach (While test body) =
+        (is_shattered reach (While test body) ≡ true)
+        ⊎ (HasScalarForm test × HaveForms reach body)
+    HasForm reach (Repeat body until test) =
+        (is_shattered reach (Repeat body until test) ≡ true)
+        ⊎ (HasScalarForm test × HaveForms reach body)
+    HasForm reach (For head body) =
+        (HasScalarForm head.first × HasScalarForm head.last × HasScalarForm (step_expr head.step))
+        × HaveForms reach body
+    HasForm reach (Border kind names) = ⊤
+    HasForm reach (Write line items) = HavePrintForms reach items
+    HasForm reach (Return value) = ⊥
+
+    pub HaveArmForms : Reach → Arms → Type 0
+    HaveArmForms reach NoArm = ⊤
+    HaveArmForms reach (ThenArm first rest) = HasArmForm reach first × HaveArmForms reach rest
+
+    pub HasArmForm : Reach → Arm → Type 0
+    HasArmForm reach (Tested at test body) = HasScalarForm test × HaveForms reach body
+
+    pub HasElseForm : Reach → Otherwise → Type 0
+    HasElseForm reach NoElse = ⊤
+    HasElseForm reach (Else body) = HaveForms reach body
+
+  -- the value of a scalar is returned
+  pub record HasReturnForm (stmt : Stmt) : Type 0 where
+    pub at : ℕ
+    pub value : Expr
+    pub returns : stmt ≡ Prefixed at [] (Return value)
+    pub form : HasScalarForm value
+
+  -- bodies of procedures that answer: statements of these forms, and then a `return` of a scalar
+  abbrev pub HaveAnswerForms : Reach → Stmts → Type 0
+  HaveAnswerForms reach NoStmt = ⊥
+  HaveAnswerForms reach (ThenStmt first NoStmt) = HasReturnForm first
+  HaveAnswerForms reach (ThenStmt first (ThenStmt second rest)) =
+      HasStmtForm reach first × HaveAnswerForms reach (ThenStmt second rest)
+
+  pub record HasAnswerForm (reach : Reach) (stmt : Stmt) : Type 0 where
+    pub at : ℕ
+    pub body : Stmts
+    pub block : stmt ≡ Prefixed at [] (Block body)
+    pub forms : HaveAnswerForms reach body
+
+-- ---- procedures and programs
+
+module _ (program : Program) where
+  -- the body of a procedure that answers or doesn't, where these may be called
+  abbrev pub HasRoutineForm : (Bool → List ℕ → Type 0) → Bool → Routine → Type 0
+  HasRoutineForm IsCallable false routine =
+      HasStmtForm IsCallable (in_body (scope_of program routine) unknown_shapes)
+      routine.procedure.body
+  HasRoutineForm IsCallable true routine =
+      HasAnswerForm IsCallable (in_body (scope_of program routine) unknown_shapes)
+      routine.procedure.body
+
+  -- the name stands for such a procedure, down a chain of so many calls
+  pub record IsOfForms (IsCallable : Bool → List ℕ → Type 0) (answers : Bool) (name : List ℕ)
+      : Type 0 where
+    pub routine : Routine
+    pub named : routine_named program name ≡ Some routine
+    pub form : HasRoutineForm IsCallable answers routine
+
+  abbrev pub HasChainForms : ℕ → Bool → List ℕ → Type 0
+  HasChainForms zero answers name = ⊥
+  HasChainForms (suc depth) answers name = IsOfForms (HasChainForms depth) answers name
+
+-- all that the program's procedures do, from the entry procedure on, is of these forms
+abbrev pub HasShownForms : Program → Type 0
+HasShownForms program = HasChainForms program longest_chain false program.name.text
