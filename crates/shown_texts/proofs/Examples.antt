@@ -1,6 +1,6 @@
 -- A program of forms that are proved, with small numerals; one whose numeral is too large; and one
 -- that has no such form.
-use Rattle.std.proofs.Common.{inl, inr, ℕ, ◌^◌, ◌-◌, true, List, [], ◌∷◌, None, pos, codes, refl, arith}
+use Rattle.std.proofs.Common.{inl, ℕ, ◌^◌, ◌-◌, true, List, [], ◌∷◌, None, pos, codes, refl, arith}
 use Rattle.zpl_nums.specs.Integer.{IsInteger}
 use Rattle.zpl_nums.specs.declared.operators.Op.TheVariants as op
 use Rattle.zpl_nums.specs.declared.folds.Fold.TheVariants as fold

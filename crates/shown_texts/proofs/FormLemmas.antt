@@ -1,8 +1,7 @@
 -- Programs of the forms that are proved, with small numerals, are shown.
-use Rattle.std.proofs.Common.{◌≡◌, inl, inr, ◌⊎◌, ℕ, zero, suc, ◌^◌, Bool, true, false, cond, List, [], ◌∷◌, Option, Some, None, pos, refl, sym, subst, arith, find, w64}
+use Rattle.std.proofs.Common.{◌≡◌, inl, inr, ◌⊎◌, ℕ, zero, suc, Bool, true, false, cond, List, [], ◌∷◌, Option, Some, None, refl, sym, subst, find}
 use Rattle.std.specs.List.{AllByRecursion}
 use Rattle.std.specs.Str.{bytes_eq}
-use Rattle.zpl_nums.specs.Integer.{IsInteger}
 use Rattle.zpl_nums.specs.declared.operators.Op.{Op}
 use Rattle.zpl_nums.proofs.IntegerLemmas.{IsInteger-truth}
 use Rattle.zpl_tree.specs.Syntax.{Name, Expr, Number, Truth, Coord, Named, Shifted, Around, Remap, Call, Paren, Neg, Not, Abs, Pair, Reduce, Scan, Flood, Exprs, NoExpr, ThenExpr, Inner, Rexpr, Dims, DimText, Blank, Star, One, Span, DimTexts, NoDim, ThenDim, Prefix, Item, Str, Value, Stmt, Prefixed, Stmts, NoStmt, ThenStmt, Form, Assign, Invoke, Block, If, While, Repeat, For, Border, Write, Return, Arm, Tested, Arms, NoArm, ThenArm, Otherwise, NoElse, Else, Decl, Config, Constant, Regions, Directions, Vars, Defined, Program}
@@ -10,17 +9,18 @@ use Rattle.zpl_names.specs.Kinds.{Formal, ScalarFormal, ArrayFormal}
 use Rattle.zpl_names.specs.Scope.{Entry, kind_of}
 use Rattle.zpl_names.specs.Shapes.{unknown_shapes}
 use Rattle.zpl_names.specs.Sites.{Reach, in_body, is_shattered}
-use Rattle.zpl_names.specs.Declared.{Routine, routines_behind, routines_of, routine_named, scope_of, with_procedure, with_decl}
+use Rattle.zpl_names.specs.Declared.{Routine, routines_behind, routines_of, scope_of, with_procedure, with_decl}
 use Rattle.zpl_names.specs.Reached.{longest_chain}
 use Rattle.zpl_meaning.specs.Points.{assigned_expr}
 use Rattle.zpl_meaning.specs.Calls.{formals_in}
 use Rattle.zpl_meaning.specs.Statement.{step_expr}
 use Rattle.zpl_binding.specs.Settings.{Setting}
 use Rattle.lowering_runs.specs.Scalars.{IsScalarExpr}
+use Rattle.served_places.specs.Told.{IsPlainExpr}
 use Rattle.served_places.specs.Given.{HasSmall, HasSmallDim, HaveSmallDims}
 use Rattle.shown_programs.specs.Text.{HasSmallInner, HaveSmallPrefixes, behind_prefixes, IsReturnText, IsShownStmt, AreShown, IsShownForm, AreShownArms, IsShownArm, IsShownElse, AreAnsweringTexts, IsAnsweringText, AreCallTexts, IsAskedText, ArePrintedTexts, IsPrintedText, IsLeafForm, IsShownRoutine, IsShownCall, IsShownProgram}
 use Rattle.shown_texts.specs.Numerals.{IsSmallExpr, AreSmallExprs, IsSmallInner, IsSmallDim, AreSmallDims, IsSmallPrefix, IsSmallStep, IsSmallItem, IsSmallStmt, AreSmallStmts, IsSmallForm, AreSmallArms, IsSmallArm, IsSmallElse, IsSmallProcedure, IsSmallDecl, HasSmallNumerals}
-use Rattle.shown_texts.specs.Forms.{HasScalarForm, HaveCallForms, HasPrintForm, HavePrintForms, HasAskingForm, HasAssignForm, HasStmtForm, HaveForms, HasForm, HaveArmForms, HasArmForm, HasElseForm, HasReturnForm, HaveAnswerForms, HasAnswerForm, HasRoutineForm, HasChainForms, HasShownForms}
+use Rattle.shown_texts.specs.Forms.{HasScalarForm, HasPlainForm, HaveCallForms, HasPrintForm, HavePrintForms, HasAskingForm, HasAssignForm, HasStmtForm, HaveForms, HasForm, HaveArmForms, HasArmForm, HasElseForm, HasReturnForm, HaveAnswerForms, HasAnswerForm, HasRoutineForm, HasChainForms, HasShownForms}
 use Rattle.shown_texts.proofs.ValueLemmas.{values_small}
 
 -- ---- prefixes
@@ -84,6 +84,25 @@ scalar_shown (Reduce at operator over operand) form small = absurd form
 scalar_shown (Scan at operator along operand) form small = absurd form
 scalar_shown (Flood at source operand) form small = absurd form
 
+plain_shown : (expr : Expr) → HasPlainForm expr → IsSmallExpr expr → IsPlainExpr expr
+plain_shown (Number at value) form small = small
+plain_shown (Truth at value) form small = tt
+plain_shown (Coord at k) form small = tt
+plain_shown (Named at name) form small = tt
+plain_shown (Shifted at name shift) form small = tt
+plain_shown (Paren at inside) form small = plain_shown inside form small
+plain_shown (Neg at operand) form small = plain_shown operand form small
+plain_shown (Not at operand) form small = plain_shown operand form small
+plain_shown (Abs at operand) form small = plain_shown operand form small
+plain_shown (Pair at op left right) form small =
+    (plain_shown left form.0 small.0, plain_shown right form.1 small.1)
+plain_shown (Around at name shift) form small = absurd form
+plain_shown (Remap at name indices) form small = absurd form
+plain_shown (Call at name actuals) form small = absurd form
+plain_shown (Reduce at operator over operand) form small = absurd form
+plain_shown (Scan at operator along operand) form small = absurd form
+plain_shown (Flood at source operand) form small = absurd form
+
 assigned_shown : (name : Name) (op : Option Op) (value : Expr) → HasScalarForm value
     → IsSmallExpr value → IsScalarExpr (assigned_expr name op value)
 assigned_shown name None value form small = scalar_shown value form small
@@ -108,7 +127,7 @@ print_shown : (reach : Reach) (expr : Expr) → HasPrintForm reach expr → IsSm
     → IsPrintedText reach expr
 print_shown reach expr (inl scalar) small =
     inl (scalar.0, scalar_shown expr scalar.1 small)
-print_shown reach expr (inr array) small = inr array
+print_shown reach expr (inr array) small = inr (array.0, plain_shown expr array.1 small)
 
 items_shown : (reach : Reach) (items : List Item) → HavePrintForms reach items
     → AllByRecursion IsSmallItem items → ArePrintedTexts reach items
@@ -121,135 +140,141 @@ items_shown reach (Value expr ∷ items) forms small =
 
 module _ (IsCallable IsCalled : Bool → List ℕ → Type 0)
     (called : (answers : Bool) (name : List ℕ) → IsCallable answers name → IsCalled answers name)
-    where
-  -- a statement that is shattered, or that has these parts
-  either : (reach : Reach) (form : Form) (Parts : Type 0) → Parts
-      → IsLeafForm IsCalled reach form ⊎ ((is_shattered reach form ≡ false) × Parts)
-  either reach form Parts parts = by (is_shattered reach form) refl
-    where
-      by : (b : Bool) → is_shattered reach form ≡ b
-          → IsLeafForm IsCalled reach form ⊎ ((is_shattered reach form ≡ false) × Parts)
-      by true is = inl (inr (inr (inr (inl is))))
-      by false is = inr (is, parts)
+  where
+    -- a statement that is shattered, or that has these parts
+    either : (reach : Reach) (form : Form) (Parts : Type 0) → Parts
+        → IsLeafForm IsCalled reach form ⊎ ((is_shattered reach form ≡ false) × Parts)
+    either reach form Parts parts = by (is_shattered reach form) refl
+      where
+        by : (b : Bool) → is_shattered reach form ≡ b
+            → IsLeafForm IsCalled reach form ⊎ ((is_shattered reach form ≡ false) × Parts)
+        by true is = inl (inr (inr (inr (inl is))))
+        by false is = inr (is, parts)
 
-  asked_shown : (reach : Reach) (op : Option Op) (value : Expr)
-      → HasAskingForm IsCallable reach op value → IsSmallExpr value
-      → IsAskedText IsCalled reach op value
-  asked_shown reach op value asks small =
-      subst (λ (o : Option Op). IsAskedText IsCalled reach o value) (sym asks.no_operator)
-      (subst (IsAskedText IsCalled reach None) (sym asks.call) (
-        actuals_shown (formals_in (kind_of reach.scope asks.name)) asks.actuals asks.forms
-          (subst IsSmallExpr asks.call small),
-        called true asks.name.text asks.callable,
-      ))
+    asked_shown : (reach : Reach) (op : Option Op) (value : Expr)
+        → HasAskingForm IsCallable reach op value → IsSmallExpr value
+        → IsAskedText IsCalled reach op value
+    asked_shown reach op value asks small =
+        subst (λ (o : Option Op). IsAskedText IsCalled reach o value) (sym asks.no_operator)
+        (subst (IsAskedText IsCalled reach None) (sym asks.call) (
+          actuals_shown (formals_in (kind_of reach.scope asks.name)) asks.actuals asks.forms
+              (subst IsSmallExpr asks.call small),
+          called true asks.name.text asks.callable,
+        ))
 
-  assign_shown : (reach : Reach) (name : Name) (op : Option Op) (value : Expr)
-      → HasAssignForm IsCallable reach name op value → IsSmallExpr value
-      → IsLeafForm IsCalled reach (Assign name op value)
-  assign_shown reach name op value (inl scalar) small =
-      inl (inl (scalar.0, scalar.1, assigned_shown name op value scalar.2 small))
-  assign_shown reach name op value (inr (inl array)) small = inl (inr array)
-  assign_shown reach name op value (inr (inr asks)) small =
-      inr (inr (inr (inr (asked_shown reach op value asks small))))
+    assign_shown : (reach : Reach) (name : Name) (op : Option Op) (value : Expr)
+        → HasAssignForm IsCallable reach name op value → IsSmallExpr value
+        → IsLeafForm IsCalled reach (Assign name op value)
+    assign_shown reach name op value (inl scalar) small =
+        inl (inl (scalar.0, scalar.1, assigned_shown name op value scalar.2 small))
+    assign_shown reach name op value (inr (inl array)) small =
+        inl (inr (array.0, plain_shown value array.1 small))
+    assign_shown reach name op value (inr (inr asks)) small =
+        inr (inr (inr (inr (asked_shown reach op value asks small))))
 
-  mutual
-    stmt_shown : (reach : Reach) (stmt : Stmt) → HasStmtForm IsCallable reach stmt
-        → IsSmallStmt stmt → IsShownStmt (IsLeafForm IsCalled) reach stmt
-    stmt_shown reach (Prefixed at prefixes form) forms small =
-        (prefixes_have prefixes small.0,
-        form_shown (behind_prefixes reach prefixes) form forms small.1)
+    mutual
+      stmt_shown : (reach : Reach) (stmt : Stmt) → HasStmtForm IsCallable reach stmt
+          → IsSmallStmt stmt → IsShownStmt (IsLeafForm IsCalled) reach stmt
+      stmt_shown reach (Prefixed at prefixes form) forms small = (
+        prefixes_have prefixes small.0,
+        form_shown (behind_prefixes reach prefixes) form forms small.1,
+      )
 
-    stmts_shown : (reach : Reach) (stmts : Stmts) → HaveForms IsCallable reach stmts
-        → AreSmallStmts stmts → AreShown (IsLeafForm IsCalled) reach stmts
-    stmts_shown reach NoStmt forms small = tt
-    stmts_shown reach (ThenStmt first rest) forms small =
-        (stmt_shown reach first forms.0 small.0, stmts_shown reach rest forms.1 small.1)
+      stmts_shown : (reach : Reach) (stmts : Stmts) → HaveForms IsCallable reach stmts
+          → AreSmallStmts stmts → AreShown (IsLeafForm IsCalled) reach stmts
+      stmts_shown reach NoStmt forms small = tt
+      stmts_shown reach (ThenStmt first rest) forms small =
+          (stmt_shown reach first forms.0 small.0, stmts_shown reach rest forms.1 small.1)
 
-    form_shown : (reach : Reach) (form : Form) → HasForm IsCallable reach form
-        → IsSmallForm form → IsShownForm (IsLeafForm IsCalled) reach form
-    form_shown reach (Assign name op value) forms small =
-        assign_shown reach name op value forms small
-    form_shown reach (Invoke name actuals) forms small =
-        inr (inr (inr (inr (
-          actuals_shown (formals_in (kind_of reach.scope name)) actuals forms.0 small,
-          called false name.text forms.1,
-        ))))
-    form_shown reach (Block body) forms small = stmts_shown reach body forms small
-    form_shown reach (If arms otherwise) (inl is) small = inl (inr (inr (inr (inl is))))
-    form_shown reach (If arms otherwise) (inr forms) small =
-        either reach (If arms otherwise)
-        (AreShownArms (IsLeafForm IsCalled) reach arms
-        × IsShownElse (IsLeafForm IsCalled) reach otherwise)
-        (arms_shown reach arms forms.0 small.0, else_shown reach otherwise forms.1 small.1)
-    form_shown reach (While test body) (inl is) small = inl (inr (inr (inr (inl is))))
-    form_shown reach (While test body) (inr forms) small =
-        either reach (While test body)
-        (IsScalarExpr test × AreShown (IsLeafForm IsCalled) reach body)
-        (scalar_shown test forms.0 small.0, stmts_shown reach body forms.1 small.1)
-    form_shown reach (Repeat body until test) (inl is) small = inl (inr (inr (inr (inl is))))
-    form_shown reach (Repeat body until test) (inr forms) small =
-        either reach (Repeat body until test)
-        (IsScalarExpr test × AreShown (IsLeafForm IsCalled) reach body)
-        (scalar_shown test forms.0 small.1, stmts_shown reach body forms.1 small.0)
-    form_shown reach (For head body) forms small =
-        ((scalar_shown head.first forms.0.0 small.0.0,
-        scalar_shown head.last forms.0.1 small.0.1,
-        scalar_shown (step_expr head.step) forms.0.2 (step_small head.step small.0.2)),
-        stmts_shown reach body forms.1 small.1)
-    form_shown reach (Border kind names) forms small = inr (inr (inl tt))
-    form_shown reach (Write line items) forms small =
-        inr (inl (items_shown reach items forms small))
-    form_shown reach (Return value) forms small = absurd forms
+      form_shown : (reach : Reach) (form : Form) → HasForm IsCallable reach form
+          → IsSmallForm form → IsShownForm (IsLeafForm IsCalled) reach form
+      form_shown reach (Assign name op value) forms small =
+          assign_shown reach name op value forms small
+      form_shown reach (Invoke name actuals) forms small =
+          inr (inr (inr (inr (
+            actuals_shown (formals_in (kind_of reach.scope name)) actuals forms.0 small,
+            called false name.text forms.1,
+          ))))
+      form_shown reach (Block body) forms small = stmts_shown reach body forms small
+      form_shown reach (If arms otherwise) (inl is) small = inl (inr (inr (inr (inl is))))
+      form_shown reach (If arms otherwise) (inr forms) small =
+          either reach (If arms otherwise)
+          (AreShownArms (IsLeafForm IsCalled) reach arms
+          × IsShownElse (IsLeafForm IsCalled) reach otherwise)
+          (arms_shown reach arms forms.0 small.0, else_shown reach otherwise forms.1 small.1)
+      form_shown reach (While test body) (inl is) small = inl (inr (inr (inr (inl is))))
+      form_shown reach (While test body) (inr forms) small =
+          either reach (While test body)
+          (IsScalarExpr test × AreShown (IsLeafForm IsCalled) reach body)
+          (scalar_shown test forms.0 small.0, stmts_shown reach body forms.1 small.1)
+      form_shown reach (Repeat body until test) (inl is) small = inl (inr (inr (inr (inl is))))
+      form_shown reach (Repeat body until test) (inr forms) small =
+          either reach (Repeat body until test)
+          (IsScalarExpr test × AreShown (IsLeafForm IsCalled) reach body)
+          (scalar_shown test forms.0 small.1, stmts_shown reach body forms.1 small.0)
+      form_shown reach (For head body) forms small = (
+        (
+          scalar_shown head.first forms.0.0 small.0.0,
+          scalar_shown head.last forms.0.1 small.0.1,
+          scalar_shown (step_expr head.step) forms.0.2 (step_small head.step small.0.2),
+        ),
+        stmts_shown reach body forms.1 small.1,
+      )
+      form_shown reach (Border kind names) forms small = inr (inr (inl tt))
+      form_shown reach (Write line items) forms small =
+          inr (inl (items_shown reach items forms small))
+      form_shown reach (Return value) forms small = absurd forms
 
-    arms_shown : (reach : Reach) (arms : Arms) → HaveArmForms IsCallable reach arms
-        → AreSmallArms arms → AreShownArms (IsLeafForm IsCalled) reach arms
-    arms_shown reach NoArm forms small = tt
-    arms_shown reach (ThenArm first rest) forms small =
-        (arm_shown reach first forms.0 small.0, arms_shown reach rest forms.1 small.1)
+      arms_shown : (reach : Reach) (arms : Arms) → HaveArmForms IsCallable reach arms
+          → AreSmallArms arms → AreShownArms (IsLeafForm IsCalled) reach arms
+      arms_shown reach NoArm forms small = tt
+      arms_shown reach (ThenArm first rest) forms small =
+          (arm_shown reach first forms.0 small.0, arms_shown reach rest forms.1 small.1)
 
-    arm_shown : (reach : Reach) (arm : Arm) → HasArmForm IsCallable reach arm
-        → IsSmallArm arm → IsShownArm (IsLeafForm IsCalled) reach arm
-    arm_shown reach (Tested at test body) forms small =
-        (scalar_shown test forms.0 small.0, stmts_shown reach body forms.1 small.1)
+      arm_shown : (reach : Reach) (arm : Arm) → HasArmForm IsCallable reach arm
+          → IsSmallArm arm → IsShownArm (IsLeafForm IsCalled) reach arm
+      arm_shown reach (Tested at test body) forms small =
+          (scalar_shown test forms.0 small.0, stmts_shown reach body forms.1 small.1)
 
-    else_shown : (reach : Reach) (otherwise : Otherwise)
-        → HasElseForm IsCallable reach otherwise → IsSmallElse otherwise
-        → IsShownElse (IsLeafForm IsCalled) reach otherwise
-    else_shown reach NoElse forms small = tt
-    else_shown reach (Else body) forms small = stmts_shown reach body forms small
+      else_shown : (reach : Reach) (otherwise : Otherwise)
+          → HasElseForm IsCallable reach otherwise → IsSmallElse otherwise
+          → IsShownElse (IsLeafForm IsCalled) reach otherwise
+      else_shown reach NoElse forms small = tt
+      else_shown reach (Else body) forms small = stmts_shown reach body forms small
 
-  return_shown : (stmt : Stmt) → HasReturnForm IsCallable stmt → IsSmallStmt stmt
-      → IsReturnText stmt
-  return_shown stmt form small =
-      let own : IsSmallStmt (Prefixed form.at [] (Return form.value)) =
-          subst IsSmallStmt form.returns small in
-      subst IsReturnText (sym form.returns) (scalar_shown form.value form.form own.1)
+    return_shown : (stmt : Stmt) → HasReturnForm IsCallable stmt → IsSmallStmt stmt
+        → IsReturnText stmt
+    return_shown stmt form small =
+        let own : IsSmallStmt (Prefixed form.at [] (Return form.value)) =
+        subst IsSmallStmt form.returns small in
+        subst IsReturnText (sym form.returns) (scalar_shown form.value form.form own.1)
 
-  answers_shown : (reach : Reach) (stmts : Stmts) → HaveAnswerForms IsCallable reach stmts
-      → AreSmallStmts stmts → AreAnsweringTexts (IsLeafForm IsCalled) reach stmts
-  answers_shown reach NoStmt forms small = absurd forms
-  answers_shown reach (ThenStmt first NoStmt) forms small = return_shown first forms small.0
-  answers_shown reach (ThenStmt first (ThenStmt second rest)) forms small =
-      (stmt_shown reach first forms.0 small.0,
-      answers_shown reach (ThenStmt second rest) forms.1 small.1)
+    answers_shown : (reach : Reach) (stmts : Stmts) → HaveAnswerForms IsCallable reach stmts
+        → AreSmallStmts stmts → AreAnsweringTexts (IsLeafForm IsCalled) reach stmts
+    answers_shown reach NoStmt forms small = absurd forms
+    answers_shown reach (ThenStmt first NoStmt) forms small = return_shown first forms small.0
+    answers_shown reach (ThenStmt first (ThenStmt second rest)) forms small = (
+      stmt_shown reach first forms.0 small.0,
+      answers_shown reach (ThenStmt second rest) forms.1 small.1,
+    )
 
-  answer_shown : (reach : Reach) (stmt : Stmt) → HasAnswerForm IsCallable reach stmt
-      → IsSmallStmt stmt → IsAnsweringText (IsLeafForm IsCalled) reach stmt
-  answer_shown reach stmt form small =
-      let own : IsSmallStmt (Prefixed form.at [] (Block form.body)) =
-          subst IsSmallStmt form.block small in
-      subst (IsAnsweringText (IsLeafForm IsCalled) reach) (sym form.block)
-      (answers_shown reach form.body form.forms own.1)
+    answer_shown : (reach : Reach) (stmt : Stmt) → HasAnswerForm IsCallable reach stmt
+        → IsSmallStmt stmt → IsAnsweringText (IsLeafForm IsCalled) reach stmt
+    answer_shown reach stmt form small =
+        let own : IsSmallStmt (Prefixed form.at [] (Block form.body)) =
+        subst IsSmallStmt form.block small in
+        subst (IsAnsweringText (IsLeafForm IsCalled) reach) (sym form.block)
+        (answers_shown reach form.body form.forms own.1)
 
-  routine_shown : (program : Program) (answers : Bool) (routine : Routine)
-      → HasRoutineForm program IsCallable answers routine → IsSmallProcedure routine.procedure
-      → IsShownRoutine IsLeafForm program IsCalled answers routine
-  routine_shown program false routine form small =
-      stmt_shown (in_body (scope_of program routine) unknown_shapes) routine.procedure.body form
-      small.2
-  routine_shown program true routine form small =
-      answer_shown (in_body (scope_of program routine) unknown_shapes) routine.procedure.body form
-      small.2
+    routine_shown : (program : Program) (answers : Bool) (routine : Routine)
+        → HasRoutineForm program IsCallable answers routine → IsSmallProcedure routine.procedure
+        → IsShownRoutine IsLeafForm program IsCalled answers routine
+    routine_shown program false routine form small =
+        stmt_shown (in_body (scope_of program routine) unknown_shapes) routine.procedure.body form
+        small.2
+    routine_shown program true routine form small =
+        answer_shown (in_body (scope_of program routine) unknown_shapes) routine.procedure.body form
+        small.2
 
 -- ---- procedures and programs
 

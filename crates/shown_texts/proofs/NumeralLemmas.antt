@@ -1,11 +1,11 @@
 -- Where the words of a tree have small numbers, so has the tree.
-use Rattle.std.proofs.Common.{Bool, true, false, ℤ, List, [], ◌∷◌, ◌++◌, Option, Some, None, if◌then◌else◌}
+use Rattle.std.proofs.Common.{true, false, ℤ, List, [], ◌∷◌, ◌++◌, Option, Some, None, if◌then◌else◌}
 use Rattle.std.specs.List.{AllByRecursion, flat_map}
 use Rattle.zpl_nums.specs.declared.operators.Op.{Op}
 use Rattle.zpl_nums.specs.declared.operators.Op.TheVariants as op
 use Rattle.zpl_tokens.specs.declared.keywords.Key.TheVariants as key
 use Rattle.zpl_tokens.specs.declared.symbols.Sym.TheVariants as sym
-use Rattle.zpl_tree.specs.Spelling.{symbol, keyword, number, name_words, in_round, in_square, fold_words, operator_words, pair_words, pre_words, base_words, along_words, expr_words, exprs_words, more_exprs, dir_words, inner_words, bracket_words, posts_words, dim_words, dims_words, more_dims, each_after, separated, names_words, mask_words, prefix_words, assign_words, step_words, head_words, item_words, items_words, border_words, end_words, stmt_words, stmts_words, form_words, arms_words, arm_words, more_arms, otherwise_words, type_words, define_words, region_words, direction_words, var_words, param_words, params_words, result_words, locals_words, heading_words, procedure_words, decl_words, before_end, program_words}
+use Rattle.zpl_tree.specs.Spelling.{symbol, keyword, number, name_words, in_round, in_square, fold_words, operator_words, pair_words, pre_words, base_words, along_words, expr_words, exprs_words, more_exprs, dir_words, inner_words, bracket_words, posts_words, dim_words, dims_words, more_dims, each_after, separated, names_words, mask_words, prefix_words, assign_words, step_words, head_words, item_words, items_words, end_words, stmt_words, stmts_words, form_words, arms_words, arm_words, more_arms, otherwise_words, type_words, define_words, region_words, direction_words, var_words, param_words, params_words, result_words, locals_words, heading_words, procedure_words, decl_words, before_end, program_words}
 use Rattle.zpl_tree.specs.Syntax.{Expr, Number, Truth, Coord, Named, Shifted, Around, Remap, Call, Paren, Neg, Not, Abs, Pair, Reduce, Scan, Flood, Exprs, NoExpr, ThenExpr, Dir, NamedDir, Vector, Inner, Rexpr, Dims, Bracket, NoBracket, Bracketed, Posts, NoPost, ThenPost, DimText, Blank, Star, One, Span, DimTexts, NoDim, ThenDim, Prefix, ForHead, Item, Str, Value, Stmt, Prefixed, Stmts, NoStmt, ThenStmt, Form, Assign, Invoke, Block, If, While, Repeat, For, Border, Write, Return, Arm, Tested, Arms, NoArm, ThenArm, Otherwise, NoElse, Else, Define, RegionDef, DirDef, VarDef, Param, Procedure, Decl, Config, Constant, Regions, Directions, Vars, Defined, Program}
 use Rattle.zpl_tree.specs.Word.{Word}
 use Rattle.shown_texts.specs.Numerals.{IsSmallAlong, IsSmallExpr, AreSmallExprs, IsSmallDir, IsSmallInner, IsSmallBracket, AreSmallPosts, IsSmallDim, AreSmallDims, IsSmallPrefix, IsSmallStep, IsSmallHead, IsSmallItem, IsSmallStmt, AreSmallStmts, IsSmallForm, AreSmallArms, IsSmallArm, IsSmallElse, IsSmallDefine, IsSmallRegion, IsSmallDirection, IsSmallVar, IsSmallParam, IsSmallProcedure, IsSmallDecl, HasSmallNumerals}
@@ -48,7 +48,7 @@ after separator words Is one [] small = tt
 after separator words Is one (x ∷ xs) small = (
   one x (middle separator (words x) (each_after separator words xs) small),
   after separator words Is one xs
-    (back (separator ++ words x) (each_after separator words xs) small),
+      (back (separator ++ words x) (each_after separator words xs) small),
 )
 
 each_separated : {A : Type 0} (separator : List Word) (words : A → List Word) (Is : A → Type 0)
@@ -70,7 +70,7 @@ called : (first : List Word) (left right : List Word)
     → AreSmallWords left × AreSmallWords right
 called first left right small =
     let inside = round (left ++ symbol sym.Comma ++ right)
-        (back first (in_round (left ++ symbol sym.Comma ++ right)) small) in (
+    (back first (in_round (left ++ symbol sym.Comma ++ right)) small) in (
       front left (symbol sym.Comma) (front (left ++ symbol sym.Comma) right inside),
       back (left ++ symbol sym.Comma) right inside,
     )
@@ -127,31 +127,36 @@ mutual
       let both = operands op (expr_words left) (expr_words right) small in
       (expr_small left both.0, expr_small right both.1)
   expr_small (Reduce at operator over operand) small =
-      let first = fold_words operator ++ symbol sym.Reduce in
-      (bracket_small over (middle first (bracket_words over) (expr_words operand) small),
-      expr_small operand (back (first ++ bracket_words over) (expr_words operand) small))
+      let first = fold_words operator ++ symbol sym.Reduce in (
+        bracket_small over (middle first (bracket_words over) (expr_words operand) small),
+        expr_small operand (back (first ++ bracket_words over) (expr_words operand) small),
+      )
   expr_small (Scan at operator along operand) small =
-      let first = fold_words operator ++ symbol sym.Scan in
-      (along_small along (middle first (along_words along) (expr_words operand) small),
-      expr_small operand (back (first ++ along_words along) (expr_words operand) small))
+      let first = fold_words operator ++ symbol sym.Scan in (
+        along_small along (middle first (along_words along) (expr_words operand) small),
+        expr_small operand (back (first ++ along_words along) (expr_words operand) small),
+      )
   expr_small (Flood at source operand) small =
-      let first = symbol sym.Flood in
-      (inner_small source (square (inner_words source)
-      (middle first (in_square (inner_words source)) (expr_words operand) small)),
-      expr_small operand
-      (back (first ++ in_square (inner_words source)) (expr_words operand) small))
+      let first = symbol sym.Flood in (
+        inner_small source (square (inner_words source)
+            (middle first (in_square (inner_words source)) (expr_words operand) small)),
+        expr_small operand
+            (back (first ++ in_square (inner_words source)) (expr_words operand) small),
+      )
 
   exprs_small : (exprs : Exprs) → AreSmallWords (exprs_words exprs) → AreSmallExprs exprs
   exprs_small NoExpr small = tt
-  exprs_small (ThenExpr first rest) small =
-      (expr_small first (front (expr_words first) (more_exprs rest) small),
-      more_small rest (back (expr_words first) (more_exprs rest) small))
+  exprs_small (ThenExpr first rest) small = (
+    expr_small first (front (expr_words first) (more_exprs rest) small),
+    more_small rest (back (expr_words first) (more_exprs rest) small),
+  )
 
   more_small : (exprs : Exprs) → AreSmallWords (more_exprs exprs) → AreSmallExprs exprs
   more_small NoExpr small = tt
-  more_small (ThenExpr first rest) small =
-      (expr_small first (middle (symbol sym.Comma) (expr_words first) (more_exprs rest) small),
-      more_small rest (back (symbol sym.Comma ++ expr_words first) (more_exprs rest) small))
+  more_small (ThenExpr first rest) small = (
+    expr_small first (middle (symbol sym.Comma) (expr_words first) (more_exprs rest) small),
+    more_small rest (back (symbol sym.Comma ++ expr_words first) (more_exprs rest) small),
+  )
 
   dir_small : (dir : Dir) → AreSmallWords (dir_words dir) → IsSmallDir dir
   dir_small (NamedDir name) small = tt
@@ -169,12 +174,14 @@ mutual
 
   posts_small : (posts : Posts) → AreSmallWords (posts_words posts) → AreSmallPosts posts
   posts_small NoPost small = tt
-  posts_small (ThenPost true dir rest) small =
-      (dir_small dir (middle (keyword key.By) (dir_words dir) (posts_words rest) small),
-      posts_small rest (back (keyword key.By ++ dir_words dir) (posts_words rest) small))
-  posts_small (ThenPost false dir rest) small =
-      (dir_small dir (middle (keyword key.At) (dir_words dir) (posts_words rest) small),
-      posts_small rest (back (keyword key.At ++ dir_words dir) (posts_words rest) small))
+  posts_small (ThenPost true dir rest) small = (
+    dir_small dir (middle (keyword key.By) (dir_words dir) (posts_words rest) small),
+    posts_small rest (back (keyword key.By ++ dir_words dir) (posts_words rest) small),
+  )
+  posts_small (ThenPost false dir rest) small = (
+    dir_small dir (middle (keyword key.At) (dir_words dir) (posts_words rest) small),
+    posts_small rest (back (keyword key.At ++ dir_words dir) (posts_words rest) small),
+  )
 
   dim_small : (dim : DimText) → AreSmallWords (dim_words dim) → IsSmallDim dim
   dim_small (Blank at) small = tt
@@ -186,15 +193,17 @@ mutual
 
   dims_small : (dims : DimTexts) → AreSmallWords (dims_words dims) → AreSmallDims dims
   dims_small NoDim small = tt
-  dims_small (ThenDim first rest) small =
-      (dim_small first (front (dim_words first) (more_dims rest) small),
-      more_dims_small rest (back (dim_words first) (more_dims rest) small))
+  dims_small (ThenDim first rest) small = (
+    dim_small first (front (dim_words first) (more_dims rest) small),
+    more_dims_small rest (back (dim_words first) (more_dims rest) small),
+  )
 
   more_dims_small : (dims : DimTexts) → AreSmallWords (more_dims dims) → AreSmallDims dims
   more_dims_small NoDim small = tt
-  more_dims_small (ThenDim first rest) small =
-      (dim_small first (middle (symbol sym.Comma) (dim_words first) (more_dims rest) small),
-      more_dims_small rest (back (symbol sym.Comma ++ dim_words first) (more_dims rest) small))
+  more_dims_small (ThenDim first rest) small = (
+    dim_small first (middle (symbol sym.Comma) (dim_words first) (more_dims rest) small),
+    more_dims_small rest (back (symbol sym.Comma ++ dim_words first) (more_dims rest) small),
+  )
 
 prefix_small : (prefix : Prefix) → AreSmallWords (prefix_words prefix) → IsSmallPrefix prefix
 prefix_small prefix small =
@@ -212,11 +221,12 @@ head_small head small =
     let first = expr_words head.first in
     let last = expr_words head.last in
     let step = step_words head.step in
-    let before = front (name ++ first ++ direction ++ last) step small in
-    (expr_small head.first (back name first (front (name ++ first) direction
-    (front (name ++ first ++ direction) last before))),
-    expr_small head.last (back (name ++ first ++ direction) last before),
-    step_small head.step (back (name ++ first ++ direction ++ last) step small))
+    let before = front (name ++ first ++ direction ++ last) step small in (
+      expr_small head.first (back name first (front (name ++ first) direction
+          (front (name ++ first ++ direction) last before))),
+      expr_small head.last (back (name ++ first ++ direction) last before),
+      step_small head.step (back (name ++ first ++ direction ++ last) step small),
+    )
 
 item_small : (item : Item) → AreSmallWords (item_words item) → IsSmallItem item
 item_small (Str bytes) small = tt
@@ -224,16 +234,18 @@ item_small (Value value) small = expr_small value small
 
 mutual
   pub stmt_small : (stmt : Stmt) → AreSmallWords (stmt_words stmt) → IsSmallStmt stmt
-  stmt_small (Prefixed at prefixes form) small =
-      (each prefix_words IsSmallPrefix prefix_small prefixes
-      (front (flat_map prefix_words prefixes) (form_words form) small),
-      form_small form (back (flat_map prefix_words prefixes) (form_words form) small))
+  stmt_small (Prefixed at prefixes form) small = (
+    each prefix_words IsSmallPrefix prefix_small prefixes
+        (front (flat_map prefix_words prefixes) (form_words form) small),
+    form_small form (back (flat_map prefix_words prefixes) (form_words form) small),
+  )
 
   stmts_small : (stmts : Stmts) → AreSmallWords (stmts_words stmts) → AreSmallStmts stmts
   stmts_small NoStmt small = tt
-  stmts_small (ThenStmt first rest) small =
-      (stmt_small first (front (stmt_words first) (stmts_words rest) small),
-      stmts_small rest (back (stmt_words first) (stmts_words rest) small))
+  stmts_small (ThenStmt first rest) small = (
+    stmt_small first (front (stmt_words first) (stmts_words rest) small),
+    stmts_small rest (back (stmt_words first) (stmts_words rest) small),
+  )
 
   form_small : (form : Form) → AreSmallWords (form_words form) → IsSmallForm form
   form_small (Assign name op value) small =
@@ -245,27 +257,31 @@ mutual
   form_small (Block body) small =
       stmts_small body (middle (keyword key.Begin) (stmts_words body) end_words small)
   form_small (If arms otherwise) small =
-      let both = front (arms_words arms ++ otherwise_words otherwise) end_words small in
-      (arms_small arms (front (arms_words arms) (otherwise_words otherwise) both),
-      else_small otherwise (back (arms_words arms) (otherwise_words otherwise) both))
+      let both = front (arms_words arms ++ otherwise_words otherwise) end_words small in (
+        arms_small arms (front (arms_words arms) (otherwise_words otherwise) both),
+        else_small otherwise (back (arms_words arms) (otherwise_words otherwise) both),
+      )
   form_small (While test body) small =
       let first = keyword key.While ++ expr_words test ++ keyword key.Do in
-      let both = front (first ++ stmts_words body) end_words small in
-      (expr_small test (middle (keyword key.While) (expr_words test) (keyword key.Do)
-      (front first (stmts_words body) both)),
-      stmts_small body (back first (stmts_words body) both))
+      let both = front (first ++ stmts_words body) end_words small in (
+        expr_small test (middle (keyword key.While) (expr_words test) (keyword key.Do)
+            (front first (stmts_words body) both)),
+        stmts_small body (back first (stmts_words body) both),
+      )
   form_small (Repeat body until test) small =
       let first = keyword key.Repeat ++ stmts_words body ++ keyword key.Until in
-      let both = front (first ++ expr_words test) (symbol sym.Semicolon) small in
-      (stmts_small body (middle (keyword key.Repeat) (stmts_words body) (keyword key.Until)
-      (front first (expr_words test) both)),
-      expr_small test (back first (expr_words test) both))
+      let both = front (first ++ expr_words test) (symbol sym.Semicolon) small in (
+        stmts_small body (middle (keyword key.Repeat) (stmts_words body) (keyword key.Until)
+            (front first (expr_words test) both)),
+        expr_small test (back first (expr_words test) both),
+      )
   form_small (For head body) small =
       let first = keyword key.For ++ head_words head ++ keyword key.Do in
-      let both = front (first ++ stmts_words body) end_words small in
-      (head_small head (middle (keyword key.For) (head_words head) (keyword key.Do)
-      (front first (stmts_words body) both)),
-      stmts_small body (back first (stmts_words body) both))
+      let both = front (first ++ stmts_words body) end_words small in (
+        head_small head (middle (keyword key.For) (head_words head) (keyword key.Do)
+            (front first (stmts_words body) both)),
+        stmts_small body (back first (stmts_words body) both),
+      )
   form_small (Border kind names) small = tt
   form_small (Write true items) small =
       each_separated (symbol sym.Comma) item_words IsSmallItem item_small items
@@ -281,9 +297,10 @@ mutual
 
   arms_small : (arms : Arms) → AreSmallWords (arms_words arms) → AreSmallArms arms
   arms_small NoArm small = tt
-  arms_small (ThenArm first rest) small =
-      (arm_small first (middle (keyword key.If) (arm_words first) (more_arms rest) small),
-      more_arms_small rest (back (keyword key.If ++ arm_words first) (more_arms rest) small))
+  arms_small (ThenArm first rest) small = (
+    arm_small first (middle (keyword key.If) (arm_words first) (more_arms rest) small),
+    more_arms_small rest (back (keyword key.If ++ arm_words first) (more_arms rest) small),
+  )
 
   arm_small : (arm : Arm) → AreSmallWords (arm_words arm) → IsSmallArm arm
   arm_small (Tested at test body) small =
@@ -292,9 +309,10 @@ mutual
 
   more_arms_small : (arms : Arms) → AreSmallWords (more_arms arms) → AreSmallArms arms
   more_arms_small NoArm small = tt
-  more_arms_small (ThenArm first rest) small =
-      (arm_small first (middle (keyword key.Elsif) (arm_words first) (more_arms rest) small),
-      more_arms_small rest (back (keyword key.Elsif ++ arm_words first) (more_arms rest) small))
+  more_arms_small (ThenArm first rest) small = (
+    arm_small first (middle (keyword key.Elsif) (arm_words first) (more_arms rest) small),
+    more_arms_small rest (back (keyword key.Elsif ++ arm_words first) (more_arms rest) small),
+  )
 
   else_small : (otherwise : Otherwise) → AreSmallWords (otherwise_words otherwise)
       → IsSmallElse otherwise
@@ -312,9 +330,10 @@ region_small region small =
     let first = name_words region.name ++ symbol sym.Equal in
     let body = in_square (inner_words region.body) in
     let posts = posts_words region.posts in
-    let both = front (first ++ body ++ posts) (symbol sym.Semicolon) small in
-    (inner_small region.body (square (inner_words region.body) (middle first body posts both)),
-    posts_small region.posts (back (first ++ body) posts both))
+    let both = front (first ++ body ++ posts) (symbol sym.Semicolon) small in (
+      inner_small region.body (square (inner_words region.body) (middle first body posts both)),
+      posts_small region.posts (back (first ++ body) posts both),
+    )
 
 direction_small : (direction : DirDef) → AreSmallWords (direction_words direction)
     → IsSmallDirection direction
@@ -351,12 +370,13 @@ procedure_small procedure small =
     let first = keyword key.Procedure ++ name_words procedure.name in
     let params = params_words procedure.params in
     let result = result_words procedure.result in
-    let head = front heading locals (front (heading ++ locals) body small) in
-    (each_separated (symbol sym.Semicolon) param_words IsSmallParam param_small procedure.params
-    (round params (middle first (in_round params) result
-    (front (first ++ in_round params ++ result) (symbol sym.Semicolon) head))),
-    locals_small procedure.locals (middle heading locals body small),
-    stmt_small procedure.body (back (heading ++ locals) body small))
+    let head = front heading locals (front (heading ++ locals) body small) in (
+      each_separated (symbol sym.Semicolon) param_words IsSmallParam param_small procedure.params
+          (round params (middle first (in_round params) result
+          (front (first ++ in_round params ++ result) (symbol sym.Semicolon) head))),
+      locals_small procedure.locals (middle heading locals body small),
+      stmt_small procedure.body (back (heading ++ locals) body small),
+    )
 
 decl_small : (decl : Decl) → AreSmallWords (decl_words decl) → IsSmallDecl decl
 decl_small (Config configs) small =

@@ -6,7 +6,6 @@ use Rattle.zpl_text.proofs.InOrder.{tokens_in_order}
 use Rattle.zpl_tree.specs.Spelling.{program_words}
 use Rattle.zpl_tree.specs.Syntax.{Program}
 use Rattle.zpl_grammar.specs.Texts.{TokensSpell}
-use Rattle.zpl_grammar.specs.Writable.{AreWritable}
 use Rattle.zpl_grammar.proofs.Respelled.{program_writable}
 use Rattle.zpl_grammar.proofs.TextWords.{text_words_writable}
 use Rattle.shown_texts.specs.Numerals.{HasSmallNumerals}

@@ -1,14 +1,11 @@
 -- The values of configs and constants are of 64 bits.
-use Rattle.std.proofs.Common.{◌≡◌, ℕ, Bool, true, false, ◌&&◌, ℤ, pos, w64, FitsSigned, List, [], ◌∷◌, ◌++◌, Option, Some, None, if◌then◌else◌, find, refl, arith, ◌==◌, neg_ℤ, int_le, IfSome}
+use Rattle.std.proofs.Common.{◌≡◌, ℕ, Bool, true, false, ◌&&◌, ℤ, pos, List, [], ◌∷◌, ◌++◌, Option, Some, None, if◌then◌else◌, find, refl, arith, ◌==◌, neg_ℤ, int_le, IfSome}
 use Rattle.std.specs.Bool.{⊤}
 use Rattle.std.proofs.lemmas.Int.{ints}
-use Rattle.std.specs.List.{AllByRecursion, list_all}
-use Rattle.std.specs.Char.{is_ascii_digit}
+use Rattle.std.specs.List.{AllByRecursion}
 use Rattle.std.specs.Str.{bytes_eq}
-use Rattle.std.specs.Str.Parse.{digits_value}
-use Rattle.zpl_nums.specs.Integer.{IsInteger, least, greatest, negated, absolute, denied, truth, is_true}
+use Rattle.zpl_nums.specs.Integer.{IsInteger, least, greatest, truth}
 use Rattle.zpl_nums.specs.Op.{applied}
-use Rattle.zpl_nums.specs.declared.operators.Op.{Op}
 use Rattle.zpl_nums.proofs.IntegerLemmas.{IsInteger-truth}
 use Rattle.zpl_nums.proofs.OperatorLemmas.{IsInteger-applied, IsInteger-negated, IsInteger-absolute}
 use Rattle.zpl_tree.specs.Syntax.{Base, Integer, Boolean, Other, Expr, Number, Truth, Coord, Named, Shifted, Around, Remap, Call, Paren, Neg, Not, Abs, Pair, Reduce, Scan, Flood, Define, Decl, Config, Constant, Regions, Directions, Vars, Defined, Program}

@@ -1,9 +1,8 @@
 -- The numbers among the words of a text are of 64 bits.
-use Rattle.std.proofs.Common.{◌≡◌, ℕ, ◌^◌, Bool, false, ℤ, pos, ◌≤ℤ◌, List, [], ◌∷◌, ◌++◌, sym, subst, arith}
+use Rattle.std.proofs.Common.{◌≡◌, ℕ, Bool, false, ℤ, pos, ◌≤ℤ◌, List, [], ◌∷◌, ◌++◌, sym, subst, arith}
 use Rattle.std.specs.Bool.{⊤}
 use Rattle.std.proofs.lemmas.Int.{ints}
 use Rattle.std.specs.List.{AllByRecursion}
-use Rattle.std.specs.Str.Parse.{digits_value}
 use Rattle.zpl_nums.specs.Integer.{IsInteger}
 use Rattle.zpl_text.specs.Cutting.{greatest, opens_ditto}
 use Rattle.zpl_tree.specs.Word.{Word, Name, Number, Str, Ditto, Symbol, Keyword, End, kind_of}

@@ -5,15 +5,14 @@ use Rattle.zpl_nums.specs.declared.operators.Op.{Op}
 use Rattle.zpl_tree.specs.Syntax.{Name, Expr, Number, Truth, Coord, Named, Shifted, Around, Remap, Call, Paren, Neg, Not, Abs, Pair, Reduce, Scan, Flood, Exprs, NoExpr, ThenExpr, Item, Str, Value, Stmt, Prefixed, Stmts, NoStmt, ThenStmt, Form, Assign, Invoke, Block, If, While, Repeat, For, Border, Write, Return, Arm, Tested, Arms, NoArm, ThenArm, Otherwise, NoElse, Else, Program}
 use Rattle.zpl_names.specs.Kinds.{Formal, ScalarFormal, ArrayFormal}
 use Rattle.zpl_names.specs.Ranks.{is_above_zero}
-use Rattle.zpl_names.specs.Scope.{kind_of, is_array}
+use Rattle.zpl_names.specs.Scope.{kind_of, is_array, is_scalar}
 use Rattle.zpl_names.specs.Shapes.{unknown_shapes}
-use Rattle.zpl_names.specs.Sites.{Reach, in_body, Assigned, Printed, whole_rank, handed, is_shattered}
+use Rattle.zpl_names.specs.Sites.{Reach, in_body, Assigned, Printed, whole_rank, is_shattered}
 use Rattle.zpl_names.specs.Declared.{Routine, routine_named, scope_of}
 use Rattle.zpl_names.specs.Reached.{longest_chain}
 use Rattle.zpl_meaning.specs.Points.{assigned_expr}
 use Rattle.zpl_meaning.specs.Calls.{formals_in}
 use Rattle.zpl_meaning.specs.Statement.{step_expr}
-use Rattle.served_places.specs.Told.{IsPlainExpr}
 use Rattle.shown_programs.specs.Text.{behind_prefixes}
 
 -- ---- expressions
@@ -37,6 +36,25 @@ HasScalarForm (Reduce at operator over operand) = ⊥
 HasScalarForm (Scan at operator along operand) = ⊥
 HasScalarForm (Flood at source operand) = ⊥
 
+-- no operators over regions, no wraps round and no calls
+abbrev pub HasPlainForm : Expr → Type 0
+HasPlainForm (Number at value) = ⊤
+HasPlainForm (Truth at value) = ⊤
+HasPlainForm (Coord at k) = ⊤
+HasPlainForm (Named at name) = ⊤
+HasPlainForm (Shifted at name shift) = ⊤
+HasPlainForm (Paren at inside) = HasPlainForm inside
+HasPlainForm (Neg at operand) = HasPlainForm operand
+HasPlainForm (Not at operand) = HasPlainForm operand
+HasPlainForm (Abs at operand) = HasPlainForm operand
+HasPlainForm (Pair at op left right) = HasPlainForm left × HasPlainForm right
+HasPlainForm (Around at name shift) = ⊥
+HasPlainForm (Remap at name indices) = ⊥
+HasPlainForm (Call at name actuals) = ⊥
+HasPlainForm (Reduce at operator over operand) = ⊥
+HasPlainForm (Scan at operator along operand) = ⊥
+HasPlainForm (Flood at source operand) = ⊥
+
 -- what parameters take: a value of a scalar is of scalars
 abbrev pub HaveCallForms : List Formal → Exprs → Type 0
 HaveCallForms [] actuals = ⊤
@@ -52,7 +70,7 @@ HaveCallForms (ArrayFormal by_ref base shape ∷ formals) (ThenExpr actual rest)
 abbrev pub HasPrintForm : Reach → Expr → Type 0
 HasPrintForm reach expr =
     ((whole_rank reach Printed expr ≡ Some 0) × HasScalarForm expr)
-    ⊎ ((is_above_zero (whole_rank reach Printed expr) ≡ true) × IsPlainExpr expr)
+    ⊎ ((is_above_zero (whole_rank reach Printed expr) ≡ true) × HasPlainForm expr)
 
 abbrev pub HavePrintForms : Reach → List Item → Type 0
 HavePrintForms reach [] = ⊤
@@ -75,10 +93,10 @@ module _ (IsCallable : Bool → List ℕ → Type 0) where
   -- a scalar is assigned, or an array without operators over regions, or the answer of a call
   abbrev pub HasAssignForm : Reach → Name → Option Op → Expr → Type 0
   HasAssignForm reach name op value =
-      ((handed reach (Assigned name op) ≡ Some 0)
+      ((is_scalar (kind_of reach.scope name) ≡ true)
       × (whole_rank reach (Assigned name op) (assigned_expr name op value) ≡ Some 0)
       × HasScalarForm value)
-      ⊎ (((is_array (kind_of reach.scope name) ≡ true) × IsPlainExpr value)
+      ⊎ (((is_array (kind_of reach.scope name) ≡ true) × HasPlainForm value)
       ⊎ HasAskingForm reach op value)
 
   abbrev mutual
