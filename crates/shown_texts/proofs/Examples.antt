@@ -52,7 +52,7 @@ unfolding longest_chain
 has_forms value = record {
   routine = _;
   named = refl;
-  form = ((inl (refl, (tt, tt)), tt), tt);
+  form = (inl (inl (refl, (tt, tt)), tt), tt);
 }
 
 -- +<< n is no scalar's form

@@ -1,26 +1,28 @@
 -- Programs of the forms that are proved, with small numerals, are shown.
-use Rattle.std.proofs.Common.{◌≡◌, inl, inr, ◌⊎◌, ℕ, zero, suc, Bool, true, false, cond, List, [], ◌∷◌, Option, Some, None, refl, sym, subst, find}
+use Rattle.std.proofs.Common.{◌≡◌, inl, inr, ◌⊎◌, ℕ, zero, suc, Bool, true, false, cond, List, [], ◌∷◌, Option, Some, None, sym, subst, find}
 use Rattle.std.specs.List.{AllByRecursion}
 use Rattle.std.specs.Str.{bytes_eq}
 use Rattle.zpl_nums.specs.declared.operators.Op.{Op}
 use Rattle.zpl_nums.proofs.IntegerLemmas.{IsInteger-truth}
-use Rattle.zpl_tree.specs.Syntax.{Name, Expr, Number, Truth, Coord, Named, Shifted, Around, Remap, Call, Paren, Neg, Not, Abs, Pair, Reduce, Scan, Flood, Exprs, NoExpr, ThenExpr, Inner, Rexpr, Dims, DimText, Blank, Star, One, Span, DimTexts, NoDim, ThenDim, Prefix, Item, Str, Value, Stmt, Prefixed, Stmts, NoStmt, ThenStmt, Form, Assign, Invoke, Block, If, While, Repeat, For, Border, Write, Return, Arm, Tested, Arms, NoArm, ThenArm, Otherwise, NoElse, Else, Decl, Config, Constant, Regions, Directions, Vars, Defined, Program}
+use Rattle.zpl_tree.specs.Syntax.{Name, Expr, Number, Truth, Coord, Named, Shifted, Around, Remap, Call, Paren, Neg, Not, Abs, Pair, Reduce, Scan, Flood, NoBracket, Bracketed, Exprs, NoExpr, ThenExpr, Inner, Rexpr, Dims, DimText, Blank, Star, One, Span, DimTexts, NoDim, ThenDim, Prefix, Item, Str, Value, Stmt, Prefixed, Stmts, NoStmt, ThenStmt, Form, Assign, Invoke, Block, If, While, Repeat, For, Border, Write, Return, Arm, Tested, Arms, NoArm, ThenArm, Otherwise, NoElse, Else, Decl, Config, Constant, Regions, Directions, Vars, Defined, Program}
 use Rattle.zpl_names.specs.Kinds.{Formal, ScalarFormal, ArrayFormal}
 use Rattle.zpl_names.specs.Scope.{Entry, kind_of}
 use Rattle.zpl_names.specs.Shapes.{unknown_shapes}
 use Rattle.zpl_names.specs.Sites.{Reach, in_body, is_shattered}
 use Rattle.zpl_names.specs.Declared.{Routine, routines_behind, routines_of, scope_of, with_procedure, with_decl}
 use Rattle.zpl_names.specs.Reached.{longest_chain}
-use Rattle.zpl_meaning.specs.Points.{assigned_expr}
+use Rattle.zpl_meaning.specs.Points.{Part, Reads, Writes, stmt_parts, stmts_parts, form_parts, arms_parts, arm_parts, otherwise_parts}
+use Rattle.row_runs.specs.Straight.{Every}
+use Rattle.flat_form.proofs.WordLemmas.{every_append}
 use Rattle.zpl_meaning.specs.Calls.{formals_in}
 use Rattle.zpl_meaning.specs.Statement.{step_expr}
 use Rattle.zpl_binding.specs.Settings.{Setting}
 use Rattle.lowering_runs.specs.Scalars.{IsScalarExpr}
 use Rattle.served_places.specs.Told.{IsPlainExpr}
 use Rattle.served_places.specs.Given.{HasSmall, HasSmallDim, HaveSmallDims}
-use Rattle.shown_programs.specs.Text.{HasSmallInner, HaveSmallPrefixes, behind_prefixes, IsReturnText, IsShownStmt, AreShown, IsShownForm, AreShownArms, IsShownArm, IsShownElse, AreAnsweringTexts, IsAnsweringText, AreCallTexts, IsAskedText, ArePrintedTexts, IsPrintedText, IsLeafForm, IsShownRoutine, IsShownCall, IsShownProgram}
+use Rattle.shown_programs.specs.Text.{HasSmallInner, HaveSmallPrefixes, behind_prefixes, IsReturnText, IsShownStmt, AreShown, IsShownForm, AreShownArms, IsShownArm, IsShownElse, AreAnsweringTexts, IsAnsweringText, IsPlainPart, IsFoldedExpr, AreFoldedTexts, AreCallTexts, IsAskedText, ArePrintedTexts, IsPrintedText, IsLeafForm, IsShownRoutine, IsShownCall, IsShownProgram}
 use Rattle.shown_texts.specs.Numerals.{IsSmallExpr, AreSmallExprs, IsSmallInner, IsSmallDim, AreSmallDims, IsSmallPrefix, IsSmallStep, IsSmallItem, IsSmallStmt, AreSmallStmts, IsSmallForm, AreSmallArms, IsSmallArm, IsSmallElse, IsSmallProcedure, IsSmallDecl, HasSmallNumerals}
-use Rattle.shown_texts.specs.Forms.{HasScalarForm, HasPlainForm, HaveCallForms, HasPrintForm, HavePrintForms, HasAskingForm, HasAssignForm, HasStmtForm, HaveForms, HasForm, HaveArmForms, HasArmForm, HasElseForm, HasReturnForm, HaveAnswerForms, HasAnswerForm, HasRoutineForm, HasChainForms, HasShownForms}
+use Rattle.shown_texts.specs.Forms.{HasScalarForm, HasPlainForm, HasFoldedForm, HaveFoldedForms, HasPartForm, IsShatteredOr, HaveCallForms, HasPrintForm, HavePrintForms, HasAskingForm, HasAssignForm, HasStmtForm, HaveForms, HasForm, HaveArmForms, HasArmForm, HasElseForm, HasReturnForm, HaveAnswerForms, HasAnswerForm, HasRoutineForm, HasChainForms, HasShownForms}
 use Rattle.shown_texts.proofs.ValueLemmas.{values_small}
 
 -- ---- prefixes
@@ -103,10 +105,26 @@ plain_shown (Reduce at operator over operand) form small = absurd form
 plain_shown (Scan at operator along operand) form small = absurd form
 plain_shown (Flood at source operand) form small = absurd form
 
-assigned_shown : (name : Name) (op : Option Op) (value : Expr) → HasScalarForm value
-    → IsSmallExpr value → IsScalarExpr (assigned_expr name op value)
-assigned_shown name None value form small = scalar_shown value form small
-assigned_shown name (Some op) value form small = (tt, scalar_shown value form small)
+folded_shown : (expr : Expr) → HasFoldedForm expr → IsSmallExpr expr → IsFoldedExpr expr
+folded_shown (Number at value) form small = small
+folded_shown (Truth at value) form small = tt
+folded_shown (Coord at k) form small = tt
+folded_shown (Named at name) form small = tt
+folded_shown (Shifted at name shift) form small = tt
+folded_shown (Paren at inside) form small = folded_shown inside form small
+folded_shown (Neg at operand) form small = folded_shown operand form small
+folded_shown (Not at operand) form small = folded_shown operand form small
+folded_shown (Abs at operand) form small = folded_shown operand form small
+folded_shown (Pair at op left right) form small =
+    (folded_shown left form.0 small.0, folded_shown right form.1 small.1)
+folded_shown (Reduce at operator NoBracket operand) form small =
+    folded_shown operand form small.1
+folded_shown (Reduce at operator (Bracketed source) operand) form small = absurd form
+folded_shown (Around at name shift) form small = absurd form
+folded_shown (Remap at name indices) form small = absurd form
+folded_shown (Call at name actuals) form small = absurd form
+folded_shown (Scan at operator along operand) form small = absurd form
+folded_shown (Flood at source operand) form small = absurd form
 
 step_small : (step : Option Expr) → IsSmallStep step → IsSmallExpr (step_expr step)
 step_small None small = IsInteger-truth true
@@ -136,20 +154,78 @@ items_shown reach (Str bytes ∷ items) forms small = items_shown reach items fo
 items_shown reach (Value expr ∷ items) forms small =
     (print_shown reach expr forms.0 small.0, items_shown reach items forms.1 small.1)
 
+folded_items : (reach : Reach) (items : List Item) → HaveFoldedForms reach items
+    → AllByRecursion IsSmallItem items → AreFoldedTexts reach items
+folded_items reach [] forms small = tt
+folded_items reach (Str bytes ∷ items) forms small = folded_items reach items forms small.1
+folded_items reach (Value expr ∷ items) forms small =
+    (forms.0, folded_shown expr forms.1 small.0, folded_items reach items forms.2 small.1)
+
+-- ---- what shattered statements read
+
+abbrev IsSmallPart : Part → Type 0
+IsSmallPart (Reads expr) = IsSmallExpr expr
+IsSmallPart (Writes name) = Unit {0}
+
+mutual
+  stmt_reads : (stmt : Stmt) → IsSmallStmt stmt → Every IsSmallPart (stmt_parts stmt)
+  stmt_reads (Prefixed at prefixes form) small = form_reads form small.1
+
+  stmts_read : (stmts : Stmts) → AreSmallStmts stmts → Every IsSmallPart (stmts_parts stmts)
+  stmts_read NoStmt small = tt
+  stmts_read (ThenStmt first rest) small =
+      every_append IsSmallPart (stmt_parts first) (stmts_parts rest) (stmt_reads first small.0)
+      (stmts_read rest small.1)
+
+  form_reads : (form : Form) → IsSmallForm form → Every IsSmallPart (form_parts form)
+  form_reads (Assign name op value) small = (tt, (small, tt))
+  form_reads (Block body) small = stmts_read body small
+  form_reads (If arms otherwise) small =
+      every_append IsSmallPart (arms_parts arms) (otherwise_parts otherwise)
+      (arms_read arms small.0) (else_reads otherwise small.1)
+  form_reads (While test body) small = (small.0, stmts_read body small.1)
+  form_reads (Repeat body until test) small =
+      every_append IsSmallPart (stmts_parts body) (Reads test ∷ []) (stmts_read body small.0)
+      (small.1, tt)
+  form_reads (Invoke name actuals) small = tt
+  form_reads (For head body) small = tt
+  form_reads (Border kind names) small = tt
+  form_reads (Write line items) small = tt
+  form_reads (Return value) small = tt
+
+  arms_read : (arms : Arms) → AreSmallArms arms → Every IsSmallPart (arms_parts arms)
+  arms_read NoArm small = tt
+  arms_read (ThenArm first rest) small =
+      every_append IsSmallPart (arm_parts first) (arms_parts rest) (arm_reads first small.0)
+      (arms_read rest small.1)
+
+  arm_reads : (arm : Arm) → IsSmallArm arm → Every IsSmallPart (arm_parts arm)
+  arm_reads (Tested at test body) small = (small.0, stmts_read body small.1)
+
+  else_reads : (otherwise : Otherwise) → IsSmallElse otherwise
+      → Every IsSmallPart (otherwise_parts otherwise)
+  else_reads NoElse small = tt
+  else_reads (Else body) small = stmts_read body small
+
+parts_shown : (parts : List Part) → Every HasPartForm parts → Every IsSmallPart parts
+    → Every IsPlainPart parts
+parts_shown [] forms small = tt
+parts_shown (Reads expr ∷ parts) forms small =
+    (plain_shown expr forms.0 small.0, parts_shown parts forms.1 small.1)
+parts_shown (Writes name ∷ parts) forms small = (tt, parts_shown parts forms.1 small.1)
+
 -- ---- statements, where what may be called is shown
 
 module _ (IsCallable IsCalled : Bool → List ℕ → Type 0)
     (called : (answers : Bool) (name : List ℕ) → IsCallable answers name → IsCalled answers name)
   where
-    -- a statement that is shattered, or that has these parts
-    either : (reach : Reach) (form : Form) (Parts : Type 0) → Parts
+    -- a statement that is shattered, or has other parts
+    either : (reach : Reach) (form : Form) (Forms Parts : Type 0) → IsShatteredOr reach form Forms
+        → IsSmallForm form → (Forms → Parts)
         → IsLeafForm IsCalled reach form ⊎ ((is_shattered reach form ≡ false) × Parts)
-    either reach form Parts parts = by (is_shattered reach form) refl
-      where
-        by : (b : Bool) → is_shattered reach form ≡ b
-            → IsLeafForm IsCalled reach form ⊎ ((is_shattered reach form ≡ false) × Parts)
-        by true is = inl (inr (inr (inr (inl is))))
-        by false is = inr (is, parts)
+    either reach form Forms Parts (inl is) small shown =
+        inl (inr (inr (inr (inl (is.0, parts_shown (form_parts form) is.1 (form_reads form small))))))
+    either reach form Forms Parts (inr is) small shown = inr (is.0, shown is.1)
 
     asked_shown : (reach : Reach) (op : Option Op) (value : Expr)
         → HasAskingForm IsCallable reach op value → IsSmallExpr value
@@ -163,14 +239,12 @@ module _ (IsCallable IsCalled : Bool → List ℕ → Type 0)
         ))
 
     assign_shown : (reach : Reach) (name : Name) (op : Option Op) (value : Expr)
-        → HasAssignForm IsCallable reach name op value → IsSmallExpr value
+        → HasAssignForm IsCallable reach op value → IsSmallExpr value
         → IsLeafForm IsCalled reach (Assign name op value)
-    assign_shown reach name op value (inl scalar) small =
-        inl (inl (scalar.0, scalar.1, assigned_shown name op value scalar.2 small))
-    assign_shown reach name op value (inr (inl array)) small =
-        inl (inr (array.0, plain_shown value array.1 small))
-    assign_shown reach name op value (inr (inr asks)) small =
-        inr (inr (inr (inr (asked_shown reach op value asks small))))
+    assign_shown reach name op value (inl folded) small =
+        inr (inr (inr (inr (inl (folded_shown value folded small)))))
+    assign_shown reach name op value (inr asks) small =
+        inr (inr (inr (inr (inr (asked_shown reach op value asks small)))))
 
     mutual
       stmt_shown : (reach : Reach) (stmt : Stmt) → HasStmtForm IsCallable reach stmt
@@ -191,27 +265,26 @@ module _ (IsCallable IsCalled : Bool → List ℕ → Type 0)
       form_shown reach (Assign name op value) forms small =
           assign_shown reach name op value forms small
       form_shown reach (Invoke name actuals) forms small =
-          inr (inr (inr (inr (
+          inr (inr (inr (inr (inr (
             actuals_shown (formals_in (kind_of reach.scope name)) actuals forms.0 small,
             called false name.text forms.1,
-          ))))
+          )))))
       form_shown reach (Block body) forms small = stmts_shown reach body forms small
-      form_shown reach (If arms otherwise) (inl is) small = inl (inr (inr (inr (inl is))))
-      form_shown reach (If arms otherwise) (inr forms) small =
+      form_shown reach (If arms otherwise) forms small =
           either reach (If arms otherwise)
+          (HaveArmForms IsCallable reach arms × HasElseForm IsCallable reach otherwise)
           (AreShownArms (IsLeafForm IsCalled) reach arms
-          × IsShownElse (IsLeafForm IsCalled) reach otherwise)
-          (arms_shown reach arms forms.0 small.0, else_shown reach otherwise forms.1 small.1)
-      form_shown reach (While test body) (inl is) small = inl (inr (inr (inr (inl is))))
-      form_shown reach (While test body) (inr forms) small =
-          either reach (While test body)
-          (IsScalarExpr test × AreShown (IsLeafForm IsCalled) reach body)
-          (scalar_shown test forms.0 small.0, stmts_shown reach body forms.1 small.1)
-      form_shown reach (Repeat body until test) (inl is) small = inl (inr (inr (inr (inl is))))
-      form_shown reach (Repeat body until test) (inr forms) small =
+          × IsShownElse (IsLeafForm IsCalled) reach otherwise) forms small
+          (λ own. (arms_shown reach arms own.0 small.0, else_shown reach otherwise own.1 small.1))
+      form_shown reach (While test body) forms small =
+          either reach (While test body) (HasScalarForm test × HaveForms IsCallable reach body)
+          (IsScalarExpr test × AreShown (IsLeafForm IsCalled) reach body) forms small
+          (λ own. (scalar_shown test own.0 small.0, stmts_shown reach body own.1 small.1))
+      form_shown reach (Repeat body until test) forms small =
           either reach (Repeat body until test)
-          (IsScalarExpr test × AreShown (IsLeafForm IsCalled) reach body)
-          (scalar_shown test forms.0 small.1, stmts_shown reach body forms.1 small.0)
+          (HasScalarForm test × HaveForms IsCallable reach body)
+          (IsScalarExpr test × AreShown (IsLeafForm IsCalled) reach body) forms small
+          (λ own. (scalar_shown test own.0 small.1, stmts_shown reach body own.1 small.0))
       form_shown reach (For head body) forms small = (
         (
           scalar_shown head.first forms.0.0 small.0.0,
@@ -221,8 +294,10 @@ module _ (IsCallable IsCalled : Bool → List ℕ → Type 0)
         stmts_shown reach body forms.1 small.1,
       )
       form_shown reach (Border kind names) forms small = inr (inr (inl tt))
-      form_shown reach (Write line items) forms small =
+      form_shown reach (Write line items) (inl forms) small =
           inr (inl (items_shown reach items forms small))
+      form_shown reach (Write line items) (inr forms) small =
+          inr (inr (inr (inr (inl (folded_items reach items forms small)))))
       form_shown reach (Return value) forms small = absurd forms
 
       arms_shown : (reach : Reach) (arms : Arms) → HaveArmForms IsCallable reach arms

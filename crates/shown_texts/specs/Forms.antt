@@ -2,17 +2,18 @@
 -- whatever their numbers are. Of text alone.
 use Rattle.std.specs.Prelude.{◌≡◌, ◌⊎◌, ℕ, zero, suc, Bool, true, false, List, [], ◌∷◌, Option, Some, None, ⊤}
 use Rattle.zpl_nums.specs.declared.operators.Op.{Op}
-use Rattle.zpl_tree.specs.Syntax.{Name, Expr, Number, Truth, Coord, Named, Shifted, Around, Remap, Call, Paren, Neg, Not, Abs, Pair, Reduce, Scan, Flood, Exprs, NoExpr, ThenExpr, Item, Str, Value, Stmt, Prefixed, Stmts, NoStmt, ThenStmt, Form, Assign, Invoke, Block, If, While, Repeat, For, Border, Write, Return, Arm, Tested, Arms, NoArm, ThenArm, Otherwise, NoElse, Else, Program}
+use Rattle.zpl_tree.specs.Syntax.{Name, Expr, Number, Truth, Coord, Named, Shifted, Around, Remap, Call, Paren, Neg, Not, Abs, Pair, Reduce, Scan, Flood, NoBracket, Bracketed, Exprs, NoExpr, ThenExpr, Item, Str, Value, Stmt, Prefixed, Stmts, NoStmt, ThenStmt, Form, Assign, Invoke, Block, If, While, Repeat, For, Border, Write, Return, Arm, Tested, Arms, NoArm, ThenArm, Otherwise, NoElse, Else, Program}
 use Rattle.zpl_names.specs.Kinds.{Formal, ScalarFormal, ArrayFormal}
 use Rattle.zpl_names.specs.Ranks.{is_above_zero}
-use Rattle.zpl_names.specs.Scope.{kind_of, is_array, is_scalar}
+use Rattle.zpl_names.specs.Scope.{kind_of}
 use Rattle.zpl_names.specs.Shapes.{unknown_shapes}
-use Rattle.zpl_names.specs.Sites.{Reach, in_body, Assigned, Printed, whole_rank, is_shattered}
+use Rattle.zpl_names.specs.Sites.{Reach, in_body, Printed, whole_rank, is_shattered}
 use Rattle.zpl_names.specs.Declared.{Routine, routine_named, scope_of}
 use Rattle.zpl_names.specs.Reached.{longest_chain}
-use Rattle.zpl_meaning.specs.Points.{assigned_expr}
+use Rattle.zpl_meaning.specs.Points.{Part, Reads, Writes, form_parts}
 use Rattle.zpl_meaning.specs.Calls.{formals_in}
 use Rattle.zpl_meaning.specs.Statement.{step_expr}
+use Rattle.row_runs.specs.Straight.{Every}
 use Rattle.shown_programs.specs.Text.{behind_prefixes}
 
 -- ---- expressions
@@ -55,6 +56,26 @@ HasPlainForm (Reduce at operator over operand) = ⊥
 HasPlainForm (Scan at operator along operand) = ⊥
 HasPlainForm (Flood at source operand) = ⊥
 
+-- full folds, also in one another's operands, and no other operators over regions
+abbrev pub HasFoldedForm : Expr → Type 0
+HasFoldedForm (Number at value) = ⊤
+HasFoldedForm (Truth at value) = ⊤
+HasFoldedForm (Coord at k) = ⊤
+HasFoldedForm (Named at name) = ⊤
+HasFoldedForm (Shifted at name shift) = ⊤
+HasFoldedForm (Paren at inside) = HasFoldedForm inside
+HasFoldedForm (Neg at operand) = HasFoldedForm operand
+HasFoldedForm (Not at operand) = HasFoldedForm operand
+HasFoldedForm (Abs at operand) = HasFoldedForm operand
+HasFoldedForm (Pair at op left right) = HasFoldedForm left × HasFoldedForm right
+HasFoldedForm (Reduce at operator NoBracket operand) = HasFoldedForm operand
+HasFoldedForm (Reduce at operator (Bracketed source) operand) = ⊥
+HasFoldedForm (Around at name shift) = ⊥
+HasFoldedForm (Remap at name indices) = ⊥
+HasFoldedForm (Call at name actuals) = ⊥
+HasFoldedForm (Scan at operator along operand) = ⊥
+HasFoldedForm (Flood at source operand) = ⊥
+
 -- what parameters take: a value of a scalar is of scalars
 abbrev pub HaveCallForms : List Formal → Exprs → Type 0
 HaveCallForms [] actuals = ⊤
@@ -77,6 +98,24 @@ HavePrintForms reach [] = ⊤
 HavePrintForms reach (Str bytes ∷ items) = HavePrintForms reach items
 HavePrintForms reach (Value expr ∷ items) = HasPrintForm reach expr × HavePrintForms reach items
 
+-- texts and scalars are printed, with folds
+abbrev pub HaveFoldedForms : Reach → List Item → Type 0
+HaveFoldedForms reach [] = ⊤
+HaveFoldedForms reach (Str bytes ∷ items) = HaveFoldedForms reach items
+HaveFoldedForms reach (Value expr ∷ items) =
+    (whole_rank reach Printed expr ≡ Some 0) × HasFoldedForm expr × HaveFoldedForms reach items
+
+-- what a shattered statement reads
+abbrev pub HasPartForm : Part → Type 0
+HasPartForm (Reads expr) = HasPlainForm expr
+HasPartForm (Writes name) = ⊤
+
+-- an `if`, a `while` or a `repeat` whose tests are arrays, or of other parts
+abbrev pub IsShatteredOr : Reach → Form → Type 0 → Type 0
+IsShatteredOr reach form Parts =
+    ((is_shattered reach form ≡ true) × Every HasPartForm (form_parts form))
+    ⊎ ((is_shattered reach form ≡ false) × Parts)
+
 -- ---- statements, where these procedures may be called, for an answer or without one
 
 module _ (IsCallable : Bool → List ℕ → Type 0) where
@@ -90,14 +129,9 @@ module _ (IsCallable : Bool → List ℕ → Type 0) where
     pub forms : HaveCallForms (formals_in (kind_of reach.scope name)) actuals
     pub callable : IsCallable true name.text
 
-  -- a scalar is assigned, or an array without operators over regions, or the answer of a call
-  abbrev pub HasAssignForm : Reach → Name → Option Op → Expr → Type 0
-  HasAssignForm reach name op value =
-      ((is_scalar (kind_of reach.scope name) ≡ true)
-      × (whole_rank reach (Assigned name op) (assigned_expr name op value) ≡ Some 0)
-      × HasScalarForm value)
-      ⊎ (((is_array (kind_of reach.scope name) ≡ true) × HasPlainForm value)
-      ⊎ HasAskingForm reach op value)
+  -- a scalar or an array is assigned, or the answer of a call
+  abbrev pub HasAssignForm : Reach → Option Op → Expr → Type 0
+  HasAssignForm reach op value = HasFoldedForm value ⊎ HasAskingForm reach op value
 
   abbrev mutual
     pub HasStmtForm : Reach → Stmt → Type 0
@@ -109,25 +143,26 @@ module _ (IsCallable : Bool → List ℕ → Type 0) where
     HaveForms reach (ThenStmt first rest) = HasStmtForm reach first × HaveForms reach rest
 
     pub HasForm : Reach → Form → Type 0
-    HasForm reach (Assign name op value) = HasAssignForm reach name op value
+    HasForm reach (Assign name op value) = HasAssignForm reach op value
     HasForm reach (Invoke name actuals) =
         HaveCallForms (formals_in (kind_of reach.scope name)) actuals
         × IsCallable false name.text
     HasForm reach (Block body) = HaveForms reach body
     HasForm reach (If arms otherwise) =
-        (is_shattered reach (If arms otherwise) ≡ true)
-        ⊎ (HaveArmForms reach arms × HasElseForm reach otherwise)
+        IsShatteredOr reach (If arms otherwise)
+        (HaveArmForms reach arms × HasElseForm reach otherwise)
     HasForm reach (While test body) =
-        (is_shattered reach (While test body) ≡ true)
-        ⊎ (HasScalarForm test × HaveForms reach body)
+        IsShatteredOr reach (While test body)
+        (HasScalarForm test × HaveForms reach body)
     HasForm reach (Repeat body until test) =
-        (is_shattered reach (Repeat body until test) ≡ true)
-        ⊎ (HasScalarForm test × HaveForms reach body)
+        IsShatteredOr reach (Repeat body until test)
+        (HasScalarForm test × HaveForms reach body)
     HasForm reach (For head body) =
         (HasScalarForm head.first × HasScalarForm head.last × HasScalarForm (step_expr head.step))
         × HaveForms reach body
     HasForm reach (Border kind names) = ⊤
-    HasForm reach (Write line items) = HavePrintForms reach items
+    HasForm reach (Write line items) =
+        HavePrintForms reach items ⊎ HaveFoldedForms reach items
     HasForm reach (Return value) = ⊥
 
     pub HaveArmForms : Reach → Arms → Type 0
