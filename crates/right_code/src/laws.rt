@@ -8,6 +8,7 @@ ghost use Rattle.node_form.specs.Grid.{IsGrid};
 ghost use Rattle.zpl_lowering.specs.Tables.{flat_tables};
 ghost use Rattle.lock_steps.specs.Meant.{IsMeant};
 ghost use Rattle.shown_programs.specs.Text.{IsShownProgram};
+ghost use Rattle.shown_texts.specs.Forms.{HasShownForms};
 ghost use Rattle.zpl_claims.specs.Bound.{EndsInBound};
 ghost use Rattle.zpl_claims.specs.Build.{Build, OverAllLinks};
 ghost use Rattle.zpl_claims.specs.Good.{IsGood};
@@ -29,6 +30,7 @@ use owed_tables::lowered_tables_owe_nothing_more;
 use pass_promises::groups_gain_no_loops;
 use sharable_tables::settled_tables_are_sharable;
 use shown_programs::array_programs_are_shown;
+use shown_texts::texts_of_shown_forms_are_shown;
 
 /// Of an accepted program whose lowered program shows what it means, for each bound on the turns of
 /// loops, the code for a build is right over all links that it is for: some order of turns brings
@@ -78,15 +80,30 @@ pub fn code_of_shown_programs_is_right()
     array_programs_are_shown();
 }
 
-/// So all that is claimed of code (`IsCompiled`) holds of the code of a text whose program is such a
-/// one, where it is tidy as `IsLaidTidily` asks for.
-pub fn code_of_shown_texts_is_compiled()
-    ensures { (text : List ℕ) (tokens : List Token) (program : Program) (build : Build) →
-        IsAcceptedText text tokens program build → IsGrid build.grid → IsShownProgram program build.settings →
+/// So is that of a text, all of whose statements are of such forms (`HasShownForms`), whatever its
+/// numbers are. All that is claimed of code (`IsCompiled`) holds of it where it is tidy as
+/// `IsLaidTidily` asks for.
+pub fn code_of_shown_texts_is_right()
+    ensures in_step { (text : List ℕ) (tokens : List Token) (program : Program) (build : Build) →
+        IsAcceptedText text tokens program build → IsGrid build.grid → HasShownForms program →
+        OverAllLinks build (λ links.
+        HasLockSteps (compiled build program) links (mean_of program build.settings)) }
+    ensures good { (text : List ℕ) (tokens : List Token) (program : Program) (build : Build) →
+        IsAcceptedText text tokens program build → IsGrid build.grid → HasShownForms program →
+        OverAllLinks build (λ links.
+        IsGood (compiled build program) links (mean_of program build.settings)) }
+    ensures in_time { (text : List ℕ) (tokens : List Token) (program : Program) (build : Build) →
+        IsAcceptedText text tokens program build → IsGrid build.grid → HasShownForms program →
+        OverAllLinks build (λ links.
+        EndsInBound (compiled build program) links (mean_of program build.settings)
+        (steps_of program build.settings) (shattered_loops program)) }
+    ensures compiled { (text : List ℕ) (tokens : List Token) (program : Program) (build : Build) →
+        IsAcceptedText text tokens program build → IsGrid build.grid → HasShownForms program →
         IsLaidTidily (origin_of build program (length tokens)) →
         IsCompiled (origin_of build program (length tokens)) (compiled build program) }
 {
     accepted_code_is_tidy();
     code_of_shown_programs_is_right();
     parsed_names_stand_apart();
+    texts_of_shown_forms_are_shown();
 }

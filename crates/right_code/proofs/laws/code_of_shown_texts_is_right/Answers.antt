@@ -1,0 +1,52 @@
+use Rattle.std.proofs.Common.{List, ℕ}
+use Rattle.zpl_text.specs.declared.tokens.Token.{Token}
+use Rattle.zpl_tree.specs.Syntax.{Program}
+use Rattle.node_form.specs.Grid.{IsGrid}
+use Rattle.shown_programs.specs.Text.{IsShownProgram}
+use Rattle.shown_texts.specs.Forms.{HasShownForms}
+use Rattle.zpl_claims.specs.Build.{Build}
+use Rattle.zpl_claims.specs.Origin.{origin_of}
+use Rattle.compiled_tidy.specs.Accepted.{IsAcceptedText}
+use Rattle.compiled_tidy.proofs.AcceptedLemmas.{grammar_of}
+use Rattle.right_code.specs.Accepted.{IsAccepted}
+use Rattle.right_code.proofs.laws.code_of_shown_texts_is_right.Goals as goal
+
+pub returns : goal.returns
+returns c = record {
+  in_step = λ text tokens program build accepted grid forms.
+      c.code_of_shown_programs_is_right.ensures.in_step program build
+      (is text tokens program build accepted grid) (shown text tokens program build accepted forms);
+  good = λ text tokens program build accepted grid forms.
+      c.code_of_shown_programs_is_right.ensures.good program build
+      (is text tokens program build accepted grid) (shown text tokens program build accepted forms);
+  in_time = λ text tokens program build accepted grid forms.
+      c.code_of_shown_programs_is_right.ensures.in_time program build
+      (is text tokens program build accepted grid) (shown text tokens program build accepted forms);
+  compiled = λ text tokens program build accepted grid forms laid.
+      let one = is text tokens program build accepted grid in
+      let shows = shown text tokens program build accepted forms in
+      record {
+        good = c.code_of_shown_programs_is_right.ensures.good program build one shows;
+        in_step = c.code_of_shown_programs_is_right.ensures.in_step program build one shows;
+        in_time = c.code_of_shown_programs_is_right.ensures.in_time program build one shows;
+        tidy = c.accepted_code_is_tidy.ensures.tidy text tokens program build accepted laid;
+      };
+}
+  where
+    is : (text : List ℕ) (tokens : List Token) (program : Program) (build : Build)
+        → IsAcceptedText text tokens program build → IsGrid build.grid → IsAccepted program build
+    is text tokens program build accepted grid = record {
+      grammar = grammar_of text tokens program accepted.tree;
+      faultless = accepted.faultless;
+      apart = c.parsed_names_stand_apart.ensures text tokens program accepted.are_tokens
+          accepted.tree;
+      settings = accepted.accepts;
+      grid = grid;
+    }
+
+    shown : (text : List ℕ) (tokens : List Token) (program : Program) (build : Build)
+        → IsAcceptedText text tokens program build → HasShownForms program
+        → IsShownProgram program build.settings
+    shown text tokens program build accepted forms =
+        c.texts_of_shown_forms_are_shown.ensures text tokens program build.settings
+        accepted.are_tokens accepted.tree forms
