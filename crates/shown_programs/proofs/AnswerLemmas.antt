@@ -27,9 +27,10 @@ use Rattle.zpl_lowering.specs.Statement.{Given, Valued, Copied, Referring}
 use Rattle.lowering_runs.specs.Seen.{Spot, Answer, numbered, seen_spot, seen_store}
 use Rattle.lowering_runs.specs.Stands.{AreKnown, IsKnown, IsLike, Keeps, Rises, Stands}
 use Rattle.lowering_runs.specs.Frames.{seen_given}
-use Rattle.lowering_runs.specs.Suits.{SuitsStmt}
+use Rattle.lowering_runs.specs.Suits.{SuitsStmtBy}
 use Rattle.lowering_runs.proofs.FrameLemmas.{map_append, names_below, numbered_append, thing_below}
 use Rattle.lowering_runs.proofs.StatementLemmas.{contains_first, contains_later, role_scalar}
+use Rattle.operator_runs.specs.Served.{AnyTest}
 use Rattle.prefix_runs.specs.Under.{IsUnder}
 use Rattle.served_places.specs.Told.{IsSeenFrom, place_of}
 use Rattle.call_runs.specs.Ending.{AreAnswering, IsAnsweringBody, IsReturning}
@@ -138,7 +139,7 @@ module _ (program : Program) (settings : List Setting) (laws : Laws program)
       → Text (reach_of (place_of w environment answer currents edge)) form
       → Leaf at form w (place_of w environment answer currents edge)) where
     abbrev Served : Stmt → Where → Place → Type 0
-    Served stmt w place = SuitsStmt IsUnder Leaf stmt w place
+    Served stmt w place = SuitsStmtBy IsUnder AnyTest Leaf stmt w place
 
     return_suits : (stmt : Stmt) (place : Place) → IsProperStmt place stmt → IsReturnText stmt
         → IsReturning stmt place

@@ -1,11 +1,12 @@
 -- A program with arrays, prefixes, a border statement, and a call that hands an array on; one with a
--- call that copies an array and answers; and one with a shattered loop, and full folds.
+-- call that copies an array and answers; one with a shattered loop, and full folds; and one with full
+-- folds in tests.
 use Rattle.std.proofs.Common.{inl, inr, ℕ, true, false, List, [], ◌∷◌, Some, None, pos, codes, refl}
 use Rattle.zpl_nums.specs.declared.ends.Border.TheVariants.{Wrap}
 use Rattle.zpl_nums.specs.declared.folds.Fold.TheVariants as fold
 use Rattle.zpl_nums.specs.declared.operators.Op.TheVariants as op
 use Rattle.zpl_nums.proofs.IntegerLemmas.{IsInteger-truth}
-use Rattle.zpl_tree.specs.Syntax.{Name, Number, Named, Paren, Pair, Reduce, Value, Prefixed, NoStmt, ThenStmt, Assign, Block, Invoke, While, Write, Return, Call, NoExpr, ThenExpr, NoBracket, Bracketed, Rexpr, Dims, NamedRegion, NoPost, Span, NoDim, ThenDim, Integer, Vars, Regions, Directions, Defined, Border, Program}
+use Rattle.zpl_tree.specs.Syntax.{Name, Number, Named, Paren, Pair, Reduce, Value, Prefixed, NoStmt, ThenStmt, Assign, Block, Invoke, While, Write, Return, Call, NoExpr, ThenExpr, Abs, If, Tested, NoArm, ThenArm, NoElse, NoBracket, Bracketed, Rexpr, Dims, NamedRegion, NoPost, Span, NoDim, ThenDim, Integer, Vars, Regions, Directions, Defined, Border, Program}
 use Rattle.zpl_names.specs.Reached.{longest_chain}
 use Rattle.shown_programs.specs.Text.{IsShownProgram}
 
@@ -285,6 +286,94 @@ folds_is_shown = record {
             (tt, inr (inr (inr (inr (inl (tt, (tt, tt))))))),
             ((tt, inr (inr (inr (inr (inl (refl, tt, (refl, tt, tt))))))), tt),
           ),
+        ),
+      ),
+    );
+  };
+}
+
+-- region R = [1..2]; var A, B : [R] integer;
+-- procedure t(); [R] begin
+--   while (max<< abs(A - B)) > 1 do A += 1; end; if (+<< A) > 1 then B := A; end;
+-- end;
+abbrev tests : Program
+tests = record {
+  name = name (codes "t") 8;
+  decls = Regions (record {
+    name = name (codes "R") 20;
+    body = Dims (ThenDim (Span (Number 25 (pos 1)) (Number 28 (pos 2))) NoDim);
+    posts = NoPost;
+  } ∷ [])
+      ∷ Vars (record {
+        names = name (codes "A") 37 ∷ name (codes "B") 40 ∷ [];
+        shape = Bracketed (Rexpr [] (NamedRegion (name (codes "R") 45)) NoPost);
+        base = Integer;
+      } ∷ [])
+      ∷ Defined (record {
+        name = name (codes "t") 80;
+        params = [];
+        result = None;
+        locals = [];
+        body = Prefixed 85
+            (record {
+              at = 85;
+              region = Rexpr [] (NamedRegion (name (codes "R") 86)) NoPost;
+              mask = None;
+            } ∷ [])
+            (Block
+            (ThenStmt (Prefixed 97 []
+            (While (Pair 122 op.Gt (Paren 103 (Reduce 104 fold.Max NoBracket (Abs 110
+            (Pair 116 op.Sub (Named 114 (name (codes "A") 114)) (Named 118 (name (codes "B") 118))))))
+            (Number 124 (pos 1)))
+            (ThenStmt (Prefixed 129 []
+            (Assign (name (codes "A") 129) (Some op.Add) (Number 134 (pos 1)))) NoStmt)))
+            (ThenStmt (Prefixed 142 []
+            (If (ThenArm (Tested 142
+            (Pair 153 op.Gt (Paren 145 (Reduce 146 fold.Sum NoBracket (Named 150
+            (name (codes "A") 150)))) (Number 155 (pos 1)))
+            (ThenStmt (Prefixed 162 []
+            (Assign (name (codes "B") 162) None (Named 167 (name (codes "A") 167)))) NoStmt)) NoArm)
+            NoElse)) NoStmt)));
+      })
+      ∷ [];
+  source = [];
+}
+
+tests_is_shown : IsShownProgram tests []
+unfolding longest_chain
+tests_is_shown = record {
+  values = λ text. IsInteger-truth false;
+  entry = record {
+    routine = _;
+    named = refl;
+    shown = (
+      (tt, tt),
+      (
+        (
+          tt,
+          inr (
+            refl,
+            (
+              inr ((tt, tt), IsInteger-truth true),
+              ((tt, inl (inr (refl, IsInteger-truth true))), tt),
+            ),
+          ),
+        ),
+        (
+          (
+            tt,
+            inr (
+              refl,
+              (
+                (
+                  (inr (tt, IsInteger-truth true), ((tt, inl (inr (refl, tt))), tt)),
+                  tt,
+                ),
+                tt,
+              ),
+            ),
+          ),
+          tt,
         ),
       ),
     );

@@ -4,6 +4,7 @@ pub mod KnownLemmas
 pub mod GivenLemmas
 pub mod BoundedLemmas
 pub mod CallLemmas
+pub mod OperatedLemmas
 pub mod PlaceLemmas
 pub mod PostLemmas
 pub mod AnswerLemmas

@@ -1,6 +1,6 @@
 -- Statements of whole programs suit the places where they are run: by what the text says of prefixes,
 -- and by what is known of forms that have no statements in them.
-use Rattle.std.proofs.Common.{◌≡◌, inl, inr, ℕ, Bool, true, false, List, [], ◌∷◌}
+use Rattle.std.proofs.Common.{◌≡◌, inl, inr, ℕ, Bool, true, false, List, [], ◌∷◌, ◌++◌}
 use Rattle.std.proofs.Common.{map, length, Option, Some, None, option_to_list, refl, sym, ap, ◌∙◌, subst}
 use Rattle.std.proofs.Common.{pos}
 use Rattle.std.specs.Prelude.{Contains}
@@ -8,13 +8,13 @@ use Rattle.std.specs.List.{AllByRecursion}
 use Rattle.std.proofs.lemmas.List.Elements.{Contains-append_left, Contains-append_right}
 use Rattle.zpl_region.specs.declared.dims.Dim.{Dim}
 use Rattle.zpl_region.specs.declared.dims.Dim.TheVariants as dim
-use Rattle.zpl_tree.specs.Syntax.{Base, Inner, Rexpr, Dims, Mask as MaskText, Prefix, Stmt, Prefixed, Stmts, NoStmt, ThenStmt, Form, Assign, Invoke, Block, If, While, Repeat, For, Border, Write, Return, Tested, Arms, NoArm, ThenArm, Otherwise, NoElse, Else, Program}
+use Rattle.zpl_tree.specs.Syntax.{Expr, Base, Inner, Rexpr, Dims, Mask as MaskText, Prefix, Stmt, Prefixed, Stmts, NoStmt, ThenStmt, Form, Assign, Invoke, Block, If, While, Repeat, For, Border, Write, Return, Tested, Arms, NoArm, ThenArm, Otherwise, NoElse, Else, Program}
 use Rattle.zpl_tree.specs.Grammar.{IsPrefix, IsProgram}
 use Rattle.zpl_names.specs.Kinds.{Rank, Shape}
 use Rattle.zpl_names.specs.Scope.{Scope}
 use Rattle.zpl_names.specs.Ranks.{mask_rank}
 use Rattle.zpl_names.specs.Shapes.{Current, Absent, Unknown, Over as Shaped, Shapes, current_at, inner_shape, shape_within, prefix_rank, shapes_under}
-use Rattle.zpl_names.specs.Sites.{Reach, Site, AtMask, Limit, Test as TestRole, region_sites, prefix_sites, prefixes_sites, under_prefixes, is_shattered}
+use Rattle.zpl_names.specs.Sites.{Reach, Site, AtMask, Limit, Test as TestRole, region_sites, prefix_sites, prefixes_sites, under_prefixes, arms_rank, arms_sites, expr_sites, inside, is_shattered, otherwise_sites, stmts_sites, test_rank, whole_rank, whole_sites}
 use Rattle.zpl_names.specs.Sites.{under_prefix as reach_under}
 use Rattle.zpl_names.specs.Faults.{flood_clashes}
 use Rattle.zpl_names.specs.Accepted.{IsFaultless}
@@ -23,7 +23,7 @@ use Rattle.zpl_binding.proofs.LimitLemmas.{HasLimited}
 use Rattle.zpl_binding.specs.Settings.{Setting}
 use Rattle.zpl_meaning.specs.Store.{Environment}
 use Rattle.zpl_meaning.specs.Context.{Over, Currents, Edge, Setup, Place, reach_of}
-use Rattle.zpl_meaning.specs.Proper.{IsProperForm, IsProperUnder, IsProperStmt, AreProperTests}
+use Rattle.zpl_meaning.specs.Proper.{IsProperForm, IsProperUnder, IsProper, IsProperScalar, IsProperStmt, AreProperTests}
 use Rattle.zpl_meaning.specs.Regions as mean
 use Rattle.zpl_meaning.specs.Visited as visits
 use Rattle.zpl_meaning.specs.Visited.{IsVisited, Holds, list_of, arms_parts, else_parts, parts_of}
@@ -31,8 +31,8 @@ use Rattle.zpl_meaning.specs.Statement.{step_expr}
 use Rattle.zpl_meaning.proofs.DepthLemmas.{Each, each_left, each_right}
 use Rattle.zpl_meaning.proofs.ProperLemmas.{IsClean, Clean, Fits as FitsPlace, reach_at}
 use Rattle.zpl_meaning.proofs.StatementLemmas.{fits_under}
-use Rattle.zpl_meaning.proofs.VisitLemmas.{Laws, IsHere, clean_of, Inside}
-use Rattle.meaning_ranks.specs.Ranked.{IsRankedForm, IsRankedUnder, IsRankedStmt}
+use Rattle.zpl_meaning.proofs.VisitLemmas.{Laws, IsHere, clean_of, Inside, InStmt}
+use Rattle.meaning_ranks.specs.Ranked.{AreRankedTests, IsOfRank, IsRanked, IsRankedForm, IsRankedTested, IsRankedUnder, IsRankedStmt}
 use Rattle.meaning_ranks.specs.Shaped.{AreFloods}
 use Rattle.meaning_ranks.proofs.CurrentLemmas.{AreTold, region_told, region_first}
 use Rattle.meaning_ranks.proofs.CurrentLemmas as currents
@@ -40,8 +40,9 @@ use Rattle.meaning_ranks.proofs.PlaceLemmas.{IsAt, behind, inside_at, part_at}
 use Rattle.zpl_lowering.specs.Where.{Slotted, SlotCurrents, Where}
 use Rattle.zpl_lowering.specs.Statement as low
 use Rattle.lowering_runs.specs.Seen.{Spot}
-use Rattle.lowering_runs.specs.Suits.{SuitsStmt, SuitAll, SuitsForm, SuitArms, SuitsElse}
+use Rattle.lowering_runs.specs.Suits.{SuitsStmtBy, SuitAllBy, SuitsFormBy, SuitArmsBy, SuitsElseBy}
 use Rattle.lowering_runs.proofs.StatementLemmas.{role_scalar, false_choice, contains_first, contains_later}
+use Rattle.operator_runs.specs.Served.{AnyTest}
 use Rattle.prefix_runs.specs.Opens.{AreGivenPosts}
 use Rattle.prefix_runs.specs.Under.{opened_at, over_of, mean_under, IsUnder}
 use Rattle.served_places.specs.Told.{IsSlotTold, AreSlotsTold, IsSeenFrom, AreFree, place_of}
@@ -49,9 +50,10 @@ use Rattle.served_places.specs.Given.{IsSound}
 use Rattle.served_places.proofs.GivenLemmas.{prefix_opens}
 use Rattle.served_places.proofs.PrefixLemmas.{under_told}
 use Rattle.served_places.proofs.CleanLemmas.{one_with, two_with, three_with}
-use Rattle.shown_programs.specs.Text.{HasSmallInner, HaveSmallPrefixes, behind_prefixes, IsShownStmt, AreShown, IsShownForm, AreShownArms, IsShownElse}
+use Rattle.shown_programs.specs.Text.{HasSmallInner, HaveSmallPrefixes, behind_prefixes, IsTestText, IsShownStmt, AreShown, IsShownForm, AreShownArms, IsShownElse}
 use Rattle.shown_programs.proofs.BoundedLemmas.{IsBoundedAt, bounded_under, known_limited}
 use Rattle.shown_programs.proofs.CallLemmas.{setup, IsKnownAt}
+use Rattle.shown_programs.proofs.OperatedLemmas.{operated_alone}
 
 -- ---- regions of the shapes that slots have
 
@@ -142,6 +144,11 @@ reach_behind : (prefixes : List Prefix) (place inner : Place) → visits.IsUnder
 reach_behind [] place inner visits.Itself = refl
 reach_behind (prefix ∷ rest) place inner (visits.Behind over deeper) =
     reach_behind rest (mean.under_prefix place prefix over) inner deeper
+
+-- one whose tests have rank 0
+ranked_choice : (b : Bool) (place : Place) (form : Form) → b ≡ false → IsRankedTested b place form
+    → IsRankedTested false place form
+ranked_choice b place form e h = subst (λ (c : Bool). IsRankedTested c place form) e h
 
 -- vectors that stand in brackets have no fault
 abbrev pub AreGivenInner : Known → Inner → Type 0
@@ -353,6 +360,61 @@ module _ (program : Program) (settings : List Setting) (laws : Laws program)
               (place_of w environment answer currents edge) shapes shattered result) prefix m) ≡ [])
               same h.0.under.floods
 
+    -- ---- tests
+
+    module _ (text : List ℕ) (around : Shapes) (spots : List Spot) (w : Where)
+        (environment : Environment) (answer : ℕ) (currents : Currents) (edge : Option Edge)
+        (shapes : Shapes) (known : Here w shapes) (seen : IsSeenFrom spots w environment currents)
+        (shattered : Rank) (result : Option Base) where
+      abbrev tested : Place
+      tested = place_of w environment answer currents edge
+
+      abbrev test_reach : Reach
+      test_reach = reach_at tested shapes shattered result
+
+      test_suits : (test : Expr) → IsTestText test → IsProperScalar tested TestRole test
+          → IsRanked tested TestRole test
+          → Each (IsHere program text around) (whole_sites test_reach TestRole test)
+          → AnyTest test w tested
+      test_suits test (inl scalar) p r sites = inl (role_scalar tested TestRole test scalar p)
+      test_suits test (inr folded) p r sites =
+          inr (operated_alone spots w environment answer currents edge shapes seen known.told shattered
+          result test (whole_rank test_reach TestRole test) folded (
+            subst (λ (k : Rank). IsOfRank tested k test) p.0 r,
+            subst (λ (k : Rank). IsProper tested k test) p.0 p.1,
+          )
+          (each_free program text around
+          (expr_sites test_reach (whole_rank test_reach TestRole test) test) sites.1))
+
+      -- the test of a `while` or a `repeat`
+      while_suits : (at : ℕ) (prefixes : List Prefix) (test : Expr) (body : Stmts)
+          → Inside program text around test_reach at prefixes (While test body) → IsTestText test
+          → IsProperScalar tested TestRole test → IsRanked tested TestRole test
+          → AnyTest test w tested
+      while_suits at prefixes test body (InStmt sites) t p r =
+          test_suits test t p r
+          (each_left (IsHere program text around) (whole_sites test_reach TestRole test)
+          (stmts_sites (inside test_reach (test_rank test_reach test)) body) sites.1)
+
+      repeat_suits : (at : ℕ) (prefixes : List Prefix) (body : Stmts) (until : ℕ) (test : Expr)
+          → Inside program text around test_reach at prefixes (Repeat body until test)
+          → IsTestText test → IsProperScalar tested TestRole test → IsRanked tested TestRole test
+          → AnyTest test w tested
+      repeat_suits at prefixes body until test (InStmt sites) t p r =
+          test_suits test t p r
+          (each_right (IsHere program text around)
+          (stmts_sites (inside test_reach (test_rank test_reach test)) body)
+          (whole_sites test_reach TestRole test) sites.1)
+
+      if_sites : (at : ℕ) (prefixes : List Prefix) (arms : Arms) (otherwise : Otherwise)
+          → Inside program text around test_reach at prefixes (If arms otherwise)
+          → Each (IsHere program text around)
+          (arms_sites test_reach (inside test_reach (arms_rank test_reach arms)) arms)
+      if_sites at prefixes arms otherwise (InStmt sites) =
+          let within = inside test_reach (arms_rank test_reach arms) in
+          each_left (IsHere program text around) (arms_sites test_reach within arms)
+          (otherwise_sites within otherwise) sites.1
+
     -- ---- statements
 
     module _ (Leaf : ℕ → Form → Where → Place → Type 0) (Text : Reach → Form → Type 0)
@@ -375,13 +437,13 @@ module _ (program : Program) (settings : List Setting) (laws : Laws program)
             → IsBoundedAt (place_of w environment answer currents edge)
             → IsShownStmt Text (reach_of (place_of w environment answer currents edge)) stmt
             → IsGivenStmt own_setup.known stmt
-            → SuitsStmt IsUnder Leaf stmt w (place_of w environment answer currents edge)
+            → SuitsStmtBy IsUnder AnyTest Leaf stmt w (place_of w environment answer currents edge)
         stmt_suits (Prefixed at prefixes form) spots w environment answer currents edge shapes here
             visited known seen bounded text given =
             let place = place_of w environment answer currents edge in
             let stmt = Prefixed at prefixes form in
             under_suits environment answer spots here.shattered here.result form
-            (λ inner there. SuitsForm IsUnder Leaf at form inner there) (low.is_border form) prefixes w
+            (λ inner there. SuitsFormBy IsUnder AnyTest Leaf at form inner there) (low.is_border form) prefixes w
             currents edge shapes (clean_of program here.text here.around _ here.sites.0) here.tree.0
             here.fits (proper place stmt visited) (ranked place stmt visited) text.0
             (subst (λ (s : Setup). AreGivenPrefixes s.known prefixes) (sym known.owned) given.0) known
@@ -413,7 +475,7 @@ module _ (program : Program) (settings : List Setting) (laws : Laws program)
             → IsPlaced at prefixes form spots w environment answer currents edge shapes
             → IsShownForm Text (reach_of (place_of w environment answer currents edge)) form
             → IsGivenForm own_setup.known form
-            → SuitsForm IsUnder Leaf at form w (place_of w environment answer currents edge)
+            → SuitsFormBy IsUnder AnyTest Leaf at form w (place_of w environment answer currents edge)
         form_suits (Assign name op value) at prefixes spots w environment answer currents edge shapes h
             text given =
             leaf_suits at prefixes (Assign name op value) spots w environment answer currents edge shapes
@@ -438,13 +500,20 @@ module _ (program : Program) (settings : List Setting) (laws : Laws program)
             let parts = placed_part at prefixes form spots w environment answer currents edge shapes h in
             let tests = false_choice (is_shattered (reach_of place) form) place form text.0
             (placed_proper at prefixes form spots w environment answer currents edge shapes h) in
+            let ranks = ranked_choice (is_shattered (reach_of place) form) place form text.0
+            (placed_ranked at prefixes form spots w environment answer currents edge shapes h) in
+            let own = reach_at place shapes h.here.shattered h.here.result in
+            let sites = if_sites h.here.text h.here.around spots w environment answer currents edge
+            shapes h.known h.seen h.here.shattered h.here.result at prefixes arms otherwise
+            (placed_inside at prefixes form spots w environment answer currents edge shapes h) in
             inr (
               text.0,
               (
-                arms_suit arms spots w environment answer currents edge shapes
+                arms_suit arms h.here.text h.here.around h.here.shattered h.here.result
+                    (inside own (arms_rank own arms)) spots w environment answer currents edge shapes
                     (λ part c. parts part
                     (Contains-append_left (arms_parts arms) (else_parts otherwise) part c))
-                    tests h.known h.seen h.bounded text.1.0 given.0,
+                    tests ranks sites h.known h.seen h.bounded text.1.0 given.0,
                 else_suits otherwise spots w environment answer currents edge shapes
                     (λ part c. parts part
                     (Contains-append_right (arms_parts arms) (else_parts otherwise) part c))
@@ -461,10 +530,15 @@ module _ (program : Program) (settings : List Setting) (laws : Laws program)
             let form = While test body in
             let p = false_choice (is_shattered (reach_of place) form) place form text.0
             (placed_proper at prefixes form spots w environment answer currents edge shapes h) in
+            let r = ranked_choice (is_shattered (reach_of place) form) place form text.0
+            (placed_ranked at prefixes form spots w environment answer currents edge shapes h) in
             inr (
               text.0,
               (
-                role_scalar place TestRole test text.1.0 p,
+                while_suits h.here.text h.here.around spots w environment answer currents edge shapes
+                    h.known h.seen h.here.shattered h.here.result at prefixes test body
+                    (placed_inside at prefixes form spots w environment answer currents edge shapes h)
+                    text.1.0 p r,
                 all_suit body spots w environment answer currents edge shapes
                     (placed_part at prefixes form spots w environment answer currents edge shapes h)
                     h.known h.seen h.bounded text.1.1 given,
@@ -480,10 +554,15 @@ module _ (program : Program) (settings : List Setting) (laws : Laws program)
             let form = Repeat body until test in
             let p = false_choice (is_shattered (reach_of place) form) place form text.0
             (placed_proper at prefixes form spots w environment answer currents edge shapes h) in
+            let r = ranked_choice (is_shattered (reach_of place) form) place form text.0
+            (placed_ranked at prefixes form spots w environment answer currents edge shapes h) in
             inr (
               text.0,
               (
-                role_scalar place TestRole test text.1.0 p,
+                repeat_suits h.here.text h.here.around spots w environment answer currents edge shapes
+                    h.known h.seen h.here.shattered h.here.result at prefixes body until test
+                    (placed_inside at prefixes form spots w environment answer currents edge shapes h)
+                    text.1.0 p r,
                 all_suit body spots w environment answer currents edge shapes
                     (placed_part at prefixes form spots w environment answer currents edge shapes h)
                     h.known h.seen h.bounded text.1.1 given,
@@ -523,7 +602,7 @@ module _ (program : Program) (settings : List Setting) (laws : Laws program)
             → IsBoundedAt (place_of w environment answer currents edge)
             → AreShown Text (reach_of (place_of w environment answer currents edge)) stmts
             → AreGivenStmts own_setup.known stmts
-            → SuitAll IsUnder Leaf stmts w (place_of w environment answer currents edge)
+            → SuitAllBy IsUnder AnyTest Leaf stmts w (place_of w environment answer currents edge)
         all_suit NoStmt spots w environment answer currents edge shapes parts known seen bounded text given =
             tt
         all_suit (ThenStmt first rest) spots w environment answer currents edge shapes parts known seen
@@ -536,31 +615,45 @@ module _ (program : Program) (settings : List Setting) (laws : Laws program)
                   text.1 given.1,
             )
 
-        arms_suit : (arms : Arms) (spots : List Spot) (w : Where) (environment : Environment)
-            (answer : ℕ) (currents : Currents) (edge : Option Edge) (shapes : Shapes)
+        arms_suit : (arms : Arms) (own_text : List ℕ) (around : Shapes) (shattered : Rank)
+            (result : Option Base) (within : Reach) (spots : List Spot) (w : Where)
+            (environment : Environment) (answer : ℕ) (currents : Currents) (edge : Option Edge)
+            (shapes : Shapes)
             → Parts (arms_parts arms) (place_of w environment answer currents edge) shapes
             → AreProperTests (place_of w environment answer currents edge) arms
+            → AreRankedTests (place_of w environment answer currents edge) arms
+            → Each (IsHere program own_text around)
+            (arms_sites (reach_at (place_of w environment answer currents edge) shapes shattered
+            result) within arms)
             → Here w shapes → IsSeenFrom spots w environment currents
             → IsBoundedAt (place_of w environment answer currents edge)
             → AreShownArms Text (reach_of (place_of w environment answer currents edge)) arms
             → AreGivenArms own_setup.known arms
-            → SuitArms IsUnder Leaf arms w (place_of w environment answer currents edge)
-        arms_suit NoArm spots w environment answer currents edge shapes parts tests known seen bounded
-            text given = tt
-        arms_suit (ThenArm (Tested own test body) rest) spots w environment answer currents edge shapes
-            parts tests known seen bounded text given =
-            let place = place_of w environment answer currents edge in (
+            → SuitArmsBy IsUnder AnyTest Leaf arms w (place_of w environment answer currents edge)
+        arms_suit NoArm own_text around shattered result within spots w environment answer currents edge
+            shapes parts tests ranks sites known seen bounded text given = tt
+        arms_suit (ThenArm (Tested own test body) rest) own_text around shattered result within spots w
+            environment answer currents edge shapes parts tests ranks sites known seen bounded text
+            given =
+            let reach = reach_at (place_of w environment answer currents edge) shapes shattered result in
+            let Sited = IsHere program own_text around in
+            let own_sites = whole_sites reach TestRole test ++ stmts_sites within body in
+            let others = arms_sites reach within rest in (
               (
-                role_scalar place TestRole test text.0.0 tests.0,
+                test_suits own_text around spots w environment answer currents edge shapes known seen
+                    shattered result test text.0.0 tests.0 ranks.0
+                    (each_left Sited (whole_sites reach TestRole test) (stmts_sites within body)
+                    (each_left Sited own_sites others sites)),
                 all_suit body spots w environment answer currents edge shapes
                     (λ part c. parts part
                     (Contains-append_left (list_of body) (arms_parts rest) part c)) known seen
                     bounded text.0.1 given.0,
               ),
-              arms_suit rest spots w environment answer currents edge shapes
+              arms_suit rest own_text around shattered result within spots w environment answer currents
+                  edge shapes
                   (λ part c. parts part
-                  (Contains-append_right (list_of body) (arms_parts rest) part c)) tests.1 known seen
-                  bounded text.1 given.1,
+                  (Contains-append_right (list_of body) (arms_parts rest) part c)) tests.1 ranks.1
+                  (each_right Sited own_sites others sites) known seen bounded text.1 given.1,
             )
 
         else_suits : (otherwise : Otherwise) (spots : List Spot) (w : Where)
@@ -571,7 +664,7 @@ module _ (program : Program) (settings : List Setting) (laws : Laws program)
             → IsBoundedAt (place_of w environment answer currents edge)
             → IsShownElse Text (reach_of (place_of w environment answer currents edge)) otherwise
             → IsGivenElse own_setup.known otherwise
-            → SuitsElse IsUnder Leaf otherwise w (place_of w environment answer currents edge)
+            → SuitsElseBy IsUnder AnyTest Leaf otherwise w (place_of w environment answer currents edge)
         else_suits NoElse spots w environment answer currents edge shapes parts known seen bounded text
             given = tt
         else_suits (Else body) spots w environment answer currents edge shapes parts known seen bounded

@@ -59,6 +59,33 @@ abbrev pub IsReturnText : Stmt → Type 0
 IsReturnText (Prefixed at [] form) = IsReturnForm form
 IsReturnText (Prefixed at (prefix ∷ prefixes) form) = ⊥
 
+-- ---- values with full folds
+
+-- A value with full folds, also in one another's operands, and with no other operators over regions.
+-- Numbers are of 64 bits.
+abbrev pub IsFoldedExpr : Expr → Type 0
+IsFoldedExpr (Number at value) = IsInteger value
+IsFoldedExpr (Truth at value) = Unit {0}
+IsFoldedExpr (Coord at k) = Unit {0}
+IsFoldedExpr (Named at name) = Unit {0}
+IsFoldedExpr (Shifted at name shift) = Unit {0}
+IsFoldedExpr (Paren at inside) = IsFoldedExpr inside
+IsFoldedExpr (Neg at operand) = IsFoldedExpr operand
+IsFoldedExpr (Not at operand) = IsFoldedExpr operand
+IsFoldedExpr (Abs at operand) = IsFoldedExpr operand
+IsFoldedExpr (Pair at op left right) = IsFoldedExpr left × IsFoldedExpr right
+IsFoldedExpr (Reduce at operator NoBracket operand) = IsFoldedExpr operand
+IsFoldedExpr (Reduce at operator (Bracketed source) operand) = ⊥
+IsFoldedExpr (Around at name shift) = ⊥
+IsFoldedExpr (Remap at name indices) = ⊥
+IsFoldedExpr (Call at name actuals) = ⊥
+IsFoldedExpr (Scan at operator along operand) = ⊥
+IsFoldedExpr (Flood at source operand) = ⊥
+
+-- the test of an `if`, a `while` or a `repeat` that isn't shattered: of scalars, or with full folds
+abbrev pub IsTestText : Expr → Type 0
+IsTestText test = IsScalarExpr test ⊎ IsFoldedExpr test
+
 -- ---- statements, for any forms that have no statements in them, or are shattered
 
 module _ (IsLeaf : Reach → Form → Type 0) where
@@ -82,11 +109,11 @@ module _ (IsLeaf : Reach → Form → Type 0) where
     IsShownForm reach (While test body) =
         IsLeaf reach (While test body)
         ⊎ ((is_shattered reach (While test body) ≡ false)
-        × (IsScalarExpr test × AreShown reach body))
+        × (IsTestText test × AreShown reach body))
     IsShownForm reach (Repeat body until test) =
         IsLeaf reach (Repeat body until test)
         ⊎ ((is_shattered reach (Repeat body until test) ≡ false)
-        × (IsScalarExpr test × AreShown reach body))
+        × (IsTestText test × AreShown reach body))
     IsShownForm reach (For head body) =
         (IsScalarExpr head.first × IsScalarExpr head.last × IsScalarExpr (step_expr head.step))
         × AreShown reach body
@@ -99,7 +126,7 @@ module _ (IsLeaf : Reach → Form → Type 0) where
     AreShownArms reach (ThenArm first rest) = IsShownArm reach first × AreShownArms reach rest
 
     pub IsShownArm : Reach → Arm → Type 0
-    IsShownArm reach (Tested at test body) = IsScalarExpr test × AreShown reach body
+    IsShownArm reach (Tested at test body) = IsTestText test × AreShown reach body
 
     pub IsShownElse : Reach → Otherwise → Type 0
     IsShownElse reach NoElse = Unit {0}
@@ -240,28 +267,7 @@ abbrev pub IsShatteredForm : Reach → Form → Type 0
 IsShatteredForm reach form =
     (is_shattered reach form ≡ true) × Every IsPlainPart (form_parts form)
 
--- A value with full folds, also in one another's operands, and with no other operators over regions.
--- Numbers are of 64 bits.
-abbrev pub IsFoldedExpr : Expr → Type 0
-IsFoldedExpr (Number at value) = IsInteger value
-IsFoldedExpr (Truth at value) = Unit {0}
-IsFoldedExpr (Coord at k) = Unit {0}
-IsFoldedExpr (Named at name) = Unit {0}
-IsFoldedExpr (Shifted at name shift) = Unit {0}
-IsFoldedExpr (Paren at inside) = IsFoldedExpr inside
-IsFoldedExpr (Neg at operand) = IsFoldedExpr operand
-IsFoldedExpr (Not at operand) = IsFoldedExpr operand
-IsFoldedExpr (Abs at operand) = IsFoldedExpr operand
-IsFoldedExpr (Pair at op left right) = IsFoldedExpr left × IsFoldedExpr right
-IsFoldedExpr (Reduce at operator NoBracket operand) = IsFoldedExpr operand
-IsFoldedExpr (Reduce at operator (Bracketed source) operand) = ⊥
-IsFoldedExpr (Around at name shift) = ⊥
-IsFoldedExpr (Remap at name indices) = ⊥
-IsFoldedExpr (Call at name actuals) = ⊥
-IsFoldedExpr (Scan at operator along operand) = ⊥
-IsFoldedExpr (Flood at source operand) = ⊥
-
--- texts and scalars are printed, with such values
+-- texts and scalars are printed, with values that have full folds
 abbrev pub AreFoldedTexts : Reach → List Item → Type 0
 AreFoldedTexts reach [] = Unit {0}
 AreFoldedTexts reach (Str bytes ∷ items) = AreFoldedTexts reach items

@@ -20,7 +20,7 @@ use Rattle.zpl_binding.specs.Settings.{Setting}
 use Rattle.lowering_runs.specs.Scalars.{IsScalarExpr}
 use Rattle.served_places.specs.Told.{IsPlainExpr}
 use Rattle.served_places.specs.Given.{HasSmall, HasSmallDim, HaveSmallDims}
-use Rattle.shown_programs.specs.Text.{HasSmallInner, HaveSmallPrefixes, behind_prefixes, IsReturnText, IsShownStmt, AreShown, IsShownForm, AreShownArms, IsShownArm, IsShownElse, AreAnsweringTexts, IsAnsweringText, IsPlainPart, IsFoldedExpr, AreFoldedTexts, AreCallTexts, IsAskedText, ArePrintedTexts, IsPrintedText, IsLeafForm, IsShownRoutine, IsShownCall, IsShownProgram}
+use Rattle.shown_programs.specs.Text.{HasSmallInner, HaveSmallPrefixes, behind_prefixes, IsReturnText, IsShownStmt, AreShown, IsShownForm, AreShownArms, IsShownArm, IsShownElse, AreAnsweringTexts, IsAnsweringText, IsPlainPart, IsFoldedExpr, AreFoldedTexts, AreCallTexts, IsAskedText, ArePrintedTexts, IsPrintedText, IsLeafForm, IsTestText, IsShownRoutine, IsShownCall, IsShownProgram}
 use Rattle.shown_texts.specs.Numerals.{IsSmallExpr, AreSmallExprs, IsSmallInner, IsSmallDim, AreSmallDims, IsSmallPrefix, IsSmallStep, IsSmallItem, IsSmallStmt, AreSmallStmts, IsSmallForm, AreSmallArms, IsSmallArm, IsSmallElse, IsSmallProcedure, IsSmallDecl, HasSmallNumerals}
 use Rattle.shown_texts.specs.Forms.{HasScalarForm, HasPlainForm, HasFoldedForm, HaveFoldedForms, HasPartForm, IsShatteredOr, HaveCallForms, HasPrintForm, HavePrintForms, HasAskingForm, HasAssignForm, HasStmtForm, HaveForms, HasForm, HaveArmForms, HasArmForm, HasElseForm, HasReturnForm, HaveAnswerForms, HasAnswerForm, HasRoutineForm, HasChainForms, HasShownForms}
 use Rattle.shown_texts.proofs.ValueLemmas.{values_small}
@@ -277,14 +277,14 @@ module _ (IsCallable IsCalled : Bool → List ℕ → Type 0)
           × IsShownElse (IsLeafForm IsCalled) reach otherwise) forms small
           (λ own. (arms_shown reach arms own.0 small.0, else_shown reach otherwise own.1 small.1))
       form_shown reach (While test body) forms small =
-          either reach (While test body) (HasScalarForm test × HaveForms IsCallable reach body)
-          (IsScalarExpr test × AreShown (IsLeafForm IsCalled) reach body) forms small
-          (λ own. (scalar_shown test own.0 small.0, stmts_shown reach body own.1 small.1))
+          either reach (While test body) (HasFoldedForm test × HaveForms IsCallable reach body)
+          (IsTestText test × AreShown (IsLeafForm IsCalled) reach body) forms small
+          (λ own. (inr (folded_shown test own.0 small.0), stmts_shown reach body own.1 small.1))
       form_shown reach (Repeat body until test) forms small =
           either reach (Repeat body until test)
-          (HasScalarForm test × HaveForms IsCallable reach body)
-          (IsScalarExpr test × AreShown (IsLeafForm IsCalled) reach body) forms small
-          (λ own. (scalar_shown test own.0 small.1, stmts_shown reach body own.1 small.0))
+          (HasFoldedForm test × HaveForms IsCallable reach body)
+          (IsTestText test × AreShown (IsLeafForm IsCalled) reach body) forms small
+          (λ own. (inr (folded_shown test own.0 small.1), stmts_shown reach body own.1 small.0))
       form_shown reach (For head body) forms small = (
         (
           scalar_shown head.first forms.0.0 small.0.0,
@@ -309,7 +309,7 @@ module _ (IsCallable IsCalled : Bool → List ℕ → Type 0)
       arm_shown : (reach : Reach) (arm : Arm) → HasArmForm IsCallable reach arm
           → IsSmallArm arm → IsShownArm (IsLeafForm IsCalled) reach arm
       arm_shown reach (Tested at test body) forms small =
-          (scalar_shown test forms.0 small.0, stmts_shown reach body forms.1 small.1)
+          (inr (folded_shown test forms.0 small.0), stmts_shown reach body forms.1 small.1)
 
       else_shown : (reach : Reach) (otherwise : Otherwise)
           → HasElseForm IsCallable reach otherwise → IsSmallElse otherwise

@@ -153,10 +153,10 @@ module _ (IsCallable : Bool → List ℕ → Type 0) where
         (HaveArmForms reach arms × HasElseForm reach otherwise)
     HasForm reach (While test body) =
         IsShatteredOr reach (While test body)
-        (HasScalarForm test × HaveForms reach body)
+        (HasFoldedForm test × HaveForms reach body)
     HasForm reach (Repeat body until test) =
         IsShatteredOr reach (Repeat body until test)
-        (HasScalarForm test × HaveForms reach body)
+        (HasFoldedForm test × HaveForms reach body)
     HasForm reach (For head body) =
         (HasScalarForm head.first × HasScalarForm head.last × HasScalarForm (step_expr head.step))
         × HaveForms reach body
@@ -170,7 +170,7 @@ module _ (IsCallable : Bool → List ℕ → Type 0) where
     HaveArmForms reach (ThenArm first rest) = HasArmForm reach first × HaveArmForms reach rest
 
     pub HasArmForm : Reach → Arm → Type 0
-    HasArmForm reach (Tested at test body) = HasScalarForm test × HaveForms reach body
+    HasArmForm reach (Tested at test body) = HasFoldedForm test × HaveForms reach body
 
     pub HasElseForm : Reach → Otherwise → Type 0
     HasElseForm reach NoElse = ⊤
