@@ -1,4 +1,3 @@
-use Rattle.std.proofs.Common.{List}
 use Rattle.zpl_names.specs.Accepted.{IsFaultless}
 use Rattle.zpl_names.specs.Declared.{routines_of}
 use Rattle.zpl_names.proofs.ListLemmas.{among_from_Contains}
