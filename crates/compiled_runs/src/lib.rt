@@ -26,11 +26,11 @@ use planned_runs::plans_keep_runs;
 use settled_runs::flat_passes_keep_runs;
 
 /// The plan behind all passes that a build asks for shows what the flat program shows in front of
-/// them, and so does its node code: over all links that the build's code is for, and for every bound
-/// on jumps and on the turns of loops in groups, unless the flat program comes to a row that may not
-/// stand there. Of its tables is asked that they are a flat program's and have no cells yet, and
-/// what their type gives; and of the settled ones all that plans ask. So it is for the code that a
-/// program is compiled to.
+/// them, and so does its node code: over all links that the build's code is for, and for every
+/// bound on jumps and on the turns of loops in groups, unless the flat program comes to a row that
+/// may not stand there. Of its tables is asked that they are a flat program's and have no cells
+/// yet, and what their type gives; and of the settled ones all that plans ask. So it is for the
+/// code that a program is compiled to.
 pub fn compiled_plans_keep_runs()
     ensures plan { (build : Build) (flat : Code) → IsGrid build.grid →
         IsFlat flat → IsTyped flat → flat.cells ≡ 0 → IsSharable (settled build flat) →

@@ -52,11 +52,11 @@ pub fn what_is_named_is_given()
     procedures_are_there();
 }
 
-/// The flat program of a program of scalars and arrays, under prefixes, with borders, and with
-/// calls that copy arrays and answer, shows what the program means: with some bound on its jumps,
-/// where each loop that is entered may make n turns, it prints the same bytes and ends in the same
-/// way as the meaning does with n turns. The bound is few times the steps, or more turns are wanted
-/// and it is at least n.
+/// The flat program of a program, all of whose statements are of the forms that are proved
+/// (`IsShownProgram`), shows what the program means: with some bound on its jumps, where each loop
+/// that is entered may make n turns, it prints the same bytes and ends in the same way as the
+/// meaning does with n turns. The bound is few times the steps, or more turns are wanted and it is
+/// at least n.
 pub fn array_programs_are_shown()
     ensures shown { (program : Program) (settings : List Setting) → IsProgram program →
         IsFaultless program → IsAcceptedWith program settings →
