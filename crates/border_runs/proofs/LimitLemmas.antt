@@ -58,18 +58,18 @@ met_few lo hi from to step align h low high =
       length-coordinates (Range from to step align) h,
     )
 
-abs-negated : (d : ℤ) → unsigned_abs (neg_ℤ d) ≡ unsigned_abs d
+pub abs-negated : (d : ℤ) → unsigned_abs (neg_ℤ d) ≡ unsigned_abs d
 abs-negated (pos zero) = refl
 abs-negated (pos (suc n)) = refl
 abs-negated (negsuc n) = refl
 
-above_within : (d lo hi : ℤ) → pos 0 <ℤ d → unsigned_abs d ≤ extent lo hi
+pub above_within : (d lo hi : ℤ) → pos 0 <ℤ d → unsigned_abs d ≤ extent lo hi
     → lo ≤ℤ ((hi -ℤ d) +ℤ pos 1)
 above_within d lo hi up wide =
     let is = pos-unsigned_abs d (omega (arith, ints, up)) in
     omega (arith, ints, clamps, wide, pos-extent lo hi, is)
 
-below_within : (d lo hi : ℤ) → d <ℤ pos 0 → unsigned_abs d ≤ extent lo hi
+pub below_within : (d lo hi : ℤ) → d <ℤ pos 0 → unsigned_abs d ≤ extent lo hi
     → ((lo -ℤ d) -ℤ pos 1) ≤ℤ hi
 below_within d lo hi down wide =
     let size : unsigned_abs (neg_ℤ d) ≤ extent lo hi =
@@ -134,7 +134,7 @@ times_left (suc a) zero d h = absurd (omega (arith, h))
 times_left (suc a) (suc b) d h =
     let more = times_left a b d (omega (arith, h)) in omega (arith, more)
 
-product : (a b c d : ℕ) → a ≤ b → c ≤ d → a * c ≤ b * d
+pub product : (a b c d : ℕ) → a ≤ b → c ≤ d → a * c ≤ b * d
 product a b c d f g =
     let one : a * c ≤ a * d = times a c d g in
     let other : a * d ≤ b * d = times_left a b d f in
@@ -203,7 +203,7 @@ opposite_dim d (Range lo hi step align) =
     ∙ ap (λ (m : ℕ). int_eq d (pos 0) || (int_eq step (pos 1) && nat_le m (extent lo hi)))
     (abs-negated d)
 
-opposite_dims : (rank : ℕ) (v : List ℤ) (dims : List Dim)
+pub opposite_dims : (rank : ℕ) (v : List ℤ) (dims : List Dim)
     → each_border_conforms (components rank (map neg_ℤ v)) dims
     ≡ each_border_conforms (components rank v) dims
 opposite_dims rank [] dims = refl

@@ -6,11 +6,13 @@ use Rattle.std.specs.Prelude.{slice_get}
 use Rattle.zpl_region.specs.declared.regions.Region.{Region}
 use Rattle.zpl_arrays.specs.Array.{Array}
 use Rattle.zpl_tree.specs.Syntax.{Expr, Exprs, NoExpr, ThenExpr}
+use Rattle.zpl_names.specs.Counts.{exprs_nodes}
 use Rattle.zpl_names.specs.Kinds.{Formal, ScalarFormal, ArrayFormal}
 use Rattle.zpl_meaning.specs.Store.{Store, Thing, Scalar, ArrayAt, Fixed, array_at}
 use Rattle.zpl_meaning.specs.Context.{Place}
 use Rattle.zpl_meaning.specs.Calls as mean_calls
 use Rattle.zpl_meaning.specs.Calls.{Handed, actual_thing, copied_array, handed_on}
+use Rattle.row_runs.specs.Straight.{Every}
 use Rattle.flat_form.specs.Whole.{Whole}
 use Rattle.zpl_lowering.specs.Where.{Stored, Where, Next}
 use Rattle.zpl_lowering.specs.Statement as low
@@ -19,7 +21,7 @@ use Rattle.lowering_runs.specs.Seen.{Spot, Sight, array_in, numbered, scalar_in,
 use Rattle.lowering_runs.specs.Stands.{IsKnown, Stands}
 use Rattle.lowering_runs.specs.Frames.{seen_given}
 use Rattle.lowering_runs.proofs.CallLemmas.{actual_known, actual_seen, referred_is}
-use Rattle.lowering_runs.proofs.ListLemmas.{AreScalarsAt, Hold}
+use Rattle.lowering_runs.specs.Values.{Hold, nodes_of}
 use Rattle.lowering_runs.proofs.ValueLemmas.{known_thing}
 use Rattle.array_runs.proofs.StoredLemmas.{seen_at}
 use Rattle.call_runs.specs.Taken.{AllGiven, AreCallActuals, IsArrayThing}
@@ -39,24 +41,36 @@ unseen_array spots (Some (Scalar place)) h = h
 unseen_array spots (Some (Fixed value)) h = h
 unseen_array spots None h = h
 
-module _ (sight : Sight) (w : Where) (start : Whole) where
+module _ (IsValue : Expr → Where → Place → Type 0) (sight : Sight) (w : Where) (start : Whole) where
   abbrev place : Place
   place = seen_place sight w start
 
   -- the actuals of parameters that take the value of a scalar
-  pub value_scalars : (formals : List Formal) (actuals : Exprs)
-      → AreCallActuals place formals actuals
-      → AreScalarsAt place (low.value_exprs w formals actuals)
-  value_scalars [] actuals h = tt
-  value_scalars (formal ∷ formals) NoExpr h = tt
-  value_scalars (ScalarFormal false base ∷ formals) (ThenExpr actual rest) h =
-      (h.0, value_scalars formals rest h.1)
-  value_scalars (ScalarFormal true base ∷ formals) (ThenExpr actual rest) h =
-      value_scalars formals rest h.1
-  value_scalars (ArrayFormal true base shape ∷ formals) (ThenExpr actual rest) h =
-      value_scalars formals rest h.1
-  value_scalars (ArrayFormal false base shape ∷ formals) (ThenExpr actual rest) h =
-      value_scalars formals rest h.1
+  pub values_are : (formals : List Formal) (actuals : Exprs)
+      → AreCallActuals IsValue w place formals actuals
+      → Every (λ placed. IsValue placed.expr w place) (low.value_exprs w formals actuals)
+  values_are [] actuals h = tt
+  values_are (formal ∷ formals) NoExpr h = tt
+  values_are (ScalarFormal false base ∷ formals) (ThenExpr actual rest) h =
+      (h.0, values_are formals rest h.1)
+  values_are (ScalarFormal true base ∷ formals) (ThenExpr actual rest) h =
+      values_are formals rest h.1
+  values_are (ArrayFormal true base shape ∷ formals) (ThenExpr actual rest) h =
+      values_are formals rest h.1
+  values_are (ArrayFormal false base shape ∷ formals) (ThenExpr actual rest) h =
+      values_are formals rest h.1
+
+  -- they have no more nodes than all actuals
+  pub values_counted : (formals : List Formal) (actuals : Exprs)
+      → nodes_of (low.value_exprs w formals actuals) ≤ exprs_nodes actuals
+  values_counted [] actuals = omega arith
+  values_counted (formal ∷ formals) NoExpr = omega arith
+  values_counted (ScalarFormal false base ∷ formals) (ThenExpr actual rest) =
+      let h = values_counted formals rest in omega (arith, h)
+  values_counted (ScalarFormal true base ∷ formals) (ThenExpr actual rest) =
+      let h = values_counted formals rest in omega (arith, h)
+  values_counted (ArrayFormal by_ref base shape ∷ formals) (ThenExpr actual rest) =
+      let h = values_counted formals rest in omega (arith, h)
 
   module _ (next : Next) (stands : Stands sight.spots w next) where
     known_actual : (actual : Expr) (found : Thing) → actual_thing w.environment actual ≡ Some found
@@ -129,7 +143,7 @@ module _ (sight : Sight) (w : Where) (start : Whole) where
     -- ---- all parameters
 
     pub handed_is : (formals : List Formal) (actuals : Exprs) (k : ℕ) (values : List ℤ)
-        (store : Store) (after : Whole) → AreCallActuals place formals actuals
+        (store : Store) (after : Whole) → AreCallActuals IsValue w place formals actuals
         → length values ≡ length (low.value_exprs w formals actuals) → Hold after k values
         → store ≡ seen_store sight.spots w.numbers.arrays after
         → handed_on place.environment store formals actuals values
@@ -168,7 +182,7 @@ module _ (sight : Sight) (w : Where) (start : Whole) where
     referring_given (Some thing) k to more h g = (h thing refl, g)
 
     pub given_is : (formals : List Formal) (actuals : Exprs) (k to : ℕ)
-        → AreCallActuals place formals actuals
+        → AreCallActuals IsValue w place formals actuals
         → k + length (low.value_exprs w formals actuals) ≤ to
         → Given_ k (low.given_to w k formals actuals) to
     given_is [] actuals k to h le = omega (arith, le)

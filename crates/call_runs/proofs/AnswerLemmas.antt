@@ -5,7 +5,8 @@ use Rattle.std.proofs.lemmas.List.{length-map}
 use Rattle.std.specs.Option.{option_map}
 use Rattle.std.specs.Prelude.{slice_get, slice_index_or, slice_set, take}
 use Rattle.zpl_nums.specs.declared.ends.End.TheVariants.{Done}
-use Rattle.zpl_tree.specs.Syntax.{Name, Call, Exprs, Assign}
+use Rattle.zpl_tree.specs.Syntax.{Name, Expr, Call, Exprs, Assign}
+use Rattle.zpl_names.specs.Counts.{exprs_nodes}
 use Rattle.zpl_names.specs.Kinds.{Formal}
 use Rattle.zpl_names.specs.Scope.{kind_of}
 use Rattle.zpl_arrays.specs.Array.{Array}
@@ -35,20 +36,21 @@ use Rattle.lowering_runs.specs.Seen.{Spot, Sight, Answer, array_in, numbered, pl
 use Rattle.lowering_runs.specs.Run.{does}
 use Rattle.lowering_runs.specs.Agrees.{Agrees, Going, Trapping, Shattering, Wanting}
 use Rattle.lowering_runs.specs.Stands.{HasRoom, IsLike, Stands}
-use Rattle.lowering_runs.specs.Goes.{World, Goes, lowering}
+use Rattle.lowering_runs.specs.Goes.{World, Goes, ValuesGo, lowering}
+use Rattle.lowering_runs.specs.Values.{AreSet, nodes_of}
 use Rattle.lowering_runs.specs.Frames.{seen_given}
 use Rattle.lowering_runs.specs.Called.{calling_at}
 use Rattle.lowering_runs.proofs.CallLemmas.{value_meant}
 use Rattle.lowering_runs.proofs.FitLemmas.{room_first, room_here, room_rest}
 use Rattle.lowering_runs.proofs.FrameLemmas.{cut_seen, map_append}
-use Rattle.lowering_runs.proofs.HeadLemmas.{left_length, valued_agrees, with_computed_value}
-use Rattle.lowering_runs.proofs.ListLemmas.{meant_length}
+use Rattle.lowering_runs.proofs.HeadLemmas.{phased_length, with_computed_value}
+use Rattle.lowering_runs.proofs.ListLemmas.{filled_agrees, meant_length}
 use Rattle.lowering_runs.proofs.NumberLemmas.{get_some, number_below}
 use Rattle.lowering_runs.proofs.RowLemmas.{like_variable, set}
 use Rattle.lowering_runs.proofs.ValueLemmas.{known_thing, thing_seen}
 use Rattle.call_runs.specs.Answered.{CallsAnswer, HasAnswered, IsAnswered}
 use Rattle.call_runs.specs.Taken.{AllGiven}
-use Rattle.call_runs.proofs.ActualLemmas.{given_earlier, given_is, handed_is, value_scalars}
+use Rattle.call_runs.proofs.ActualLemmas.{given_earlier, given_is, handed_is, values_are, values_counted}
 
 -- ---- something behind a run that only changes the store
 
@@ -146,10 +148,10 @@ module _ (now mid : Whole) where
 
 -- ---- the statement
 
-module _ (IsCalled : Where → List Given → Called → Type 0) (world : World)
-    (calls : CallsAnswer IsCalled world) (at offset : ℕ) (name callee : Name) (actuals : Exprs)
+module _ (IsCalled : Where → List Given → Called → Type 0) (IsValue : Expr → Where → Place → Type 0)
+    (world : World) (calls : CallsAnswer IsCalled world) (valued : ValuesGo world IsValue) (at offset : ℕ) (name callee : Name) (actuals : Exprs)
     (sight : Sight) (w : Where) (next : Next) (start : Whole) (stands : Stands sight.spots w next)
-    (served : IsAnswered IsCalled name callee actuals w (seen_place sight w start))
+    (served : IsAnswered IsCalled IsValue name callee actuals w (seen_place sight w start))
     (room : HasRoom world.tables next
     (low.lowered_form (lowering world w) next at (Assign name None (Call offset callee actuals))))
     (store : Store) (now : Whole) (like : IsLike world.tables sight.spots w next start store now) where
@@ -232,7 +234,7 @@ module _ (IsCalled : Where → List Given → Called → Type 0) (world : World)
 
   target_agrees : (thing : Option Thing) → thing_of w.environment name.text ≡ thing
       → IsVariable (option_map (seen_thing sight.spots) thing)
-      → Agrees Like world.turns 0
+      → Agrees Like world.turns (exprs_nodes actuals)
       (out.with_value (mean_calls.actuals_in p store callee actuals) store line
       (whole_answer (option_map (seen_thing sight.spots) thing)))
       (code.then_do (does world.tables world.turns own.code now)
@@ -265,56 +267,61 @@ module _ (IsCalled : Where → List Given → Called → Type 0) (world : World)
       }) in
       let inside = room_rest world.tables next (code.Rows []) own
       (world.code (calling_at w callee.text givens k line) more) rooms in
-      let scalars = value_scalars sight w start formals actuals served.actuals_are in
-      let many = left_length sight w line next start exprs scalars in
+      let few = values_counted IsValue sight w start formals actuals in
+      let many = phased_length w line next exprs in
       let thing : Option Thing = Some (Scalar (place_of sight.spots q)) in
       let course = code.then_do (does world.tables world.turns own.code now) (coded k) in
-      subst (λ (m : ℕ). Agrees Like world.turns 0
+      subst (λ (m : ℕ). Agrees Like world.turns (exprs_nodes actuals)
       (out.with_value (mean_calls.actuals_in p store callee actuals) store line (whole_answer thing))
       (code.then_do (does world.tables world.turns own.code now) (coded m))) (sym target_is)
-      (subst (λ (o : Outcome). Agrees Like world.turns 0 o course)
+      (subst (λ (o : Outcome). Agrees Like world.turns (exprs_nodes actuals) o course)
       (sym (with_computed_value (scalars_in p store (mean_calls.value_exprs p formals actuals)) handed
       store line (whole_answer thing)))
-      (subst (λ (es : List Placed). Agrees Like world.turns 0
+      (subst (λ (es : List Placed). Agrees Like world.turns (exprs_nodes actuals)
       (out.with_value (scalars_in p store es) store line (λ vs. whole_answer thing (handed vs)))
       course) (value_meant sight w start formals actuals)
-      (valued_agrees world.tables world.turns sight w next start stands line exprs scalars Like
-      world.turns 0
-      (room_first world.tables next (code.Rows []) own
-      (world.code (calling_at w callee.text givens k line) more) rooms) store now like
-      (λ vs. whole_answer thing (handed vs)) (coded k)
-      (λ vs after l are. answers q k found (omega (arith, lt, here)) inside vs after l
-      (handed_is sight w start next stands formals actuals first vs store after served.actuals_are
-      are.as_many are.held l.seen)
-      (are.as_many ∙ sym (meant_length exprs)
+      (filled_agrees Like (λ vs after. Like store after × AreSet first (length exprs) vs after)
+      world.turns 0 line (nodes_of exprs) (exprs_nodes actuals) store
+      (λ vs. whole_answer thing (handed vs)) (coded k) _ _ (omega (arith, few))
+      (λ vs after l. answers q k found (omega (arith, lt, here)) inside vs after l.0
+      (handed_is IsValue sight w start next stands formals actuals first vs store after
+      served.actuals_are l.1.as_many l.1.held l.0.seen)
+      (l.1.as_many ∙ sym (meant_length exprs)
       ∙ ap (λ es. length es) (value_meant sight w start formals actuals))
       (given_earlier (length (numbered sight.spots)) w.numbers.arrays next.scalars first givens
       more.scalars (omega arith)
-      (given_is sight w start next stands formals actuals first more.scalars served.actuals_are
-      (omega (arith, many))))))))
+      (given_is IsValue sight w start next stands formals actuals first more.scalars served.actuals_are
+      (omega (arith, many)))))
+      (valued sight w next start line exprs stands
+      (values_are IsValue sight w start formals actuals served.actuals_are)
+      (room_first world.tables next (code.Rows []) own
+      (world.code (calling_at w callee.text givens k line) more) rooms) store now like))))
   target_agrees (Some (ArrayAt q home)) e v = absurd v
   target_agrees (Some (Fixed value)) e v = absurd v
   target_agrees None e v = absurd v
 
-  here_agrees : Agrees Like world.turns 0
+  here_agrees : Agrees Like world.turns (exprs_nodes actuals)
       (out.with_value (mean_calls.actuals_in p store callee actuals) store line
       (whole_answer (thing_of p.environment name.text)))
       (code.then_do (does world.tables world.turns own.code now) (coded (low.target_of w name)))
   here_agrees =
       let seen = thing_seen sight.spots w.environment.names name.text in
-      subst (λ (t : Option Thing). Agrees Like world.turns 0
+      subst (λ (t : Option Thing). Agrees Like world.turns (exprs_nodes actuals)
       (out.with_value (mean_calls.actuals_in p store callee actuals) store line (whole_answer t))
       (code.then_do (does world.tables world.turns own.code now) (coded (low.target_of w name))))
       (sym seen)
       (target_agrees (thing_of w.environment name.text) refl
       (subst (λ (t : Option Thing). IsVariable t) seen served.variable))
 
-pub answer_goes : (IsCalled : Where → List Given → Called → Type 0) (world : World)
-    → CallsAnswer IsCalled world → (at offset : ℕ) (name callee : Name) (actuals : Exprs)
-    → Goes world (IsAnswered IsCalled name callee actuals)
+pub answer_goes : (IsCalled : Where → List Given → Called → Type 0)
+    (IsValue : Expr → Where → Place → Type 0) (world : World)
+    → CallsAnswer IsCalled world → ValuesGo world IsValue
+    → (at offset : ℕ) (name callee : Name) (actuals : Exprs)
+    → Goes world (IsAnswered IsCalled IsValue name callee actuals)
     (λ c store. mean.exec_form c world.turns at (Assign name None (Call offset callee actuals)) store)
-    (λ l next. low.lowered_form l next at (Assign name None (Call offset callee actuals))) 0
-answer_goes IsCalled world calls at offset name callee actuals sight w next start stands served room
-    store now like =
-    here_agrees IsCalled world calls at offset name callee actuals sight w next start stands served
-    room store now like
+    (λ l next. low.lowered_form l next at (Assign name None (Call offset callee actuals)))
+    (exprs_nodes actuals)
+answer_goes IsCalled IsValue world calls valued at offset name callee actuals sight w next start stands
+    served room store now like =
+    here_agrees IsCalled IsValue world calls valued at offset name callee actuals sight w next start
+    stands served room store now like

@@ -1,89 +1,50 @@
 -- A `return`, and bodies that end in one.
-use Rattle.std.proofs.Common.{◌≡◌, refl, sym, subst, arith, ℕ, ◌+◌, ◌≤◌}
-use Rattle.std.proofs.Common.{List, [], ◌∷◌, None, Some}
-use Rattle.zpl_tree.specs.Syntax.{Expr, Stmt, Prefixed, Stmts, NoStmt, ThenStmt, Form, Assign, Invoke, Block, If, While, Repeat, For, Border, Write, Return}
-use Rattle.zpl_names.specs.Sites.{Role, Result}
-use Rattle.zpl_meaning.specs.Store as mean_store
+use Rattle.std.proofs.Common.{◌≡◌, sym, ◌∙◌, ap, subst, arith, ℕ, ◌+◌, ◌*◌, ◌≤◌}
+use Rattle.std.specs.Prelude.{slice_set}
+use Rattle.std.proofs.Common.{List, []}
+use Rattle.zpl_tree.specs.Syntax.{Expr, Prefix, Stmt, Prefixed, Stmts, NoStmt, ThenStmt, Form, Assign, Invoke, Block, If, While, Repeat, For, Border, Write, Return}
+use Rattle.zpl_names.specs.Counts.{expr_nodes, own_nodes}
 use Rattle.zpl_meaning.specs.Store.{Store}
 use Rattle.zpl_meaning.specs.Context.{Place}
-use Rattle.zpl_meaning.specs.Phases.{scalar_in as value_in}
 use Rattle.zpl_meaning.specs.Outcome as out
 use Rattle.zpl_meaning.specs.Outcome.{Outcome}
 use Rattle.zpl_meaning.specs.Statement as mean
 use Rattle.zpl_meaning.specs.Statement.{Context}
 use Rattle.node_form.specs.declared.tables.Tables.{Tables}
-use Rattle.node_form.specs.Expression.{Expression, words_of}
-use Rattle.node_form.specs.Value.{scalar_operands, value_of}
-use Rattle.row_runs.specs.Run.{Step}
 use Rattle.row_runs.specs.Structured as code
-use Rattle.row_runs.specs.Structured.{Course, by_step, rows_do}
 use Rattle.flat_form.specs.Whole.{Whole}
-use Rattle.zpl_lowering.specs.Where.{Where, Next, line_of}
-use Rattle.zpl_lowering.specs.Words.{scalar_code}
-use Rattle.zpl_lowering.specs.Lowered.{Lowered, behind, first_left, followed, phased, rows_alone}
+use Rattle.zpl_lowering.specs.Where.{Where, Next}
+use Rattle.zpl_lowering.specs.Lowered.{Lowered, behind, followed, rows_alone}
 use Rattle.zpl_lowering.specs.Statement as low
 use Rattle.zpl_lowering.specs.Statement.{Lowering}
 use Rattle.lowering_runs.specs.Seen.{Sight, seen_place}
-use Rattle.lowering_runs.specs.Run.{decide, does, step}
+use Rattle.lowering_runs.specs.Run.{does}
 use Rattle.lowering_runs.specs.Agrees.{Agrees}
-use Rattle.lowering_runs.specs.Scalars.{IsScalarAt}
 use Rattle.lowering_runs.specs.Stands.{HasRoom, IsBefore, IsLike, Stands}
 use Rattle.lowering_runs.specs.Goes.{World, Goes, context, lowering}
-use Rattle.lowering_runs.proofs.AgreeLemmas.{alike_agrees, counting_agrees, goes_agrees, then_agrees}
-use Rattle.lowering_runs.proofs.BareLemmas.{all_passed}
-use Rattle.lowering_runs.proofs.FitLemmas.{before_behind, like_anew, like_then, place_kept, room_first, room_here, room_rest, stands_on}
-use Rattle.lowering_runs.proofs.RowLemmas.{set_step}
-use Rattle.lowering_runs.proofs.ScalarLemmas.{scalar_same, set_agrees}
-use Rattle.lowering_runs.proofs.ValueLemmas.{scalar_unseen}
+use Rattle.lowering_runs.proofs.AgreeLemmas.{alike_agrees, counting_agrees, goes_agrees, then_agrees, weaker_agrees}
+use Rattle.lowering_runs.proofs.FitLemmas.{IsCarried, before_behind, like_anew, like_then, place_kept, room_first, room_rest, stands_on}
+use Rattle.lowering_runs.proofs.SuitLemmas.{own_counted}
+use Rattle.prefix_runs.specs.Under.{IsUnder}
+use Rattle.prefix_runs.proofs.UnderLemmas.{under_goes_to}
 use Rattle.call_runs.specs.Answered.{HasReturned, Returns}
 use Rattle.call_runs.specs.Ending.{AreAnswering, IsAnsweringBody, IsBlockAnswering, IsReturned, IsReturning}
 
--- ---- `return`
+-- ---- behind prefixes
 
-module _ (tables : Tables) (n : ℕ) (sight : Sight) (w : Where) (next : Next) (start : Whole)
-    (stands : Stands sight.spots w next) (room : next.scalars ≤ tables.scalars) where
-  returned_agrees : (role : Role) (line : ℕ) (expr : Expr)
-      → IsScalarAt (seen_place sight w start) expr → (store : Store) (now : Whole)
-      → IsLike tables sight.spots w next start store now
-      → Agrees (HasReturned tables sight w next start) n 0
-      (out.with_value (value_in (seen_place sight w start) store role expr) store line (λ answer.
-      out.goes_on (mean_store.with_scalar store sight.answer answer)))
-      (does tables n
-      (low.lowered_scalar w line next (low.placed_in w role expr) (Some w.result)).code now)
-  returned_agrees role line expr s store now like =
-      let placed = low.placed_in w role expr in
-      let p = seen_place sight w start in
-      let passed = all_passed w line next (placed ∷ [])
-      (scalar_unseen sight.spots w.environment expr s.1, tt) in
-      let phases = phased w line next (placed ∷ []) in
-      let Ended = HasReturned tables sight w next start in
-      let outcome : Outcome =
-      out.with_value (value_in p store role expr) store line (λ answer.
-      out.goes_on (mean_store.with_scalar store sight.answer answer)) in
-      subst (λ (c : Course Whole). Agrees Ended n 0 outcome
-      (code.then_do c (rows_do (step tables n) (decide tables n)
-      (low.set_row line (first_left phases.left) (Some w.result))))) (sym (passed.still tables n now))
-      (subst (λ (left : List Expression). Agrees Ended n 0 outcome
-      (rows_do (step tables n) (decide tables n)
-      (low.set_row line (first_left left) (Some w.result)) now)) (sym passed.left_is)
-      (subst (λ (one : Step Whole). Agrees Ended n 0 outcome
-      (by_step now one (λ after. code.goes_on after)))
-      (sym (set_step tables n now like.sound.settled w.result line (words_of (scalar_code w expr))))
-      (set_agrees tables n sight w next start stands room Ended n 0 w.result line store now
-      (value_in p store role expr)
-      (value_of (scalar_operands now.scalars) (words_of (scalar_code w expr)))
-      (λ answer. out.goes_on (mean_store.with_scalar store sight.answer answer))
-      (λ after. code.goes_on after)
-      (scalar_same tables n sight w next start stands room role expr s store now like)
-      (λ v f. goes_agrees Ended n _ _ (record {
-        before = store;
-        mid = now;
-        value = v;
-        integer = f;
-        like = like;
-        store_is = refl;
-        whole_is = refl;
-      })))))
+-- what is behind a `return` is so for an earlier place
+pub returned_carried : (tables : Tables)
+    → IsCarried tables (λ sight w next start. HasReturned tables sight w next start)
+returned_carried tables sight w inner next more start now same f s v h = record {
+  before = h.before;
+  mid = h.mid;
+  value = h.value;
+  integer = h.integer;
+  like = f h.before h.mid h.like;
+  store_is = h.store_is;
+  whole_is = h.whole_is
+      ∙ ap (λ k. record h.mid { scalars = slice_set h.mid.scalars k h.value }) same;
+}
 
 -- ---- runs that end in one
 
@@ -91,50 +52,40 @@ module _ (world : World) where
   abbrev Ended : Sight → Where → Next → Whole → Store → Whole → Type 0
   Ended sight w next start = HasReturned world.tables sight w next start
 
-  form_returns : (at : ℕ) (form : Form)
-      → Returns world (λ w p. IsReturned form p)
-      (λ c store. mean.exec_form c world.turns at form store)
-      (λ l next. low.lowered_form l next at form) 0
-  form_returns at (Return value) sight w next start stands served room store now like =
-      returned_agrees world.tables world.turns sight w next start stands
-      (room_here world.tables next (low.lowered_form (lowering world w) next at (Return value)) room)
-      (Result None) (line_of w at) value served store now like
-  form_returns at (Assign name op value) sight w next start stands h room store now like = absurd h
-  form_returns at (Invoke name actuals) sight w next start stands h room store now like = absurd h
-  form_returns at (Block body) sight w next start stands h room store now like = absurd h
-  form_returns at (If arms otherwise) sight w next start stands h room store now like = absurd h
-  form_returns at (While test body) sight w next start stands h room store now like = absurd h
-  form_returns at (Repeat body until test) sight w next start stands h room store now like = absurd h
-  form_returns at (For head body) sight w next start stands h room store now like = absurd h
-  form_returns at (Border kind names) sight w next start stands h room store now like = absurd h
-  form_returns at (Write ends items) sight w next start stands h room store now like = absurd h
-
   -- where it never is
   never : (IsServed : Where → Place → Type 0) (run : Context → Store → Outcome)
-      (made : Lowering → Next → Lowered) → ((w : Where) (p : Place) → IsServed w p → ⊥)
-      → Returns world IsServed run made 0
-  never IsServed run made none sight w next start stands served room store now like =
+      (made : Lowering → Next → Lowered) (spare : ℕ) → ((w : Where) (p : Place) → IsServed w p → ⊥)
+      → Returns world IsServed run made spare
+  never IsServed run made spare none sight w next start stands served room store now like =
       absurd (none w (seen_place sight w start) served)
 
-  -- it counts steps
-  counted : (IsServed : Where → Place → Type 0) (steps : ℕ) (run : Context → Store → Outcome)
-      (made : Lowering → Next → Lowered) → Returns world IsServed run made 0
+  -- it counts steps, which make room for jumps
+  counted : (IsServed : Where → Place → Type 0) (spare steps : ℕ) (run : Context → Store → Outcome)
+      (made : Lowering → Next → Lowered) → spare ≤ 2 * (1 + steps)
+      → Returns world IsServed run made spare
       → Returns world IsServed (λ c store. out.counting (1 + steps) (run c store)) made 0
-  counted IsServed steps run made returns sight w next start stands served room store now like =
-      counting_agrees (Ended sight w next start) world.turns 0 0 (1 + steps) _ _ (omega arith)
+  counted IsServed spare steps run made le returns sight w next start stands served room store now
+      like =
+      counting_agrees (Ended sight w next start) world.turns spare 0 (1 + steps) _ _ (omega (arith, le))
       (returns sight w next start stands served room store now like)
 
-  pub return_goes : (stmt : Stmt)
-      → Returns world (λ w p. IsReturning stmt p) (λ c store. mean.exec c world.turns stmt store)
-      (λ l next. low.lowered l next stmt) 0
-  return_goes (Prefixed at [] form) =
-      counted (λ w p. IsReturned form p) (mean.nodes_under [] form)
+  -- behind prefixes
+  under_returns : (prefixes : List Prefix) (form : Form) (at : ℕ) (IsServed : Where → Place → Type 0)
+      → Returns world IsServed (λ c store. mean.exec_form c world.turns at form store)
+      (λ l next. low.lowered_form l next at form) (1 + own_nodes form)
+      → Returns world (IsUnder (low.is_border form) prefixes IsServed)
+      (λ c store. mean.exec c world.turns (Prefixed at prefixes form) store)
+      (λ l next. low.lowered l next (Prefixed at prefixes form)) 0
+  under_returns prefixes form at IsServed returns =
+      counted (IsUnder (low.is_border form) prefixes IsServed) (1 + own_nodes form)
+      (mean.nodes_under prefixes form)
+      (λ c store. mean.under c prefixes store (λ inner. mean.exec_form inner world.turns at form store))
+      (λ l next. low.lowered_under (low.is_border form) l next prefixes
+      (λ inner after. low.lowered_form inner after at form))
+      (let h = own_counted world prefixes form in omega (arith, h))
+      (under_goes_to world Ended (returned_carried world.tables) (low.is_border form) prefixes IsServed
       (λ c store. mean.exec_form c world.turns at form store)
-      (λ l next. low.lowered_form l next at form) (form_returns at form)
-  return_goes (Prefixed at (prefix ∷ prefixes) form) =
-      never (λ w p. IsReturning (Prefixed at (prefix ∷ prefixes) form) p)
-      (λ c store. mean.exec c world.turns (Prefixed at (prefix ∷ prefixes) form) store)
-      (λ l next. low.lowered l next (Prefixed at (prefix ∷ prefixes) form)) (λ w p h. h)
+      (λ l next. low.lowered_form l next at form) (1 + own_nodes form) returns)
 
   -- behind something else
   behind_returns : (IsServed : Where → Place → Type 0) (run : Context → Store → Outcome)
@@ -199,62 +150,101 @@ module _ (world : World) where
       store now like)
       (λ s v k. goes_agrees (Ended sight w next start) world.turns s v k)
 
-  -- ---- bodies
+  -- ---- a `return`
 
-  module _ (IsServed : Stmt → Where → Place → Type 0)
-      (goes : (stmt : Stmt) → Goes world (IsServed stmt)
-      (λ c store. mean.exec c world.turns stmt store) (λ l next. low.lowered l next stmt) 0) where
-    all_return : (stmts : Stmts)
-        → Returns world (AreAnswering IsServed stmts)
-        (λ c store. mean.exec_all c world.turns stmts store)
-        (λ l next. low.lowered_all l next stmts) 0
-    all_return NoStmt =
-        never (AreAnswering IsServed NoStmt) (λ c store. mean.exec_all c world.turns NoStmt store)
-        (λ l next. low.lowered_all l next NoStmt) (λ w p h. h)
-    all_return (ThenStmt first NoStmt) =
-        last_returns (λ w p. IsReturning first p) (λ c store. mean.exec c world.turns first store)
-        (λ l next. low.lowered l next first) (return_goes first)
-    all_return (ThenStmt first (ThenStmt second rest)) =
-        two_return (IsServed first) (AreAnswering IsServed (ThenStmt second rest))
-        (λ c store. mean.exec c world.turns first store)
-        (λ c store. mean.exec_all c world.turns (ThenStmt second rest) store)
-        (λ l next. low.lowered l next first)
-        (λ l next. low.lowered_all l next (ThenStmt second rest)) (goes first)
-        (all_return (ThenStmt second rest))
+  module _ (IsValue : Expr → Where → Place → Type 0)
+      (returns : (at : ℕ) (value : Expr) → Returns world (IsValue value)
+      (λ c store. mean.exec_form c world.turns at (Return value) store)
+      (λ l next. low.lowered_form l next at (Return value)) (1 + expr_nodes value)) where
+    no_return : (at : ℕ) (form : Form) → ((w : Where) (p : Place) → IsReturned IsValue form w p → ⊥)
+        → Returns world (IsReturned IsValue form)
+        (λ c store. mean.exec_form c world.turns at form store)
+        (λ l next. low.lowered_form l next at form) (1 + own_nodes form)
+    no_return at form none =
+        never (IsReturned IsValue form) (λ c store. mean.exec_form c world.turns at form store)
+        (λ l next. low.lowered_form l next at form) (1 + own_nodes form) none
 
-    no_block : (at : ℕ) (form : Form)
-        → ((w : Where) (p : Place) → IsBlockAnswering IsServed form w p → ⊥)
-        → Returns world (IsBlockAnswering IsServed form)
+    form_returns : (at : ℕ) (form : Form)
+        → Returns world (IsReturned IsValue form)
         (λ c store. mean.exec_form c world.turns at form store)
-        (λ l next. low.lowered_form l next at form) 0
-    no_block at form none =
-        never (IsBlockAnswering IsServed form)
-        (λ c store. mean.exec_form c world.turns at form store)
-        (λ l next. low.lowered_form l next at form) none
+        (λ l next. low.lowered_form l next at form) (1 + own_nodes form)
+    form_returns at (Return value) = returns at value
+    form_returns at (Assign name op value) = no_return at (Assign name op value) (λ w p h. h)
+    form_returns at (Invoke name actuals) = no_return at (Invoke name actuals) (λ w p h. h)
+    form_returns at (Block body) = no_return at (Block body) (λ w p h. h)
+    form_returns at (If arms otherwise) = no_return at (If arms otherwise) (λ w p h. h)
+    form_returns at (While test body) = no_return at (While test body) (λ w p h. h)
+    form_returns at (Repeat body until test) = no_return at (Repeat body until test) (λ w p h. h)
+    form_returns at (For head body) = no_return at (For head body) (λ w p h. h)
+    form_returns at (Border kind names) = no_return at (Border kind names) (λ w p h. h)
+    form_returns at (Write ends items) = no_return at (Write ends items) (λ w p h. h)
 
-    block_returns : (at : ℕ) (form : Form)
-        → Returns world (IsBlockAnswering IsServed form)
-        (λ c store. mean.exec_form c world.turns at form store)
-        (λ l next. low.lowered_form l next at form) 0
-    block_returns at (Block body) = all_return body
-    block_returns at (Return value) = no_block at (Return value) (λ w p h. h)
-    block_returns at (Assign name op value) = no_block at (Assign name op value) (λ w p h. h)
-    block_returns at (Invoke name actuals) = no_block at (Invoke name actuals) (λ w p h. h)
-    block_returns at (If arms otherwise) = no_block at (If arms otherwise) (λ w p h. h)
-    block_returns at (While test body) = no_block at (While test body) (λ w p h. h)
-    block_returns at (Repeat body until test) = no_block at (Repeat body until test) (λ w p h. h)
-    block_returns at (For head body) = no_block at (For head body) (λ w p h. h)
-    block_returns at (Border kind names) = no_block at (Border kind names) (λ w p h. h)
-    block_returns at (Write ends items) = no_block at (Write ends items) (λ w p h. h)
+    return_goes : (stmt : Stmt)
+        → Returns world (IsReturning IsValue stmt) (λ c store. mean.exec c world.turns stmt store)
+        (λ l next. low.lowered l next stmt) 0
+    return_goes (Prefixed at prefixes form) =
+        under_returns prefixes form at (IsReturned IsValue form) (form_returns at form)
 
-    pub body_returns : (body : Stmt)
-        → Returns world (IsAnsweringBody IsServed body)
-        (λ c store. mean.exec c world.turns body store) (λ l next. low.lowered l next body) 0
-    body_returns (Prefixed at [] form) =
-        counted (IsBlockAnswering IsServed form) (mean.nodes_under [] form)
-        (λ c store. mean.exec_form c world.turns at form store)
-        (λ l next. low.lowered_form l next at form) (block_returns at form)
-    body_returns (Prefixed at (prefix ∷ prefixes) form) =
-        never (IsAnsweringBody IsServed (Prefixed at (prefix ∷ prefixes) form))
-        (λ c store. mean.exec c world.turns (Prefixed at (prefix ∷ prefixes) form) store)
-        (λ l next. low.lowered l next (Prefixed at (prefix ∷ prefixes) form)) (λ w p h. h)
+    -- ---- bodies
+
+    module _ (IsServed : Stmt → Where → Place → Type 0)
+        (goes : (stmt : Stmt) → Goes world (IsServed stmt)
+        (λ c store. mean.exec c world.turns stmt store) (λ l next. low.lowered l next stmt) 0) where
+      all_return : (stmts : Stmts)
+          → Returns world (AreAnswering IsValue IsServed stmts)
+          (λ c store. mean.exec_all c world.turns stmts store)
+          (λ l next. low.lowered_all l next stmts) 0
+      all_return NoStmt =
+          never (AreAnswering IsValue IsServed NoStmt)
+          (λ c store. mean.exec_all c world.turns NoStmt store)
+          (λ l next. low.lowered_all l next NoStmt) 0 (λ w p h. h)
+      all_return (ThenStmt first NoStmt) =
+          last_returns (IsReturning IsValue first) (λ c store. mean.exec c world.turns first store)
+          (λ l next. low.lowered l next first) (return_goes first)
+      all_return (ThenStmt first (ThenStmt second rest)) =
+          two_return (IsServed first) (AreAnswering IsValue IsServed (ThenStmt second rest))
+          (λ c store. mean.exec c world.turns first store)
+          (λ c store. mean.exec_all c world.turns (ThenStmt second rest) store)
+          (λ l next. low.lowered l next first)
+          (λ l next. low.lowered_all l next (ThenStmt second rest)) (goes first)
+          (all_return (ThenStmt second rest))
+
+      no_block : (at : ℕ) (form : Form)
+          → ((w : Where) (p : Place) → IsBlockAnswering IsValue IsServed form w p → ⊥)
+          → Returns world (IsBlockAnswering IsValue IsServed form)
+          (λ c store. mean.exec_form c world.turns at form store)
+          (λ l next. low.lowered_form l next at form) (1 + own_nodes form)
+      no_block at form none =
+          never (IsBlockAnswering IsValue IsServed form)
+          (λ c store. mean.exec_form c world.turns at form store)
+          (λ l next. low.lowered_form l next at form) (1 + own_nodes form) none
+
+      more_returns : (stmts : Stmts)
+          → Returns world (AreAnswering IsValue IsServed stmts)
+          (λ c store. mean.exec_all c world.turns stmts store)
+          (λ l next. low.lowered_all l next stmts) 1
+      more_returns stmts sight w next start stands served room store now like =
+          weaker_agrees (Ended sight w next start) world.turns world.turns 0 1 _ _ (omega arith)
+          (omega arith) (all_return stmts sight w next start stands served room store now like)
+
+      block_returns : (at : ℕ) (form : Form)
+          → Returns world (IsBlockAnswering IsValue IsServed form)
+          (λ c store. mean.exec_form c world.turns at form store)
+          (λ l next. low.lowered_form l next at form) (1 + own_nodes form)
+      block_returns at (Block body) = more_returns body
+      block_returns at (Return value) = no_block at (Return value) (λ w p h. h)
+      block_returns at (Assign name op value) = no_block at (Assign name op value) (λ w p h. h)
+      block_returns at (Invoke name actuals) = no_block at (Invoke name actuals) (λ w p h. h)
+      block_returns at (If arms otherwise) = no_block at (If arms otherwise) (λ w p h. h)
+      block_returns at (While test body) = no_block at (While test body) (λ w p h. h)
+      block_returns at (Repeat body until test) = no_block at (Repeat body until test) (λ w p h. h)
+      block_returns at (For head body) = no_block at (For head body) (λ w p h. h)
+      block_returns at (Border kind names) = no_block at (Border kind names) (λ w p h. h)
+      block_returns at (Write ends items) = no_block at (Write ends items) (λ w p h. h)
+
+      pub body_returns : (body : Stmt)
+          → Returns world (IsAnsweringBody IsValue IsServed body)
+          (λ c store. mean.exec c world.turns body store) (λ l next. low.lowered l next body) 0
+      body_returns (Prefixed at prefixes form) =
+          under_returns prefixes form at (IsBlockAnswering IsValue IsServed form)
+          (block_returns at form)

@@ -1,7 +1,9 @@
 -- A call as a statement goes as its code does, where what is called does.
 use Rattle.std.proofs.Common.{◌≡◌, ℕ, ◌+◌, ℤ, List, [], map, length, sym, ap, ◌∙◌, subst, arith}
-use Rattle.zpl_tree.specs.Syntax.{Name, Exprs, Invoke}
+use Rattle.zpl_tree.specs.Syntax.{Name, Expr, Exprs, Invoke}
+use Rattle.zpl_names.specs.Counts.{exprs_nodes}
 use Rattle.zpl_names.specs.Scope.{kind_of}
+use Rattle.zpl_meaning.specs.Context.{Place}
 use Rattle.zpl_meaning.specs.Outcome as out
 use Rattle.zpl_meaning.specs.Outcome.{Outcome}
 use Rattle.zpl_meaning.specs.Phases.{scalars_in}
@@ -18,21 +20,23 @@ use Rattle.lowering_runs.specs.Seen.{numbered, seen_place}
 use Rattle.lowering_runs.specs.Run.{does}
 use Rattle.lowering_runs.specs.Agrees.{Agrees}
 use Rattle.lowering_runs.specs.Stands.{HasRoom, IsLike}
-use Rattle.lowering_runs.specs.Goes.{World, Goes}
+use Rattle.lowering_runs.specs.Goes.{World, Goes, ValuesGo}
+use Rattle.lowering_runs.specs.Values.{AreSet, nodes_of}
 use Rattle.lowering_runs.specs.Frames.{seen_given}
 use Rattle.lowering_runs.specs.Called.{calling_at}
 use Rattle.lowering_runs.proofs.CallLemmas.{value_meant}
 use Rattle.lowering_runs.proofs.FitLemmas.{room_first, room_rest}
-use Rattle.lowering_runs.proofs.HeadLemmas.{left_length, valued_agrees, with_computed_value}
-use Rattle.lowering_runs.proofs.ListLemmas.{meant_length}
+use Rattle.lowering_runs.proofs.HeadLemmas.{phased_length, with_computed_value}
+use Rattle.lowering_runs.proofs.ListLemmas.{filled_agrees, meant_length}
 use Rattle.call_runs.specs.Taken.{CallsGo, IsInvoked}
-use Rattle.call_runs.proofs.ActualLemmas.{given_earlier, given_is, handed_is, value_scalars}
+use Rattle.call_runs.proofs.ActualLemmas.{given_earlier, given_is, handed_is, values_are, values_counted}
 
-module _ (IsCalled : Where → List Given → Called → Type 0) (world : World)
-    (calls : CallsGo IsCalled world) (at : ℕ) (name : Name) (actuals : Exprs) where
-  pub invoke_goes : Goes world (IsInvoked IsCalled name actuals)
+module _ (IsCalled : Where → List Given → Called → Type 0) (IsValue : Expr → Where → Place → Type 0)
+    (world : World) (calls : CallsGo IsCalled world) (valued : ValuesGo world IsValue) (at : ℕ)
+    (name : Name) (actuals : Exprs) where
+  pub invoke_goes : Goes world (IsInvoked IsCalled IsValue name actuals)
       (λ c store. mean.exec_form c world.turns at (Invoke name actuals) store)
-      (λ l next. low.lowered_form l next at (Invoke name actuals)) 0
+      (λ l next. low.lowered_form l next at (Invoke name actuals)) (exprs_nodes actuals)
   invoke_goes sight w next start stands served room store now like =
       let tables = world.tables in
       let n = world.turns in
@@ -47,39 +51,43 @@ module _ (IsCalled : Where → List Given → Called → Type 0) (world : World)
       let more = behind next own in
       let givens = low.given_to w first formals actuals in
       let calling = calling_at w name.text givens 0 line in
-      let scalars = value_scalars sight w start formals actuals served.actuals_are in
+      let few = values_counted IsValue sight w start formals actuals in
       let rooms : HasRoom tables next (joined (code.Rows []) own (world.code calling more)) =
       record { scalars = room.scalars; slots = room.slots; arrays = room.arrays; temps = room.temps } in
-      let many = left_length sight w line next start exprs scalars in
+      let many = phased_length w line next exprs in
       let handed : List ℤ → List Handed =
       λ values. handed_on p.environment store formals actuals values in
       let called : List Handed → Called = λ hs.
       record { name = name.text; actuals = hs; currents = p.currents; result = 0 } in
-      subst (λ (o : Outcome). Agrees Like n 0 o
+      subst (λ (o : Outcome). Agrees Like n (exprs_nodes actuals) o
       (code.then_do (does tables n own.code now) (does tables n (world.code calling more).code)))
       (sym (with_computed_value (scalars_in p store (mean_calls.value_exprs p formals actuals)) handed
       store line (λ hs. world.call (called hs) store)))
-      (subst (λ (es : List Placed). Agrees Like n 0
+      (subst (λ (es : List Placed). Agrees Like n (exprs_nodes actuals)
       (out.with_value (scalars_in p store es) store line (λ vs. world.call (called (handed vs)) store))
       (code.then_do (does tables n own.code now) (does tables n (world.code calling more).code)))
       (value_meant sight w start formals actuals)
-      (valued_agrees tables n sight w next start stands line exprs scalars Like n 0
-      (room_first tables next (code.Rows []) own (world.code calling more) rooms) store now like
-      (λ vs. world.call (called (handed vs)) store) (does tables n (world.code calling more).code)
-      (λ vs after l are.
+      (filled_agrees Like (λ vs after. Like store after × AreSet first (length exprs) vs after) n 0
+      line (nodes_of exprs) (exprs_nodes actuals) store
+      (λ vs. world.call (called (handed vs)) store) (does tables n (world.code calling more).code) _ _
+      (omega (arith, few))
+      (λ vs after l.
       let same : handed vs ≡ map (seen_given sight.spots after) givens =
-      handed_is sight w start next stands formals actuals first vs store after served.actuals_are
-      are.as_many are.held l.seen in
+      handed_is IsValue sight w start next stands formals actuals first vs store after served.actuals_are
+      l.1.as_many l.1.held l.0.seen in
       subst (λ (hs : List Handed). Agrees Like n 0 (world.call (called hs) store)
       (does tables n (world.code calling more).code after)) (sym same)
       (calls.by sight.spots w next more start name.text givens line stands
       (record { scalars = omega arith; slots = omega arith; arrays = omega arith })
       (given_earlier (length (numbered sight.spots)) w.numbers.arrays next.scalars first givens
       more.scalars (omega arith)
-      (given_is sight w start next stands formals actuals first more.scalars served.actuals_are
+      (given_is IsValue sight w start next stands formals actuals first more.scalars served.actuals_are
       (omega (arith, many))))
-      (room_rest tables next (code.Rows []) own (world.code calling more) rooms) store after l
+      (room_rest tables next (code.Rows []) own (world.code calling more) rooms) store after l.0
       (subst (λ (hs : List Handed). IsCalled w givens (called hs)) same
-      (served.from first vs store (are.as_many
+      (served.from first vs store (l.1.as_many
       ∙ sym (meant_length exprs)
-      ∙ ap (λ es. length es) (value_meant sight w start formals actuals))))))))
+      ∙ ap (λ es. length es) (value_meant sight w start formals actuals))))))
+      (valued sight w next start line exprs stands
+      (values_are IsValue sight w start formals actuals served.actuals_are)
+      (room_first tables next (code.Rows []) own (world.code calling more) rooms) store now like)))

@@ -1,7 +1,8 @@
 -- Calls among other forms.
-use Rattle.std.proofs.Common.{ℕ, List, Option, None, Some}
+use Rattle.std.proofs.Common.{ℕ, ◌+◌, List, Option, None, Some, arith}
 use Rattle.zpl_nums.specs.declared.operators.Op.{Op}
 use Rattle.zpl_tree.specs.Syntax.{Name, Expr, Number, Truth, Coord, Named, Shifted, Around, Remap, Call, Paren, Neg, Not, Abs, Pair, Reduce, Scan, Flood, Form, Assign, Invoke, Block, If, While, Repeat, For, Border, Write, Return}
+use Rattle.zpl_names.specs.Counts.{exprs_nodes}
 use Rattle.zpl_meaning.specs.Context.{Place}
 use Rattle.zpl_meaning.specs.Calls.{Called}
 use Rattle.zpl_meaning.specs.Statement as mean
@@ -9,30 +10,32 @@ use Rattle.zpl_lowering.specs.Where.{Where}
 use Rattle.zpl_lowering.specs.Statement as low
 use Rattle.zpl_lowering.specs.Statement.{Given}
 use Rattle.lowering_runs.specs.Seen.{seen_place}
-use Rattle.lowering_runs.specs.Goes.{World}
-use Rattle.lowering_runs.proofs.SuitLemmas.{FormGoes, goes_more}
+use Rattle.lowering_runs.specs.Goes.{World, ValuesGo}
+use Rattle.lowering_runs.proofs.SuitLemmas.{LeafGoes, spare_more}
 use Rattle.call_runs.specs.Answered.{CallsAnswer, IsAnswered}
 use Rattle.call_runs.specs.Leaf.{CallLeaf}
 use Rattle.call_runs.specs.Taken.{CallsGo, IsInvoked}
 use Rattle.call_runs.proofs.AnswerLemmas.{answer_goes}
 use Rattle.call_runs.proofs.InvokeLemmas.{invoke_goes}
 
-module _ (IsCalled IsAsked : Where → List Given → Called → Type 0) (world : World)
-    (calls : CallsGo IsCalled world) (answers : CallsAnswer IsAsked world) where
+module _ (IsCalled IsAsked : Where → List Given → Called → Type 0)
+    (IsValue : Expr → Where → Place → Type 0) (world : World) (calls : CallsGo IsCalled world)
+    (answers : CallsAnswer IsAsked world) (valued : ValuesGo world IsValue) where
   no_call : (at : ℕ) (form : Form)
-      → ((w : Where) (p : Place) → CallLeaf IsCalled IsAsked at form w p → ⊥)
-      → FormGoes world (CallLeaf IsCalled IsAsked) at form
+      → ((w : Where) (p : Place) → CallLeaf IsCalled IsAsked IsValue at form w p → ⊥)
+      → LeafGoes world (CallLeaf IsCalled IsAsked IsValue) at form
   no_call at form never sight w next start stands served room store now like =
       absurd (never w (seen_place sight w start) served)
 
   assigned : (at : ℕ) (name : Name) (op : Option Op) (value : Expr)
-      → FormGoes world (CallLeaf IsCalled IsAsked) at (Assign name op value)
+      → LeafGoes world (CallLeaf IsCalled IsAsked IsValue) at (Assign name op value)
   assigned at name None (Call offset callee actuals) =
-      goes_more world (IsAnswered IsAsked name callee actuals)
+      spare_more world (IsAnswered IsAsked IsValue name callee actuals)
       (λ c store. mean.exec_form c world.turns at (Assign name None (Call offset callee actuals))
       store)
       (λ l next. low.lowered_form l next at (Assign name None (Call offset callee actuals)))
-      (answer_goes IsAsked world answers at offset name callee actuals)
+      (exprs_nodes actuals) (1 + (1 + exprs_nodes actuals)) (omega arith)
+      (answer_goes IsAsked IsValue world answers valued at offset name callee actuals)
   assigned at name (Some op) value = no_call at (Assign name (Some op) value) (λ w p h. h)
   assigned at name None (Number o value) = no_call at (Assign name None (Number o value)) (λ w p h. h)
   assigned at name None (Truth o value) = no_call at (Assign name None (Truth o value)) (λ w p h. h)
@@ -57,12 +60,13 @@ module _ (IsCalled IsAsked : Where → List Given → Called → Type 0) (world 
   assigned at name None (Flood o source operand) =
       no_call at (Assign name None (Flood o source operand)) (λ w p h. h)
 
-  pub call_leaves : (at : ℕ) (form : Form) → FormGoes world (CallLeaf IsCalled IsAsked) at form
+  pub call_leaves : (at : ℕ) (form : Form) → LeafGoes world (CallLeaf IsCalled IsAsked IsValue) at form
   call_leaves at (Invoke name actuals) =
-      goes_more world (IsInvoked IsCalled name actuals)
+      spare_more world (IsInvoked IsCalled IsValue name actuals)
       (λ c store. mean.exec_form c world.turns at (Invoke name actuals) store)
-      (λ l next. low.lowered_form l next at (Invoke name actuals))
-      (invoke_goes IsCalled world calls at name actuals)
+      (λ l next. low.lowered_form l next at (Invoke name actuals)) (exprs_nodes actuals)
+      (1 + exprs_nodes actuals) (omega arith)
+      (invoke_goes IsCalled IsValue world calls valued at name actuals)
   call_leaves at (Assign name op value) = assigned at name op value
   call_leaves at (Block body) = no_call at (Block body) (λ w p h. h)
   call_leaves at (If arms otherwise) = no_call at (If arms otherwise) (λ w p h. h)

@@ -1,7 +1,7 @@
 -- Calls that answer, and bodies that end in a `return`.
 use Rattle.std.specs.Prelude.{◌≡◌, ℕ, ℤ, pos, List, length, slice_set}
 use Rattle.zpl_nums.specs.Integer.{IsInteger}
-use Rattle.zpl_tree.specs.Syntax.{Name, Exprs}
+use Rattle.zpl_tree.specs.Syntax.{Expr, Name, Exprs}
 use Rattle.zpl_names.specs.Scope.{kind_of}
 use Rattle.zpl_meaning.specs.Store.{Store, thing_of, with_scalar}
 use Rattle.zpl_meaning.specs.Context.{Place}
@@ -77,10 +77,11 @@ module _ (IsCalled : Where → List Given → Called → Type 0) where
         (does world.tables world.turns
         (world.code (calling_at w name givens target line) next).code now)
 
-  -- the answer of a call is assigned to a scalar
-  pub record IsAnswered (name callee : Name) (actuals : Exprs) (w : Where) (p : Place) : Type 0 where
+  -- the answer of a call with such values is assigned to a scalar
+  pub record IsAnswered (IsValue : Expr → Where → Place → Type 0) (name callee : Name)
+      (actuals : Exprs) (w : Where) (p : Place) : Type 0 where
     pub variable : IsVariable (thing_of p.environment name.text)
-    pub actuals_are : AreCallActuals p (formals_in (kind_of p.scope callee)) actuals
+    pub actuals_are : AreCallActuals IsValue w p (formals_in (kind_of p.scope callee)) actuals
     pub from : (scalar result : ℕ) (values : List ℤ) (before : Store)
         → length values ≡ length (value_exprs p (formals_in (kind_of p.scope callee)) actuals)
         → IsCalled w (given_to w scalar (formals_in (kind_of w.scope callee)) actuals) (record {

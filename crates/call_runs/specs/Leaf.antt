@@ -9,10 +9,13 @@ use Rattle.zpl_lowering.specs.Statement.{Given}
 use Rattle.call_runs.specs.Answered.{IsAnswered}
 use Rattle.call_runs.specs.Taken.{IsInvoked}
 
--- What is said of calls as statements, and of those whose answers are assigned.
-module _ (IsCalled IsAsked : Where → List Given → Called → Type 0) where
+-- What is said of calls as statements, and of those whose answers are assigned; and of the values that
+-- they take.
+module _ (IsCalled IsAsked : Where → List Given → Called → Type 0)
+    (IsValue : Expr → Where → Place → Type 0) where
   abbrev pub IsAnsweredBy : Name → Option Op → Expr → Where → Place → Type 0
-  IsAnsweredBy name None (Call at callee actuals) w p = IsAnswered IsAsked name callee actuals w p
+  IsAnsweredBy name None (Call at callee actuals) w p =
+      IsAnswered IsAsked IsValue name callee actuals w p
   IsAnsweredBy name None (Number at value) w p = ⊥
   IsAnsweredBy name None (Truth at value) w p = ⊥
   IsAnsweredBy name None (Coord at k) w p = ⊥
@@ -32,7 +35,7 @@ module _ (IsCalled IsAsked : Where → List Given → Called → Type 0) where
 
   -- of forms that have no statements in them
   abbrev pub CallLeaf : ℕ → Form → Where → Place → Type 0
-  CallLeaf at (Invoke name actuals) w p = IsInvoked IsCalled name actuals w p
+  CallLeaf at (Invoke name actuals) w p = IsInvoked IsCalled IsValue name actuals w p
   CallLeaf at (Assign name op value) w p = IsAnsweredBy name op value w p
   CallLeaf at (Block body) w p = ⊥
   CallLeaf at (If arms otherwise) w p = ⊥

@@ -1,6 +1,6 @@
 -- Calls whose parameters take values, references, and copies of arrays.
 use Rattle.std.specs.Prelude.{◌≡◌, ℕ, suc, ◌≤◌, true, false, ℤ, List, [], ◌∷◌, length, Option, Some, None, IsSome, slice_get}
-use Rattle.zpl_tree.specs.Syntax.{Name, Exprs, NoExpr, ThenExpr}
+use Rattle.zpl_tree.specs.Syntax.{Name, Expr, Exprs, NoExpr, ThenExpr}
 use Rattle.zpl_names.specs.Kinds.{Formal, ScalarFormal, ArrayFormal}
 use Rattle.zpl_names.specs.Scope.{kind_of}
 use Rattle.zpl_meaning.specs.Store.{Thing, Scalar, ArrayAt, Fixed, Store}
@@ -11,7 +11,6 @@ use Rattle.zpl_lowering.specs.Where.{Stored, Where, Next}
 use Rattle.zpl_lowering.specs.Statement.{Given, Valued, Copied, Referring, given_to}
 use Rattle.lowering_runs.specs.Seen.{Spot, numbered}
 use Rattle.lowering_runs.specs.Run.{does}
-use Rattle.lowering_runs.specs.Scalars.{IsScalarAt}
 use Rattle.lowering_runs.specs.Agrees.{Agrees}
 use Rattle.lowering_runs.specs.Stands.{IsBefore, IsKnown, Stands, HasRoom, IsLike}
 use Rattle.lowering_runs.specs.Called.{calling_at, called_at}
@@ -40,18 +39,19 @@ IsArrayThing (Some (Scalar place)) = ⊥
 IsArrayThing (Some (Fixed value)) = ⊥
 IsArrayThing None = ⊥
 
--- expressions of scalars, for parameters that take a value of one; and names
-abbrev pub AreCallActuals : Place → List Formal → Exprs → Type 0
-AreCallActuals place [] actuals = Unit {0}
-AreCallActuals place (formal ∷ formals) NoExpr = Unit {0}
-AreCallActuals place (ScalarFormal false base ∷ formals) (ThenExpr actual rest) =
-    IsScalarAt place actual × AreCallActuals place formals rest
-AreCallActuals place (ScalarFormal true base ∷ formals) (ThenExpr actual rest) =
-    IsSome (actual_thing place.environment actual) × AreCallActuals place formals rest
-AreCallActuals place (ArrayFormal true base shape ∷ formals) (ThenExpr actual rest) =
-    IsSome (actual_thing place.environment actual) × AreCallActuals place formals rest
-AreCallActuals place (ArrayFormal false base shape ∷ formals) (ThenExpr actual rest) =
-    IsArrayThing (actual_thing place.environment actual) × AreCallActuals place formals rest
+-- values of which something holds, for parameters that take the value of a scalar; and names
+module _ (IsValue : Expr → Where → Place → Type 0) (w : Where) (place : Place) where
+  abbrev pub AreCallActuals : List Formal → Exprs → Type 0
+  AreCallActuals [] actuals = Unit {0}
+  AreCallActuals (formal ∷ formals) NoExpr = Unit {0}
+  AreCallActuals (ScalarFormal false base ∷ formals) (ThenExpr actual rest) =
+      IsValue actual w place × AreCallActuals formals rest
+  AreCallActuals (ScalarFormal true base ∷ formals) (ThenExpr actual rest) =
+      IsSome (actual_thing place.environment actual) × AreCallActuals formals rest
+  AreCallActuals (ArrayFormal true base shape ∷ formals) (ThenExpr actual rest) =
+      IsSome (actual_thing place.environment actual) × AreCallActuals formals rest
+  AreCallActuals (ArrayFormal false base shape ∷ formals) (ThenExpr actual rest) =
+      IsArrayThing (actual_thing place.environment actual) × AreCallActuals formals rest
 
 -- What is said of a call, beside what its parameters take: by where it stands, what it is given in
 -- code, and what it is in the meaning.
@@ -69,9 +69,10 @@ module _ (IsCalled : Where → List Given → Called → Type 0) where
         (does world.tables world.turns
         (world.code (calling_at w name givens 0 line) next).code now)
 
-  -- a call as a statement
-  pub record IsInvoked (name : Name) (actuals : Exprs) (w : Where) (p : Place) : Type 0 where
-    pub actuals_are : AreCallActuals p (formals_in (kind_of p.scope name)) actuals
+  -- a call as a statement, with such values
+  pub record IsInvoked (IsValue : Expr → Where → Place → Type 0) (name : Name) (actuals : Exprs)
+      (w : Where) (p : Place) : Type 0 where
+    pub actuals_are : AreCallActuals IsValue w p (formals_in (kind_of p.scope name)) actuals
     pub from : (scalar : ℕ) (values : List ℤ) (before : Store)
         → length values ≡ length (value_exprs p (formals_in (kind_of p.scope name)) actuals)
         → IsCalled w (given_to w scalar (formals_in (kind_of w.scope name)) actuals) (record {

@@ -7,6 +7,6 @@
 mod laws;
 
 pub use laws::{
-    Calling, Serving, answers_go_alike, bodies_return_alike, call_leaves_go_alike, calls_go_alike,
-    copies_are_made,
+    Calling, Serving, Values, answers_go_alike, bodies_return_alike, call_leaves_go_alike,
+    calls_go_alike, copies_are_made,
 };

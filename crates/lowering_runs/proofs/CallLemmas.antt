@@ -35,8 +35,9 @@ use Rattle.lowering_runs.specs.Leaves.{AreServedActuals, IsServedInvoke}
 use Rattle.lowering_runs.specs.Called.{calling_at, CallsAgree}
 use Rattle.lowering_runs.proofs.FitLemmas.{room_first, room_rest}
 use Rattle.lowering_runs.proofs.ValueLemmas.{thing_seen, known_thing}
-use Rattle.lowering_runs.proofs.ListLemmas.{Hold, AreScalarsAt, meant, meant_length}
-use Rattle.lowering_runs.proofs.HeadLemmas.{with_computed_value, valued_agrees, left_length}
+use Rattle.lowering_runs.specs.Values.{AreSet, Hold, meant}
+use Rattle.lowering_runs.proofs.ListLemmas.{AreScalarsAt, filled_agrees, meant_length}
+use Rattle.lowering_runs.proofs.HeadLemmas.{phased_length, scalars_go, with_computed_value}
 
 pub actual_seen : (spots : List Spot) (environment : Environment) (actual : Expr)
     → actual_thing (record { names = seen_names spots environment.names }) actual
@@ -220,7 +221,7 @@ module _ (world : World) (setup : Setup) (IsCallable : List ℕ → Type 0)
       let scalars = value_scalars sight w start formals actuals served.actuals_are in
       let rooms : HasRoom tables next (joined (code.Rows []) own (world.code calling more)) =
       record { scalars = room.scalars; slots = room.slots; arrays = room.arrays; temps = room.temps } in
-      let many = left_length sight w line next start exprs scalars in
+      let many = phased_length w line next exprs in
       let handed : List ℤ → List Handed =
       λ values. handed_on p.environment store formals actuals values in
       let called : List Handed → Called = λ hs.
@@ -233,13 +234,14 @@ module _ (world : World) (setup : Setup) (IsCallable : List ℕ → Type 0)
       (out.with_value (scalars_in p store es) store line (λ vs. world.call (called (handed vs)) store))
       (code.then_do (does tables n own.code now) (does tables n (world.code calling more).code)))
       (value_meant sight w start formals actuals)
-      (valued_agrees tables n sight w next start stands line exprs scalars Like n 0
-      (room_first tables next (code.Rows []) own (world.code calling more) rooms) store now like
-      (λ vs. world.call (called (handed vs)) store) (does tables n (world.code calling more).code)
-      (λ vs after l are.
+      (filled_agrees Like (λ vs after. Like store after × AreSet first (length exprs) vs after) n 0
+      line 0 0 store
+      (λ vs. world.call (called (handed vs)) store) (does tables n (world.code calling more).code) _ _
+      (omega arith)
+      (λ vs after l.
       let same : handed vs ≡ map (seen_given sight.spots after) givens =
-      handed_is sight w start formals actuals first vs store after served.actuals_are are.as_many
-      are.held in
+      handed_is sight w start formals actuals first vs store after served.actuals_are l.1.as_many
+      l.1.held in
       subst (λ (hs : List Handed). Agrees Like n 0 (world.call (called hs) store)
       (does tables n (world.code calling more).code after)) (sym same)
       (calls.by sight.spots w next more start name.text givens line served.setup_is stands
@@ -248,8 +250,10 @@ module _ (world : World) (setup : Setup) (IsCallable : List ℕ → Type 0)
       givens more.scalars (omega arith)
       (given_is sight w start next stands formals actuals first more.scalars served.actuals_are
       (omega (arith, many))))
-      (room_rest tables next (code.Rows []) own (world.code calling more) rooms) store after l
+      (room_rest tables next (code.Rows []) own (world.code calling more) rooms) store after l.0
       (subst (λ (hs : List Handed). IsVisitedCall setup (called hs)) same
-      (served.visited vs store (are.as_many
+      (served.visited vs store (l.1.as_many
       ∙ sym (meant_length exprs)
-      ∙ ap (λ es. length es) (value_meant sight w start formals actuals))))))))
+      ∙ ap (λ es. length es) (value_meant sight w start formals actuals))))))
+      (scalars_go world sight w next start line exprs stands scalars
+      (room_first tables next (code.Rows []) own (world.code calling more) rooms) store now like)))

@@ -2,6 +2,7 @@
 use Rattle.std.proofs.Common.{◌≡◌, ℕ, Bool, true, false, []}
 use Rattle.std.proofs.Common.{sym, subst, arith}
 use Rattle.zpl_tree.specs.Syntax.{Expr, Stmts, Form, Tested}
+use Rattle.zpl_names.specs.Counts.{expr_nodes}
 use Rattle.zpl_names.specs.Sites.{is_shattered}
 use Rattle.zpl_meaning.specs.Store.{Store}
 use Rattle.zpl_meaning.specs.Context.{Place, reach_of}
@@ -12,7 +13,7 @@ use Rattle.zpl_meaning.specs.Statement.{Context}
 use Rattle.row_runs.specs.Structured as code
 use Rattle.row_runs.specs.Structured.{Course}
 use Rattle.flat_form.specs.Whole.{Whole}
-use Rattle.zpl_lowering.specs.Where.{Where, Next}
+use Rattle.zpl_lowering.specs.Where.{Where, Next, line_of}
 use Rattle.zpl_lowering.specs.Where.{reach_of as where_reach}
 use Rattle.zpl_lowering.specs.Lowered.{Lowered, behind, joined, followed, rows_alone}
 use Rattle.zpl_lowering.specs.Statement as low
@@ -25,7 +26,7 @@ use Rattle.lowering_runs.specs.Goes.{World, context, lowering, Goes, TestsGo}
 use Rattle.lowering_runs.specs.Suits.{ScalarTest}
 use Rattle.lowering_runs.proofs.AgreeLemmas.{goes_agrees, weaker_agrees, jumping_agrees}
 use Rattle.lowering_runs.proofs.AgreeLemmas.{leaving_agrees, then_agrees}
-use Rattle.lowering_runs.proofs.LoopLemmas.{tested_agrees, while_agrees, repeat_agrees}
+use Rattle.lowering_runs.proofs.LoopLemmas.{more_heads, tested_agrees, while_agrees, repeat_agrees}
 use Rattle.lowering_runs.proofs.FitLemmas.{itself, before_behind, room_first, room_rest}
 use Rattle.lowering_runs.proofs.FitLemmas.{later_goes}
 use Rattle.lowering_runs.proofs.ScalarLemmas.{heads}
@@ -62,8 +63,12 @@ module _ (world : World) where
 
   pub scalar_tests : TestsGo world ScalarTest
   scalar_tests sight w next from start at test stands before scalar room store now like =
-      heads world.tables world.turns sight w next start stands
-      (omega (arith, room.scalars, before.scalars)) from at test scalar store now like
+      more_heads (IsLike world.tables sight.spots w next start store)
+      ((mean.test_of (seen_place sight w start) test at).value store) (line_of w at) 0
+      (expr_nodes test) (decide world.tables world.turns (low.test_of w from test at).check)
+      (does world.tables world.turns (low.test_of w from test at).before.code now) (omega arith)
+      (heads world.tables world.turns sight w next start stands
+      (omega (arith, room.scalars, before.scalars)) from at test scalar store now like)
 
   -- ---- statements that are not shattered
 
@@ -106,7 +111,7 @@ module _ (world : World) where
         record { scalars = room.scalars; slots = room.slots; arrays = room.arrays; temps = room.temps } in
         tested_agrees (Like sight w next start) (Like sight w next start) world.turns
         (mean.test_of (seen_place sight w start) test at)
-        (decide world.tables world.turns t.check) 0 2 0 store
+        (decide world.tables world.turns t.check) (expr_nodes test) 2 0 store
         (does world.tables world.turns t.before.code now)
         (mean.exec_all (context world sight w start) world.turns body) out.goes_on
         (λ state. code.jumping (does world.tables world.turns inside.code state))
@@ -146,7 +151,7 @@ module _ (world : World) where
         let leave : Whole → Course Whole = λ state. code.jumping (code.goes_on state) in
         tested_agrees (Like sight w next start) (Like sight w next start) world.turns
         (mean.test_of (seen_place sight w start) test at)
-        (decide world.tables world.turns t.check) 0 2 0 store
+        (decide world.tables world.turns t.check) (expr_nodes test) 2 0 store
         (does world.tables world.turns t.before.code now)
         (mean.exec_all (context world sight w start) world.turns body)
         (rest (context world sight w start))
@@ -193,7 +198,8 @@ module _ (world : World) where
         let here = room_first world.tables next (code.While t.before.code t.check inside.code)
         t.before inside room in
         while_agrees (step world.tables world.turns) (decide world.tables world.turns)
-        (Like sight w next start) (mean.test_of (seen_place sight w start) test at) t.check 0
+        (Like sight w next start) (mean.test_of (seen_place sight w start) test at) t.check
+        (expr_nodes test)
         (omega arith) (does world.tables world.turns t.before.code)
         (λ s v k. tests sight w next next start at test stands (itself next) served.0 here s v k)
         world.turns (mean.exec_all (context world sight w start) world.turns body)
@@ -217,7 +223,8 @@ module _ (world : World) where
         let here = room_rest world.tables next (code.Repeat inside.code t.before.code t.check) inside
         t.before room in
         repeat_agrees (step world.tables world.turns) (decide world.tables world.turns)
-        (Like sight w next start) (mean.test_of (seen_place sight w start) test at) t.check 0
+        (Like sight w next start) (mean.test_of (seen_place sight w start) test at) t.check
+        (expr_nodes test)
         (omega arith) (does world.tables world.turns t.before.code)
         (λ s v k. tests sight w next (behind next inside) start at test stands
         (before_behind next inside) served.0 here s v k)

@@ -24,7 +24,7 @@ use Rattle.lowering_runs.specs.Seen.{slot_in, Spot, Sight, numbered, seen_over, 
 use Rattle.lowering_runs.specs.Run.{does}
 use Rattle.lowering_runs.specs.Agrees.{Agrees}
 use Rattle.lowering_runs.specs.Stands.{IsBefore, IsTaken, IsTakenEdge, AreTaken, array_numbers, SlotsAt, RowsAt, TempsAt, IsCurrentIf, AreDeclared, IsHeld, Stands, HasRoom, Keeps, IsLike}
-use Rattle.lowering_runs.specs.Goes.{World, context, lowering, Goes}
+use Rattle.lowering_runs.specs.Goes.{World, context, lowering, Goes, GoesTo}
 use Rattle.lowering_runs.proofs.NumberLemmas.{rises_on}
 use Rattle.lowering_runs.proofs.AgreeLemmas.{alike_agrees}
 
@@ -295,8 +295,48 @@ module _ (world : World) where
 
 -- ---- from a state on
 
+-- What stores and states are in the end of a statement, where it stands: they are the same to an
+-- earlier place, to which they are like as before.
+abbrev pub IsCarried : Tables → (Sight → Where → Next → Whole → Store → Whole → Type 0) → Type 0
+IsCarried tables Ended =
+    (sight : Sight) (w inner : Where) (next more : Next) (start now : Whole)
+    → inner.result ≡ w.result
+    → ((s : Store) (v : Whole) → IsLike tables sight.spots inner more now s v
+    → IsLike tables sight.spots w next start s v)
+    → (s : Store) (v : Whole) → Ended sight inner more now s v → Ended sight w next start s v
+
 module _ (world : World) where
   -- it is enough to begin in the state at the start
+  pub anew_goes_to : (Ended : Sight → Where → Next → Whole → Store → Whole → Type 0)
+      → IsCarried world.tables Ended → (IsServed : Where → Place → Type 0)
+      (run : Context → Store → Outcome) (made : Lowering → Next → Lowered) (spare : ℕ)
+      → ((sight : Sight) (w : Where) (next : Next) (now : Whole) → Stands sight.spots w next
+      → IsServed w (seen_place sight w now)
+      → HasRoom world.tables next (made (lowering world w) next)
+      → IsLike world.tables sight.spots w next now (seen_store sight.spots w.numbers.arrays now) now
+      → Agrees (Ended sight w next now) world.turns spare
+      (run (context world sight w now) (seen_store sight.spots w.numbers.arrays now))
+      (does world.tables world.turns (made (lowering world w) next).code now))
+      → GoesTo world Ended IsServed run made spare
+  anew_goes_to Ended carried IsServed run made spare h sight w next start stands served room store now
+      like =
+      let Like = IsLike world.tables sight.spots w next in
+      let same : seen_place sight w now ≡ seen_place sight w start =
+      place_kept start now next.slots like.kept.slots sight w stands.taken stands.edge in
+      let course = does world.tables world.turns (made (lowering world w) next).code now in
+      let anew : Like now store now =
+      like_anew world.tables sight.spots w next next start store now like in
+      subst (λ (p : Place). Agrees (Ended sight w next start) world.turns spare
+      (run (record { place = p; call = world.call }) store) course) same
+      (subst (λ (s : Store). Agrees (Ended sight w next start) world.turns spare
+      (run (context world sight w now) s) course) (sym like.seen)
+      (alike_agrees (Ended sight w next now) (Ended sight w next start) world.turns spare _ _
+      (carried sight w w next next start now refl
+      (λ s v l. like_then world.tables sight.spots w next next start store now s v (itself next) like
+      l))
+      (h sight w next now stands (subst (λ (p : Place). IsServed w p) (sym same) served) room
+      (subst (λ (s : Store). Like now s now) like.seen anew))))
+
   pub anew_goes : (IsServed : Where → Place → Type 0) (run : Context → Store → Outcome)
       (made : Lowering → Next → Lowered) (spare : ℕ)
       → ((sight : Sight) (w : Where) (next : Next) (now : Whole) → Stands sight.spots w next
@@ -307,20 +347,6 @@ module _ (world : World) where
       (run (context world sight w now) (seen_store sight.spots w.numbers.arrays now))
       (does world.tables world.turns (made (lowering world w) next).code now))
       → Goes world IsServed run made spare
-  anew_goes IsServed run made spare h sight w next start stands served room store now like =
-      let Like = IsLike world.tables sight.spots w next in
-      let same : seen_place sight w now ≡ seen_place sight w start =
-      place_kept start now next.slots like.kept.slots sight w stands.taken stands.edge in
-      let course = does world.tables world.turns (made (lowering world w) next).code now in
-      let anew : Like now store now =
-      like_anew world.tables sight.spots w next next start store now like in
-      subst (λ (p : Place). Agrees (Like start) world.turns spare
-      (run (record { place = p; call = world.call }) store) course) same
-      (subst (λ (s : Store).
-      Agrees (Like start) world.turns spare (run (context world sight w now) s) course)
-      (sym like.seen)
-      (alike_agrees (Like now) (Like start) world.turns spare _ _
-      (λ s v l. like_then world.tables sight.spots w next next start store now s v (itself next) like
-      l)
-      (h sight w next now stands (subst (λ (p : Place). IsServed w p) (sym same) served) room
-      (subst (λ (s : Store). Like now s now) like.seen anew))))
+  anew_goes IsServed run made spare h =
+      anew_goes_to (λ sight w next start. IsLike world.tables sight.spots w next start)
+      (λ sight w inner next more start now same f. f) IsServed run made spare h

@@ -4,7 +4,8 @@ use Rattle.std.proofs.Common.{pos, List, [], ◌∷◌, length, Option, Some, No
 use Rattle.std.proofs.Common.{ap, ◌∙◌, subst, arith}
 use Rattle.std.specs.Prelude.{slice_get, slice_index_or, int_lt}
 use Rattle.std.specs.Option.{option_map}
-use Rattle.zpl_tree.specs.Syntax.{ForHead, Stmts, For}
+use Rattle.zpl_tree.specs.Syntax.{Expr, ForHead, Stmts, For}
+use Rattle.zpl_names.specs.Counts.{expr_nodes}
 use Rattle.zpl_meaning.specs.Computed as mean
 use Rattle.zpl_meaning.specs.Store.{Store, Thing, Scalar, ArrayAt, Fixed, Environment, thing_of}
 use Rattle.zpl_meaning.specs.Store as mean_store
@@ -17,29 +18,30 @@ use Rattle.zpl_meaning.specs.Outcome.{Outcome, Count, is_past}
 use Rattle.zpl_meaning.specs.Statement as mean_statement
 use Rattle.zpl_meaning.specs.Statement.{Context, step_expr, start_of, Start}
 use Rattle.zpl_meaning.proofs.ScalarLemmas.{scalars_are_values}
-use Rattle.node_form.specs.declared.tables.Tables.{Tables}
 use Rattle.node_form.specs.Expression.{Expression, Variable}
+use Rattle.row_runs.specs.Straight.{Every}
 use Rattle.row_runs.specs.Code.{Decision, Says}
 use Rattle.row_runs.specs.Structured as code
 use Rattle.row_runs.specs.Structured.{Course, rows_do}
 use Rattle.flat_form.specs.Whole.{Whole}
 use Rattle.zpl_lowering.specs.Where.{Where, Next, line_of}
-use Rattle.zpl_lowering.specs.Lowered.{Lowered, behind, followed, check_of, phased, rows_alone}
+use Rattle.zpl_lowering.specs.Lowered.{Lowered, behind, followed, check_of, free_at, phased, rows_alone}
 use Rattle.zpl_lowering.specs.Slate as low_slate
 use Rattle.zpl_lowering.specs.Statement as low
 use Rattle.zpl_lowering.specs.Statement.{Lowering}
 use Rattle.lowering_runs.specs.Seen.{Sight, numbered, place_of, seen_place, seen_thing}
 use Rattle.lowering_runs.specs.Run.{step, decide, does}
 use Rattle.lowering_runs.specs.Agrees.{Agrees}
-use Rattle.lowering_runs.specs.Suits.{IsServedHead}
+use Rattle.lowering_runs.specs.Suits.{IsServedHeadBy, ScalarBound}
+use Rattle.lowering_runs.specs.Values.{AreSet, Fills, meant, nodes_of}
 use Rattle.lowering_runs.specs.Stands.{IsBefore, Stands, HasRoom, IsLike}
-use Rattle.lowering_runs.specs.Goes.{World, context, lowering, Goes}
+use Rattle.lowering_runs.specs.Goes.{World, context, lowering, Goes, ValuesGo}
 use Rattle.lowering_runs.proofs.NumberLemmas.{get_some}
 use Rattle.lowering_runs.proofs.FitLemmas.{room_first, room_rest}
 use Rattle.lowering_runs.proofs.AgreeLemmas.{goes_agrees, jumping_agrees}
 use Rattle.lowering_runs.proofs.ValueLemmas.{thing_seen, known_thing, scalar_unseen}
-use Rattle.lowering_runs.proofs.BareLemmas.{AreScalarsOf, codes_of, all_passed}
-use Rattle.lowering_runs.proofs.ListLemmas.{AreScalarsAt, AreSet, meant, values_agree}
+use Rattle.lowering_runs.proofs.BareLemmas.{AreScalarsOf, all_passed}
+use Rattle.lowering_runs.proofs.ListLemmas.{AreScalarsAt, alike_fills, filled_agrees, left_length, scalars_fill}
 use Rattle.lowering_runs.proofs.StepLemmas.{le_not, not_below}
 use Rattle.lowering_runs.proofs.ForLemmas.{AtTurn, enters_says, turns_agree, within, within_is}
 
@@ -56,17 +58,10 @@ scalars_of sight w start [] h = tt
 scalars_of sight w start (placed ∷ exprs) h =
     (scalar_unseen sight.spots w.environment placed.expr h.0.1, scalars_of sight w start exprs h.1)
 
-codes_length : (w : Where) (exprs : List low_slate.Placed)
-    → length (codes_of w exprs) ≡ length exprs
-codes_length w [] = refl
-codes_length w (placed ∷ exprs) = ap suc (codes_length w exprs)
-
-pub left_length : (sight : Sight) (w : Where) (line : ℕ) (next : Next) (start : Whole)
-    (exprs : List low_slate.Placed) → AreScalarsAt (seen_place sight w start) exprs
+-- as much is left of a statement's expressions as there are
+pub phased_length : (w : Where) (line : ℕ) (next : Next) (exprs : List low_slate.Placed)
     → length (phased w line next exprs).left ≡ length exprs
-left_length sight w line next start exprs s =
-    ap length (all_passed w line next exprs (scalars_of sight w start exprs s)).left_is
-    ∙ codes_length w exprs
+phased_length w line next exprs = left_length w line exprs next (free_at next 0)
 
 pub with_computed_value : {A B : Type 0} (c : mean.Computed A) (g : A → B) (store : Store)
     (line : ℕ) (rest : B → Outcome)
@@ -75,46 +70,47 @@ pub with_computed_value : {A B : Type 0} (c : mean.Computed A) (g : A → B) (st
 with_computed_value (mean.Gives x) g store line rest = refl
 with_computed_value (mean.Traps kind) g store line rest = refl
 
-module _ (tables : Tables) (n : ℕ) (sight : Sight) (w : Where) (next : Next) (start : Whole)
-    (stands : Stands sight.spots w next) (line : ℕ) (exprs : List low_slate.Placed)
-    (s : AreScalarsAt (seen_place sight w start) exprs) where
-  abbrev first : ℕ
-  first = next.scalars + (phased w line next exprs).lowered.scalars
+-- values of scalars, without jumps
+pub scalars_go : (world : World) (sight : Sight) (w : Where) (next : Next) (start : Whole)
+    (line : ℕ) (exprs : List low_slate.Placed) → Stands sight.spots w next
+    → AreScalarsAt (seen_place sight w start) exprs
+    → (let phases = phased w line next exprs in
+    let first = next.scalars + phases.lowered.scalars in
+    let own = low.with_values line first phases in
+    HasRoom world.tables next own → (store : Store) (now : Whole)
+    → IsLike world.tables sight.spots w next start store now
+    → Fills (λ values after.
+    IsLike world.tables sight.spots w next start store after
+    × AreSet first (length exprs) values after) line 0
+    (scalars_in (seen_place sight w start) store (meant exprs))
+    (does world.tables world.turns own.code now))
+scalars_go world sight w next start line exprs stands s room store now like =
+    let tables = world.tables in
+    let n = world.turns in
+    let phases = phased w line next exprs in
+    let first = next.scalars + phases.lowered.scalars in
+    let place = seen_place sight w start in
+    let passed = all_passed w line next exprs (scalars_of sight w start exprs s) in
+    let here : next.scalars ≤ tables.scalars = omega (arith, room.scalars) in
+    let Filling : mean.Computed (List ℤ) → Course Whole → Type 0 =
+    Fills (λ values after. IsLike tables sight.spots w next start store after
+    × AreSet first (length exprs) values after) line 0 in
+    let rows : List Expression → Whole → Course Whole = λ left now.
+    rows_do (step tables n) (decide tables n) (low.value_rows line first left) now in
+    subst (λ (c : mean.Computed (List ℤ)). Filling c
+    (code.then_do (does tables n phases.lowered.code now) (rows phases.left)))
+    (sym (scalars_are_values place store (meant exprs) (scalars_meant place exprs s)))
+    (subst (λ (c : Course Whole). Filling (values_of place.environment store (meant exprs))
+    (code.then_do c (rows phases.left))) (sym (passed.still tables n now))
+    (subst (λ (left : List Expression). Filling (values_of place.environment store (meant exprs))
+    (rows left now)) (sym passed.left_is)
+    (scalars_fill tables n sight w next start stands here line store exprs first now s (omega arith)
+    (omega (arith, room.scalars, phased_length w line next exprs)) like)))
 
-  abbrev own : Lowered
-  own = low.with_values line first (phased w line next exprs)
-
-  pub valued_agrees : (IsAlike : Store → Whole → Type 0) (turns spare : ℕ)
-      → HasRoom tables next own → (store : Store) (now : Whole)
-      → IsLike tables sight.spots w next start store now → (rest : List ℤ → Outcome)
-      (others : Whole → Course Whole)
-      → ((values : List ℤ) (after : Whole)
-      → IsLike tables sight.spots w next start store after
-      → AreSet first (length exprs) now values after
-      → Agrees IsAlike turns spare (rest values) (others after))
-      → Agrees IsAlike turns spare
-      (out.with_value (scalars_in (seen_place sight w start) store (meant exprs)) store line rest)
-      (code.then_do (does tables n own.code now) others)
-  valued_agrees IsAlike turns spare room store now like rest others h =
-      let phases = phased w line next exprs in
-      let place = seen_place sight w start in
-      let passed = all_passed w line next exprs (scalars_of sight w start exprs s) in
-      let here : next.scalars ≤ tables.scalars = omega (arith, room.scalars) in
-      let outcome : mean.Computed (List ℤ) → Outcome = λ c. out.with_value c store line rest in
-      let rows : List Expression → Whole → Course Whole = λ left now.
-      rows_do (step tables n) (decide tables n) (low.value_rows line first left) now in
-      subst (λ (c : mean.Computed (List ℤ)). Agrees IsAlike turns spare (outcome c)
-      (code.then_do (does tables n own.code now) others))
-      (sym (scalars_are_values place store (meant exprs) (scalars_meant place exprs s)))
-      (subst (λ (c : Course Whole). Agrees IsAlike turns spare
-      (outcome (values_of place.environment store (meant exprs)))
-      (code.then_do (code.then_do c (rows phases.left)) others)) (sym (passed.still tables n now))
-      (subst (λ (left : List Expression). Agrees IsAlike turns spare
-      (outcome (values_of place.environment store (meant exprs)))
-      (code.then_do (rows left now) others)) (sym passed.left_is)
-      (values_agree tables n sight w next start stands here IsAlike turns spare line store exprs
-      first now rest others s (omega arith)
-      (omega (arith, room.scalars, left_length sight w line next start exprs s)) like h)))
+pub scalar_values : (world : World) → ValuesGo world ScalarBound
+scalar_values world sight w next start line exprs stands s room store now like =
+    alike_fills _ _ line 0 (nodes_of exprs) _ _ (omega arith) (λ vs after h. h)
+    (scalars_go world sight w next start line exprs stands s room store now like)
 
 -- ---- `for`
 
@@ -127,12 +123,18 @@ past_turns count set body (suc m) v store e =
     ap (λ b. out.choose b out.goes_on (λ store. out.counting 1 (out.then_do (body (set v store))
     (out.for_turns m count set body (out.next_value count v)))) store) e
 
-module _ (world : World) (at : ℕ) (head : ForHead) (body : Stmts)
+-- the nodes of the bounds and the step
+abbrev pub head_nodes : ForHead → ℕ
+head_nodes head =
+    expr_nodes head.first + (expr_nodes head.last + (expr_nodes (step_expr head.step) + 0))
+
+module _ (world : World) (IsBound : Expr → Where → Place → Type 0)
+    (bounds : ValuesGo world IsBound) (at : ℕ) (head : ForHead) (body : Stmts)
     (IsServed : Where → Place → Type 0)
     (goes : Goes world IsServed (λ c. mean_statement.exec_all c world.turns body)
     (λ l next. low.lowered_all l next body) 0) where
   abbrev pub IsServedFor : Where → Place → Type 0
-  IsServedFor w p = IsServedHead head p × IsServed w p
+  IsServedFor w p = IsServedHeadBy IsBound head w p × IsServed w p
 
   module _ (sight : Sight) (w : Where) (next : Next) (start : Whole)
       (stands : Stands sight.spots w next) (served : IsServedFor w (seen_place sight w start))
@@ -147,8 +149,8 @@ module _ (world : World) (at : ℕ) (head : ForHead) (body : Stmts)
       abbrev exprs : List low_slate.Placed
       exprs = low.head_exprs w head
 
-      abbrev scalars : AreScalarsAt (seen_place sight w start) exprs
-      scalars = (served.0.0, (served.0.1, (served.0.2, tt)))
+      abbrev all_bounds : Every (λ placed. IsBound placed.expr w (seen_place sight w start)) exprs
+      all_bounds = (served.0.0, (served.0.1, (served.0.2, tt)))
 
       abbrev c : ℕ
       c = next.scalars + (phased w line next exprs).lowered.scalars
@@ -178,13 +180,13 @@ module _ (world : World) (at : ℕ) (head : ForHead) (body : Stmts)
       free = omega arith
 
       fits : c + 3 ≤ world.tables.scalars
-      fits = omega (arith, room.scalars, left_length sight w line next start exprs scalars)
+      fits = omega (arith, room.scalars, phased_length w line next exprs)
 
       before : IsBefore next inner
       before = record { scalars = omega arith; slots = omega arith; arrays = omega arith }
 
       taken : c + 3 ≤ inner.scalars
-      taken = omega (arith, left_length sight w line next start exprs scalars)
+      taken = omega (arith, phased_length w line next exprs)
 
       inside_room : HasRoom world.tables inner inside
       inside_room =
@@ -256,8 +258,8 @@ module _ (world : World) (at : ℕ) (head : ForHead) (body : Stmts)
           (either p k found first by last store begun turn (int_lt by (pos 1)) refl
           (is_past count first) refl)
 
-      counted : (values : List ℤ) (store : Store) (now begun : Whole) → Like store begun
-          → AreSet c 3 now values begun → (thing : Option Thing)
+      counted : (values : List ℤ) (store : Store) (begun : Whole) → Like store begun
+          → AreSet c 3 values begun → (thing : Option Thing)
           → thing_of w.environment head.name.text ≡ thing
           → IsVariable (option_map (seen_thing sight.spots) thing)
           → Agrees Like world.turns 1
@@ -265,7 +267,7 @@ module _ (world : World) (at : ℕ) (head : ForHead) (body : Stmts)
           (start_of head.down values)
           (mean_statement.exec_all (context world sight w start) world.turns body) store)
           (does world.tables world.turns (coded (low.scalar_of w.numbers thing)).code begun)
-      counted (first ∷ last ∷ by ∷ []) store now begun like are (Some (Scalar p)) e v =
+      counted (first ∷ last ∷ by ∷ []) store begun like are (Some (Scalar p)) e v =
           let k = slice_index_or (numbered sight.spots) p 0 in
           let below : p < length (numbered sight.spots) =
           known_thing (length (numbered sight.spots)) (length w.numbers.arrays)
@@ -278,19 +280,19 @@ module _ (world : World) (at : ℕ) (head : ForHead) (body : Stmts)
           (sym (ap (λ (ks : List ℕ). slice_get ks p) (sym stands.numbers) ∙ found))
           (begins p k found first by last store begun
           (record { like = like; at = are.held.0; to = are.held.1.0; step_by = are.held.1.1.0 }))
-      counted [] store now begun like are (Some (Scalar p)) e v = absurd (omega (arith, are.as_many))
-      counted (a ∷ []) store now begun like are (Some (Scalar p)) e v =
+      counted [] store begun like are (Some (Scalar p)) e v = absurd (omega (arith, are.as_many))
+      counted (a ∷ []) store begun like are (Some (Scalar p)) e v =
           absurd (omega (arith, are.as_many))
-      counted (a ∷ b ∷ []) store now begun like are (Some (Scalar p)) e v =
+      counted (a ∷ b ∷ []) store begun like are (Some (Scalar p)) e v =
           absurd (omega (arith, are.as_many))
-      counted (a ∷ b ∷ d ∷ f ∷ more) store now begun like are (Some (Scalar p)) e v =
+      counted (a ∷ b ∷ d ∷ f ∷ more) store begun like are (Some (Scalar p)) e v =
           absurd (omega (arith, are.as_many))
-      counted values store now begun like are (Some (ArrayAt p home)) e v = absurd v
-      counted values store now begun like are (Some (Fixed value)) e v = absurd v
-      counted values store now begun like are None e v = absurd v
+      counted values store begun like are (Some (ArrayAt p home)) e v = absurd v
+      counted values store begun like are (Some (Fixed value)) e v = absurd v
+      counted values store begun like are None e v = absurd v
 
       pub for_agrees : (store : Store) (now : Whole) → Like store now
-          → Agrees Like world.turns 1
+          → Agrees Like world.turns (head_nodes head + 1)
           (mean_statement.exec_form (context world sight w start) world.turns at (For head body) store)
           (does world.tables world.turns
           (low.lowered_form (lowering world w) next at (For head body)).code now)
@@ -299,31 +301,34 @@ module _ (world : World) (at : ℕ) (head : ForHead) (body : Stmts)
           let thing = thing_of place.environment head.name.text in
           let run = mean_statement.exec_all (context world sight w start) world.turns body in
           let seen = thing_seen sight.spots w.environment.names head.name.text in
-          subst (λ (o : Outcome). Agrees Like world.turns 1 o
+          subst (λ (o : Outcome). Agrees Like world.turns (head_nodes head + 1) o
           (does world.tables world.turns
           (low.lowered_form (lowering world w) next at (For head body)).code now))
           (sym (with_computed_value (scalars_in place store (meant exprs)) (start_of head.down) store
           line (λ begin. mean_statement.for_from world.turns thing begin run store)))
-          (valued_agrees world.tables world.turns sight w next start stands line exprs scalars Like
-          world.turns 1
-          (room_first world.tables next (code.Rows [])
-          (low.with_values line c (phased w line next exprs))
-          (coded (low.scalar_of w.numbers (thing_of w.environment head.name.text)))
-          (record { scalars = room.scalars; slots = room.slots; arrays = room.arrays; temps = room.temps })) store now like
+          (filled_agrees Like (λ vs begun. Like store begun × AreSet c 3 vs begun) world.turns 1 line
+          (nodes_of exprs) (nodes_of exprs + 1) store
           (λ values. mean_statement.for_from world.turns thing (start_of head.down values) run store)
           (does world.tables world.turns
-          (coded (low.scalar_of w.numbers (thing_of w.environment head.name.text))).code)
-          (λ values begun l are.
+          (coded (low.scalar_of w.numbers (thing_of w.environment head.name.text))).code) _ _
+          (omega arith)
+          (λ values begun l.
           subst (λ (t : Option Thing). Agrees Like world.turns 1
           (mean_statement.for_from world.turns t (start_of head.down values) run store)
           (does world.tables world.turns
           (coded (low.scalar_of w.numbers (thing_of w.environment head.name.text))).code begun))
           (sym seen)
-          (counted values store now begun l are (thing_of w.environment head.name.text) refl
-          (subst (λ (t : Option Thing). IsVariable t) seen served.0.3))))
+          (counted values store begun l.0 l.1 (thing_of w.environment head.name.text) refl
+          (subst (λ (t : Option Thing). IsVariable t) seen served.0.3)))
+          (bounds sight w next start line exprs stands all_bounds
+          (room_first world.tables next (code.Rows [])
+          (low.with_values line c (phased w line next exprs))
+          (coded (low.scalar_of w.numbers (thing_of w.environment head.name.text)))
+          (record { scalars = room.scalars; slots = room.slots; arrays = room.arrays; temps = room.temps }))
+          store now like))
 
   pub for_goes : Goes world IsServedFor
       (λ c store. mean_statement.exec_form c world.turns at (For head body) store)
-      (λ l next. low.lowered_form l next at (For head body)) 1
+      (λ l next. low.lowered_form l next at (For head body)) (head_nodes head + 1)
   for_goes sight w next start stands served room store now like =
       for_agrees sight w next start stands served room store now like

@@ -170,7 +170,7 @@ expr_plain w line next rank (Reduce at operator over operand) h = absurd h
 expr_plain w line next rank (Scan at operator along operand) h = absurd h
 expr_plain w line next rank (Flood at source operand) h = absurd h
 
-abbrev AllScalar : List Placed → Type 0
+abbrev pub AllScalar : List Placed → Type 0
 AllScalar [] = Unit {0}
 AllScalar (placed ∷ exprs) = IsScalarExpr placed.expr × AllScalar exprs
 
@@ -247,7 +247,7 @@ to_inline w role line next value (Some (ArrayAt target home)) h =
 to_inline w role line next value (Some (Fixed number)) h = tt
 to_inline w role line next value None h = tt
 
-actuals_scalar : (w : Where) (formals : List Formal) (actuals : Exprs)
+pub actuals_scalar : (w : Where) (formals : List Formal) (actuals : Exprs)
     → AreScalarActuals formals actuals → AllScalar (low.value_exprs w formals actuals)
 actuals_scalar w [] actuals h = tt
 actuals_scalar w (formal ∷ formals) NoExpr h = tt
@@ -259,7 +259,7 @@ actuals_scalar w (ArrayFormal true base shape ∷ formals) (ThenExpr actual rest
     actuals_scalar w formals rest h
 actuals_scalar w (ArrayFormal false base shape ∷ formals) (ThenExpr actual rest) h = absurd h
 
-printed_scalar : (w : Where) (reach : Reach) (items : List Item) → AreScalarTexts reach items
+pub printed_scalar : (w : Where) (reach : Reach) (items : List Item) → AreScalarTexts reach items
     → AllScalar (low.printed_exprs w items)
 printed_scalar w reach [] h = tt
 printed_scalar w reach (Str bytes ∷ items) h = printed_scalar w reach items h

@@ -21,6 +21,7 @@ pub mod StatementLemmas
 pub mod RoutineLemmas
 pub mod EntryLemmas
 pub mod InlineLemmas
+pub mod UncopiedLemmas
 pub mod StartLemmas
 pub mod ProgramLemmas
 pub mod WrongLemmas

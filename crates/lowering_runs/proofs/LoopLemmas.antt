@@ -20,6 +20,15 @@ use Rattle.lowering_runs.proofs.AgreeLemmas.{turned_agrees, then_agrees}
 
 -- ---- one test
 
+-- a test may make more jumps
+pub more_heads : (IsAlike : Whole → Type 0) (value : Computed ℤ) (line few most : ℕ)
+    (decide : Whole → Decision) (course : Course Whole) → few ≤ most
+    → Heads IsAlike value line few decide course → Heads IsAlike value line most decide course
+more_heads IsAlike value line few most decide course le (Comes alike says less) =
+    Comes alike says (omega (arith, le, less))
+more_heads IsAlike value line few most decide course le (Stumbles is less) =
+    Stumbles is (omega (arith, le, less))
+
 module _ (One Other : Store → Whole → Type 0) (turns : ℕ) (test : Test) (decide : Whole → Decision)
   where
     -- what is chosen behind the head of a test

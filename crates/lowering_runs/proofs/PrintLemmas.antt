@@ -50,7 +50,8 @@ use Rattle.lowering_runs.specs.Leaves.{AreScalarItems}
 use Rattle.lowering_runs.proofs.NumberLemmas.{get_some}
 use Rattle.lowering_runs.proofs.BareLemmas.{codes_of, all_passed}
 use Rattle.lowering_runs.proofs.RowLemmas.{print_step, number_step, truth_step}
-use Rattle.lowering_runs.proofs.ListLemmas.{Hold, AreScalarsAt, meant, meant_length, values_agree}
+use Rattle.lowering_runs.specs.Values.{Hold, meant}
+use Rattle.lowering_runs.proofs.ListLemmas.{AreScalarsAt, meant_length, values_agree}
 use Rattle.lowering_runs.proofs.HeadLemmas.{scalars_of}
 
 -- scalars alone are printed
@@ -384,8 +385,8 @@ module _ (world : World) (at : ℕ) (ends : Bool) (items : List Item) where
       (subst (λ (l : List Expression). Agrees Like n 0 (outcome values) (rows (all l) now))
       (sym passed.left_is)
       (subst (λ (c : Course Whole). Agrees Like n 0 (outcome values) c) (sym code_is)
-      (values_agree tables n sight w next start stands (omega (arith, room.scalars)) Like n 0 line
-      store exprs first now (λ vs. out.prints store (text vs))
+      (values_agree tables n sight w next start stands (omega (arith, room.scalars)) line store Like n 0
+      exprs first now (λ vs. out.prints store (text vs))
       (rows_do (step tables n) (decide tables n) prints) scalars (omega arith) fits like
       (λ vs after l set_.
       subst (λ (c : Course Whole). Agrees Like n 0 (out.prints store (text vs)) c)

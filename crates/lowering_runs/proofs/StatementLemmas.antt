@@ -34,13 +34,14 @@ use Rattle.lowering_runs.specs.Called.{CallsAgree}
 use Rattle.lowering_runs.specs.ScalarText.{AreScalarActuals, AreScalarTexts, AreScalarStmts, AreScalarArms, IsScalarElse}
 use Rattle.lowering_runs.specs.Served.{IsServed, AreServed, IsServedForm}
 use Rattle.lowering_runs.specs.Leaves.{IsScalarAssigned, AreScalarItems, AreServedActuals, IsServedInvoke, ScalarLeaf}
-use Rattle.lowering_runs.specs.Suits.{ScalarTest, SuitsStmt, SuitAll, SuitsForm, SuitArms, SuitsElse}
+use Rattle.lowering_runs.specs.Suits.{ScalarBound, ScalarTest, SuitsStmt, SuitAll, SuitsForm, SuitArms, SuitsElse}
 use Rattle.lowering_runs.proofs.NumberLemmas.{get_some, number_below}
 use Rattle.lowering_runs.proofs.ValueLemmas.{thing_seen, known_thing}
 use Rattle.lowering_runs.proofs.ScalarLemmas.{assigned_agrees}
 use Rattle.lowering_runs.proofs.FitLemmas.{room_here}
 use Rattle.lowering_runs.proofs.ControlLemmas.{scalar_tests}
-use Rattle.lowering_runs.proofs.SuitLemmas.{goes_by, goes_more, FormGoes, suited_goes}
+use Rattle.lowering_runs.proofs.HeadLemmas.{scalar_values}
+use Rattle.lowering_runs.proofs.SuitLemmas.{goes_by, goes_more, leaf_goes, FormGoes, suited_goes}
 use Rattle.lowering_runs.proofs.PrintLemmas.{write_goes}
 use Rattle.lowering_runs.proofs.CallLemmas.{invoke_goes}
 
@@ -459,12 +460,12 @@ module _ (world : World) (setup : Setup) (IsCallable : List ℕ → Type 0)
     Bare borders (prefix ∷ rest) IsServed w p = ⊥
 
     bare_goes : (borders : Bool) (prefixes : List Prefix) (IsServed : Where → Place → Type 0)
-        (run : Context → Store → Outcome) (made : Lowering → Next → Lowered)
-        → Goes world IsServed run made 1 → Goes world (Bare borders prefixes IsServed)
+        (run : Context → Store → Outcome) (made : Lowering → Next → Lowered) (spare : ℕ)
+        → Goes world IsServed run made spare → Goes world (Bare borders prefixes IsServed)
         (λ c store. mean.under c prefixes store (λ inner. run inner store))
-        (λ l next. low.lowered_under borders l next prefixes made) 1
-    bare_goes borders [] IsServed run made goes = goes
-    bare_goes borders (prefix ∷ rest) IsServed run made goes = λ sight w next start stands served room
+        (λ l next. low.lowered_under borders l next prefixes made) spare
+    bare_goes borders [] IsServed run made spare goes = goes
+    bare_goes borders (prefix ∷ rest) IsServed run made spare goes = λ sight w next start stands served room
         store now like. absurd served
 
     mutual
@@ -549,5 +550,7 @@ module _ (world : World) (setup : Setup) (IsCallable : List ℕ → Type 0)
         (SuitsStmt Bare (ScalarLeaf setup IsCallable) stmt)
         (λ c store. mean.exec c world.turns stmt store) (λ l next. low.lowered l next stmt) 0
         (λ w p h. stmt_suits stmt w p h)
-        (suited_goes world Bare ScalarTest (ScalarLeaf setup IsCallable) bare_goes (scalar_tests world)
-        (scalar_leaves world setup IsCallable calls) stmt)
+        (suited_goes world Bare ScalarTest ScalarBound (ScalarLeaf setup IsCallable) bare_goes
+        (scalar_tests world) (scalar_values world)
+        (λ at form. leaf_goes world (ScalarLeaf setup IsCallable) at form
+        (scalar_leaves world setup IsCallable calls at form)) stmt)

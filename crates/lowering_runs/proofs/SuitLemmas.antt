@@ -1,7 +1,8 @@
 -- The code of a statement goes as the statement does, where all forms in it suit their places: by
--- what is known of prefixes, of tests, and of forms that have no statements in them.
-use Rattle.std.proofs.Common.{◌≡◌, ◌⊎◌, inl, inr, ℕ, ◌+◌, Bool, false, List, arith}
-use Rattle.zpl_tree.specs.Syntax.{Expr, Prefix, Stmt, Prefixed, Stmts, NoStmt, ThenStmt, Form, Assign, Invoke, Block, If, While, Repeat, For, Border, Write, Return, Tested, Arms, NoArm, ThenArm, Otherwise, NoElse, Else}
+-- what is known of prefixes, of tests and bounds, and of forms that have no statements in them.
+use Rattle.std.proofs.Common.{◌≡◌, ◌⊎◌, inl, inr, ℕ, ◌+◌, ◌*◌, ◌≤◌, Bool, false, List, [], ◌∷◌, Option, Some, None, arith}
+use Rattle.zpl_tree.specs.Syntax.{Expr, ForHead, Prefix, Stmt, Prefixed, Stmts, NoStmt, ThenStmt, Form, Assign, Invoke, Block, If, While, Repeat, For, Border, Write, Return, Tested, Arms, NoArm, ThenArm, Otherwise, NoElse, Else}
+use Rattle.zpl_names.specs.Counts.{expr_nodes, own_nodes, step_nodes}
 use Rattle.zpl_names.specs.Sites.{is_shattered}
 use Rattle.zpl_meaning.specs.Store.{Store}
 use Rattle.zpl_meaning.specs.Context.{Place, reach_of}
@@ -16,11 +17,11 @@ use Rattle.zpl_lowering.specs.Statement as low
 use Rattle.zpl_lowering.specs.Statement.{Lowering}
 use Rattle.lowering_runs.specs.Seen.{seen_place}
 use Rattle.lowering_runs.specs.Stands.{IsLike}
-use Rattle.lowering_runs.specs.Goes.{World, Goes, TestsGo}
-use Rattle.lowering_runs.specs.Suits.{IsServedHead, SuitsStmtBy, SuitAllBy, SuitsFormBy, SuitArmsBy, SuitsElseBy}
+use Rattle.lowering_runs.specs.Goes.{World, Goes, TestsGo, ValuesGo}
+use Rattle.lowering_runs.specs.Suits.{SuitsStmtBy, SuitAllBy, SuitsFormBy, SuitArmsBy, SuitsElseBy}
 use Rattle.lowering_runs.proofs.AgreeLemmas.{weaker_agrees, counting_agrees}
 use Rattle.lowering_runs.proofs.ControlLemmas.{nothing_goes, two_go, unsplit_goes, when_goes, chosen_goes, while_goes, repeat_goes}
-use Rattle.lowering_runs.proofs.HeadLemmas.{for_goes}
+use Rattle.lowering_runs.proofs.HeadLemmas.{for_goes, head_nodes}
 
 module _ (world : World) where
   pub goes_by : (One Other : Where → Place → Type 0) (run : Context → Store → Outcome)
@@ -29,11 +30,17 @@ module _ (world : World) where
   goes_by One Other run made spare f goes sight w next start stands served room store now like =
       goes sight w next start stands (f w (seen_place sight w start) served) room store now like
 
+  -- with more to spare
+  pub spare_more : (One : Where → Place → Type 0) (run : Context → Store → Outcome)
+      (made : Lowering → Next → Lowered) (spare more : ℕ) → spare ≤ more
+      → Goes world One run made spare → Goes world One run made more
+  spare_more One run made spare more le goes sight w next start stands served room store now like =
+      weaker_agrees (IsLike world.tables sight.spots w next start) world.turns world.turns spare more _ _
+      (omega arith) le (goes sight w next start stands served room store now like)
+
   pub goes_more : (One : Where → Place → Type 0) (run : Context → Store → Outcome)
       (made : Lowering → Next → Lowered) → Goes world One run made 0 → Goes world One run made 1
-  goes_more One run made goes sight w next start stands served room store now like =
-      weaker_agrees (IsLike world.tables sight.spots w next start) world.turns world.turns 0 1 _ _
-      (omega arith) (omega arith) (goes sight w next start stands served room store now like)
+  goes_more One run made goes = spare_more One run made 0 1 (omega arith) goes
 
   pub either_goes : (One Other : Where → Place → Type 0) (run : Context → Store → Outcome)
       (made : Lowering → Next → Lowered) (spare : ℕ) → Goes world One run made spare
@@ -43,41 +50,72 @@ module _ (world : World) where
   either_goes One Other run made spare first second sight w next start stands (inr served) room store
       now like = second sight w next start stands served room store now like
 
-  -- a statement counts steps, which make room for a jump
-  counting_goes : (IsServed : Where → Place → Type 0) (steps : ℕ) (run : Context → Store → Outcome)
-      (made : Lowering → Next → Lowered) → Goes world IsServed run made 1
+  -- a statement counts steps, which make room for jumps
+  counting_goes : (IsServed : Where → Place → Type 0) (spare steps : ℕ)
+      (run : Context → Store → Outcome) (made : Lowering → Next → Lowered) → spare ≤ 2 * (1 + steps)
+      → Goes world IsServed run made spare
       → Goes world IsServed (λ c store. out.counting (1 + steps) (run c store)) made 0
-  counting_goes IsServed steps run made goes sight w next start stands served room store now like =
-      counting_agrees (IsLike world.tables sight.spots w next start) world.turns 1 0 (1 + steps) _ _
-      (omega arith) (goes sight w next start stands served room store now like)
+  counting_goes IsServed spare steps run made le goes sight w next start stands served room store now
+      like =
+      counting_agrees (IsLike world.tables sight.spots w next start) world.turns spare 0 (1 + steps) _ _
+      (omega (arith, le)) (goes sight w next start stands served room store now like)
+
+  -- its own nodes are among them
+  pub own_counted : (prefixes : List Prefix) (form : Form)
+      → own_nodes form ≤ mean.nodes_under prefixes form
+  own_counted [] form = omega arith
+  own_counted (prefix ∷ rest) form = let h = own_counted rest form in omega (arith, h)
+
+  -- and so are those of a `for`, whose step has a node where none stands in the text
+  head_counted : (head : ForHead) → head_nodes head + 1 ≤ 2 + (expr_nodes head.first
+      + expr_nodes head.last + step_nodes head.step)
+  head_counted head = let h = step_counted head.step in omega (arith, h)
+    where
+      step_counted : (step : Option Expr) → expr_nodes (mean.step_expr step) ≤ step_nodes step + 1
+      step_counted None = omega arith
+      step_counted (Some step) = omega arith
 
   abbrev pub FormGoes : (ℕ → Form → Where → Place → Type 0) → ℕ → Form → Type 0
   FormGoes IsServed at form =
       Goes world (IsServed at form) (λ c store. mean.exec_form c world.turns at form store)
       (λ l next. low.lowered_form l next at form) 1
 
+  -- a form without statements in it has as many jumps to spare as it has nodes, and one more
+  abbrev pub LeafGoes : (ℕ → Form → Where → Place → Type 0) → ℕ → Form → Type 0
+  LeafGoes IsServed at form =
+      Goes world (IsServed at form) (λ c store. mean.exec_form c world.turns at form store)
+      (λ l next. low.lowered_form l next at form) (1 + own_nodes form)
+
+  pub leaf_goes : (IsServed : ℕ → Form → Where → Place → Type 0) (at : ℕ) (form : Form)
+      → FormGoes IsServed at form → LeafGoes IsServed at form
+  leaf_goes IsServed at form goes =
+      spare_more (IsServed at form) (λ c store. mean.exec_form c world.turns at form store)
+      (λ l next. low.lowered_form l next at form) 1 (1 + own_nodes form) (omega arith) goes
+
   module _ (IsUnder : Bool → List Prefix → (Where → Place → Type 0) → Where → Place → Type 0)
-      (IsTest : Expr → Where → Place → Type 0) (IsLeaf : ℕ → Form → Where → Place → Type 0)
+      (IsTest IsBound : Expr → Where → Place → Type 0)
+      (IsLeaf : ℕ → Form → Where → Place → Type 0)
       (under : (borders : Bool) (prefixes : List Prefix) (IsServed : Where → Place → Type 0)
-      (run : Context → Store → Outcome) (made : Lowering → Next → Lowered)
-      → Goes world IsServed run made 1 → Goes world (IsUnder borders prefixes IsServed)
+      (run : Context → Store → Outcome) (made : Lowering → Next → Lowered) (spare : ℕ)
+      → Goes world IsServed run made spare → Goes world (IsUnder borders prefixes IsServed)
       (λ c store. mean.under c prefixes store (λ inner. run inner store))
-      (λ l next. low.lowered_under borders l next prefixes made) 1)
-      (tests : TestsGo world IsTest) (leaves : (at : ℕ) (form : Form) → FormGoes IsLeaf at form) where
+      (λ l next. low.lowered_under borders l next prefixes made) spare)
+      (tests : TestsGo world IsTest) (bounds : ValuesGo world IsBound)
+      (leaves : (at : ℕ) (form : Form) → LeafGoes IsLeaf at form) where
     abbrev Stmt_ : Stmt → Where → Place → Type 0
-    Stmt_ stmt = SuitsStmtBy IsUnder IsTest IsLeaf stmt
+    Stmt_ stmt = SuitsStmtBy IsUnder IsTest IsBound IsLeaf stmt
 
     abbrev All_ : Stmts → Where → Place → Type 0
-    All_ stmts = SuitAllBy IsUnder IsTest IsLeaf stmts
+    All_ stmts = SuitAllBy IsUnder IsTest IsBound IsLeaf stmts
 
     abbrev Form_ : ℕ → Form → Where → Place → Type 0
-    Form_ at form = SuitsFormBy IsUnder IsTest IsLeaf at form
+    Form_ at form = SuitsFormBy IsUnder IsTest IsBound IsLeaf at form
 
     abbrev Else_ : Otherwise → Where → Place → Type 0
-    Else_ otherwise = SuitsElseBy IsUnder IsTest IsLeaf otherwise
+    Else_ otherwise = SuitsElseBy IsUnder IsTest IsBound IsLeaf otherwise
 
     abbrev Arms_ : Arms → Otherwise → Where → Place → Type 0
-    Arms_ arms otherwise w p = SuitArmsBy IsUnder IsTest IsLeaf arms w p × Else_ otherwise w p
+    Arms_ arms otherwise w p = SuitArmsBy IsUnder IsTest IsBound IsLeaf arms w p × Else_ otherwise w p
 
     abbrev StmtGoes : Stmt → Type 0
     StmtGoes stmt =
@@ -114,28 +152,40 @@ module _ (world : World) where
     abbrev made_form : ℕ → Form → Lowering → Next → Lowered
     made_form at form l next = low.lowered_form l next at form
 
+    -- a `for` has one more, for where it makes no turn
+    abbrev RunGoes : ℕ → Form → Type 0
+    RunGoes at form =
+        Goes world (Form_ at form) (run_form at form) (made_form at form) (2 + own_nodes form)
+
+    one_more : (at : ℕ) (form : Form) → LeafGoes Form_ at form → RunGoes at form
+    one_more at form goes =
+        spare_more (Form_ at form) (run_form at form) (made_form at form) (1 + own_nodes form)
+        (2 + own_nodes form) (omega arith) goes
+
     -- one that may be shattered
     tested_goes : (at : ℕ) (form : Form) (Plain : Where → Place → Type 0)
         → Goes world (λ w p. (is_shattered (reach_of p) form ≡ false) × Plain w p)
-        (run_form at form) (made_form at form) 1
+        (run_form at form) (made_form at form) (1 + own_nodes form)
         → Goes world
         (λ w p. IsLeaf at form w p ⊎ ((is_shattered (reach_of p) form ≡ false) × Plain w p))
-        (run_form at form) (made_form at form) 1
+        (run_form at form) (made_form at form) (1 + own_nodes form)
     tested_goes at form Plain goes =
         either_goes (IsLeaf at form)
         (λ w p. (is_shattered (reach_of p) form ≡ false) × Plain w p) (run_form at form)
-        (made_form at form) 1 (leaves at form) goes
+        (made_form at form) (1 + own_nodes form) (leaves at form) goes
 
     mutual
       pub suited_goes : (stmt : Stmt) → StmtGoes stmt
       suited_goes (Prefixed at prefixes form) =
-          counting_goes (Stmt_ (Prefixed at prefixes form)) (mean.nodes_under prefixes form)
+          counting_goes (Stmt_ (Prefixed at prefixes form)) (2 + own_nodes form)
+          (mean.nodes_under prefixes form)
           (λ c store. mean.under c prefixes store (λ inner.
           mean.exec_form inner world.turns at form store))
           (λ l next. low.lowered_under (low.is_border form) l next prefixes
           (λ inner after. low.lowered_form inner after at form))
+          (let h = own_counted prefixes form in omega (arith, h))
           (under (low.is_border form) prefixes (Form_ at form) (run_form at form)
-          (made_form at form) (form_goes form at))
+          (made_form at form) (2 + own_nodes form) (form_goes form at))
 
       all_go : (stmts : Stmts) → AllGo stmts
       all_go NoStmt = nothing_goes world (All_ NoStmt)
@@ -145,13 +195,17 @@ module _ (world : World) where
           (λ l next. low.lowered l next first) (λ l next. low.lowered_all l next rest)
           (suited_goes first) (all_go rest)
 
-      form_goes : (form : Form) (at : ℕ) → FormGoes Form_ at form
-      form_goes (Assign name op value) at = leaves at (Assign name op value)
-      form_goes (Invoke name actuals) at = leaves at (Invoke name actuals)
+      form_goes : (form : Form) (at : ℕ) → RunGoes at form
+      form_goes (Assign name op value) at =
+          one_more at (Assign name op value) (leaves at (Assign name op value))
+      form_goes (Invoke name actuals) at =
+          one_more at (Invoke name actuals) (leaves at (Invoke name actuals))
       form_goes (Block body) at =
-          goes_more (All_ body) (run_form at (Block body)) (made_form at (Block body)) (all_go body)
+          one_more at (Block body)
+          (goes_more (All_ body) (run_form at (Block body)) (made_form at (Block body)) (all_go body))
       form_goes (If arms otherwise) at =
-          tested_goes at (If arms otherwise) (Arms_ arms otherwise)
+          one_more at (If arms otherwise)
+          (tested_goes at (If arms otherwise) (Arms_ arms otherwise)
           (goes_more (λ w p. (is_shattered (reach_of p) (If arms otherwise) ≡ false)
           × Arms_ arms otherwise w p) (run_form at (If arms otherwise))
           (made_form at (If arms otherwise))
@@ -159,9 +213,10 @@ module _ (world : World) where
           (λ c. shattered c.place (mean.line_of c.place at) world.turns (If arms otherwise))
           (run_arms arms at otherwise)
           (λ l next. low.shattered l.place (line_of l.place at) next (If arms otherwise))
-          (made_arms arms at otherwise) 0 (arms_go arms at otherwise (else_goes otherwise))))
+          (made_arms arms at otherwise) 0 (arms_go arms at otherwise (else_goes otherwise)))))
       form_goes (While test body) at =
-          tested_goes at (While test body) (λ w p. IsTest test w p × All_ body w p)
+          one_more at (While test body)
+          (tested_goes at (While test body) (λ w p. IsTest test w p × All_ body w p)
           (goes_more (λ w p. (is_shattered (reach_of p) (While test body) ≡ false)
           × (IsTest test w p × All_ body w p)) (run_form at (While test body))
           (made_form at (While test body))
@@ -172,9 +227,10 @@ module _ (world : World) where
           (λ l next. low.shattered l.place (line_of l.place at) next (While test body))
           (λ l next. low.while_code next (low.test_of l.place next test at)
           (λ after. low.lowered_all l after body)) 0
-          (while_goes world IsTest tests at test body (All_ body) (all_go body))))
+          (while_goes world IsTest tests at test body (All_ body) (all_go body)))))
       form_goes (Repeat body until test) at =
-          tested_goes at (Repeat body until test) (λ w p. IsTest test w p × All_ body w p)
+          one_more at (Repeat body until test)
+          (tested_goes at (Repeat body until test) (λ w p. IsTest test w p × All_ body w p)
           (unsplit_goes world (λ w p. IsTest test w p × All_ body w p) (Repeat body until test)
           (λ c. shattered c.place (mean.line_of c.place at) world.turns (Repeat body until test))
           (λ c store. out.repeat_turns world.turns (mean.test_of c.place test until)
@@ -182,15 +238,17 @@ module _ (world : World) where
           (λ l next. low.shattered l.place (line_of l.place at) next (Repeat body until test))
           (λ l next. low.repeat_code next (low.lowered_all l next body)
           (λ after. low.test_of l.place after test until)) 1
-          (repeat_goes world IsTest tests until test body (All_ body) (all_go body)))
+          (repeat_goes world IsTest tests until test body (All_ body) (all_go body))))
       form_goes (For head body) at =
-          goes_by (λ w p. IsServedHead head p × All_ body w p)
-          (λ w p. IsServedHead head p × All_ body w p) (run_form at (For head body))
-          (made_form at (For head body)) 1 (λ w p h. h)
-          (for_goes world at head body (All_ body) (all_go body))
-      form_goes (Border kind names) at = leaves at (Border kind names)
-      form_goes (Write ends items) at = leaves at (Write ends items)
-      form_goes (Return value) at = leaves at (Return value)
+          spare_more (Form_ at (For head body)) (run_form at (For head body))
+          (made_form at (For head body)) (head_nodes head + 1) (2 + own_nodes (For head body))
+          (head_counted head) (for_goes world IsBound bounds at head body (All_ body) (all_go body))
+      form_goes (Border kind names) at =
+          one_more at (Border kind names) (leaves at (Border kind names))
+      form_goes (Write ends items) at =
+          one_more at (Write ends items) (leaves at (Write ends items))
+      form_goes (Return value) at =
+          one_more at (Return value) (leaves at (Return value))
 
       arms_go : (arms : Arms) (at : ℕ) (otherwise : Otherwise) → ElseGoes otherwise
           → ArmsGo arms at otherwise

@@ -2,6 +2,7 @@ pub mod Seen
 pub mod Run
 pub mod Agrees
 pub mod Heads
+pub mod Values
 pub mod Shown
 pub mod Stands
 pub mod Scalars

@@ -1,6 +1,6 @@
 -- Statements that suit the places where they stand: what is asked of each form in them holds at the
--- place that it comes to. It is asked form by form, for any prefixes, for any tests, and for any
--- forms that have no statements in them.
+-- place that it comes to. It is asked form by form, for any prefixes, for any tests and bounds, and
+-- for any forms that have no statements in them.
 use Rattle.std.specs.Prelude.{◌≡◌, ◌⊎◌, ℕ, Bool, false, List}
 use Rattle.zpl_tree.specs.Syntax.{Expr, Prefix, ForHead, Stmt, Prefixed, Stmts, NoStmt, ThenStmt, Form, Assign, Invoke, Block, If, While, Repeat, For, Border, Write, Return, Arm, Tested, Arms, NoArm, ThenArm, Otherwise, NoElse, Else}
 use Rattle.zpl_names.specs.Sites.{is_shattered}
@@ -12,7 +12,13 @@ use Rattle.zpl_lowering.specs.Where.{Where}
 use Rattle.zpl_lowering.specs.Statement.{is_border}
 use Rattle.lowering_runs.specs.Scalars.{IsScalarAt}
 
--- what is asked of a `for`, beside its body
+-- What is asked of a `for`, beside its body: of its bounds and its step, and of its variable.
+abbrev pub IsServedHeadBy : (Expr → Where → Place → Type 0) → ForHead → Where → Place → Type 0
+IsServedHeadBy IsBound head w place =
+    IsBound head.first w place × IsBound head.last w place × IsBound (step_expr head.step) w place
+    × IsVariable (thing_of place.environment head.name.text)
+
+-- its bounds are of scalars
 abbrev pub IsServedHead : ForHead → Place → Type 0
 IsServedHead head place =
     IsScalarAt place head.first × IsScalarAt place head.last
@@ -20,9 +26,11 @@ IsServedHead head place =
     × IsVariable (thing_of place.environment head.name.text)
 
 -- What is asked behind prefixes, whether these are of a border statement; of the tests of `if`,
--- `while` and `repeat`; and of a form that has no statements in it, or is shattered, by its offset.
+-- `while` and `repeat`; of the bounds of `for`; and of a form that has no statements in it, or is
+-- shattered, by its offset.
 module _ (IsUnder : Bool → List Prefix → (Where → Place → Type 0) → Where → Place → Type 0)
-    (IsTest : Expr → Where → Place → Type 0) (IsLeaf : ℕ → Form → Where → Place → Type 0) where
+    (IsTest IsBound : Expr → Where → Place → Type 0)
+    (IsLeaf : ℕ → Form → Where → Place → Type 0) where
   abbrev mutual
     pub SuitsStmtBy : Stmt → Where → Place → Type 0
     SuitsStmtBy (Prefixed at prefixes form) w place =
@@ -48,7 +56,8 @@ module _ (IsUnder : Bool → List Prefix → (Where → Place → Type 0) → Wh
         IsLeaf at (Repeat body until test) w place
         ⊎ ((is_shattered (reach_of place) (Repeat body until test) ≡ false)
         × (IsTest test w place × SuitAllBy body w place))
-    SuitsFormBy at (For head body) w place = IsServedHead head place × SuitAllBy body w place
+    SuitsFormBy at (For head body) w place =
+        IsServedHeadBy IsBound head w place × SuitAllBy body w place
     SuitsFormBy at (Border kind names) w place = IsLeaf at (Border kind names) w place
     SuitsFormBy at (Write line items) w place = IsLeaf at (Write line items) w place
     SuitsFormBy at (Return value) w place = IsLeaf at (Return value) w place
@@ -68,20 +77,24 @@ module _ (IsUnder : Bool → List Prefix → (Where → Place → Type 0) → Wh
 abbrev pub ScalarTest : Expr → Where → Place → Type 0
 ScalarTest test w place = IsScalarAt place test
 
--- the same, where all tests are of scalars
+-- and so is a bound
+abbrev pub ScalarBound : Expr → Where → Place → Type 0
+ScalarBound bound w place = IsScalarAt place bound
+
+-- the same, where all tests and bounds are of scalars
 module _ (IsUnder : Bool → List Prefix → (Where → Place → Type 0) → Where → Place → Type 0)
     (IsLeaf : ℕ → Form → Where → Place → Type 0) where
   abbrev pub SuitsStmt : Stmt → Where → Place → Type 0
-  SuitsStmt stmt w place = SuitsStmtBy IsUnder ScalarTest IsLeaf stmt w place
+  SuitsStmt stmt w place = SuitsStmtBy IsUnder ScalarTest ScalarBound IsLeaf stmt w place
 
   abbrev pub SuitAll : Stmts → Where → Place → Type 0
-  SuitAll stmts w place = SuitAllBy IsUnder ScalarTest IsLeaf stmts w place
+  SuitAll stmts w place = SuitAllBy IsUnder ScalarTest ScalarBound IsLeaf stmts w place
 
   abbrev pub SuitsForm : ℕ → Form → Where → Place → Type 0
-  SuitsForm at form w place = SuitsFormBy IsUnder ScalarTest IsLeaf at form w place
+  SuitsForm at form w place = SuitsFormBy IsUnder ScalarTest ScalarBound IsLeaf at form w place
 
   abbrev pub SuitArms : Arms → Where → Place → Type 0
-  SuitArms arms w place = SuitArmsBy IsUnder ScalarTest IsLeaf arms w place
+  SuitArms arms w place = SuitArmsBy IsUnder ScalarTest ScalarBound IsLeaf arms w place
 
   abbrev pub SuitsElse : Otherwise → Where → Place → Type 0
-  SuitsElse otherwise w place = SuitsElseBy IsUnder ScalarTest IsLeaf otherwise w place
+  SuitsElse otherwise w place = SuitsElseBy IsUnder ScalarTest ScalarBound IsLeaf otherwise w place

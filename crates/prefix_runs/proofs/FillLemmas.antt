@@ -27,16 +27,10 @@ use Rattle.lowering_runs.specs.Run.{step, decide}
 use Rattle.lowering_runs.specs.Stands.{SlotsAt, AreDeclared}
 use Rattle.lowering_runs.proofs.NumberLemmas.{length_set, get_same, get_other}
 use Rattle.lowering_runs.proofs.PrintLemmas.{rows_append}
+use Rattle.prefix_runs.specs.Filled.{IsFilled}
 use Rattle.prefix_runs.proofs.ShapedLemmas.{filled, limit_step, form_step, at_limit, limited_is, shaped_once, shaped}
 
 -- ---- what filling slots leaves alone
-
-pub record IsFilled (bottom : ℕ) (before after : Whole) : Type 0 where
-  pub scalars : after.scalars ≡ before.scalars
-  pub awaited : after.awaited ≡ before.awaited
-  pub stores : after.stores ≡ before.stores
-  pub many : length after.slots ≡ length before.slots
-  pub below : (k : ℕ) → k < bottom → slice_get after.slots k ≡ slice_get before.slots k
 
 pub filled_itself : (bottom : ℕ) (now : Whole) → IsFilled bottom now now
 filled_itself bottom now = record {
@@ -56,6 +50,16 @@ filled_more bottom before mid slot region le h = record {
   many = length_set mid.slots slot region ∙ h.many;
   below = λ k l. get_other mid.slots slot k region (λ e. absurd (omega (arith, l, le, e)))
       ∙ h.below k l;
+}
+
+pub filled_then : (bottom more : ℕ) (before mid after : Whole) → bottom ≤ more
+    → IsFilled bottom before mid → IsFilled more mid after → IsFilled bottom before after
+filled_then bottom more before mid after le h k = record {
+  scalars = k.scalars ∙ h.scalars;
+  awaited = k.awaited ∙ h.awaited;
+  stores = k.stores ∙ h.stores;
+  many = k.many ∙ h.many;
+  below = λ i l. k.below i (omega (arith, l, le)) ∙ h.below i l;
 }
 
 -- They come to a state in which the slot has the region, or end with the trap that it has.

@@ -1,6 +1,7 @@
 -- Statements of scalars and arrays, under prefixes.
-use Rattle.std.proofs.Common.{ℕ, List}
+use Rattle.std.proofs.Common.{ℕ, ◌+◌, List}
 use Rattle.zpl_tree.specs.Syntax.{Expr, Stmt, Form, Assign, Invoke, Block, If, While, Repeat, For, Border, Write, Return}
+use Rattle.zpl_names.specs.Counts.{own_nodes}
 use Rattle.zpl_meaning.specs.Context.{Setup, Place}
 use Rattle.zpl_meaning.specs.Statement as mean
 use Rattle.zpl_meaning.specs.Statement.{Context}
@@ -8,12 +9,13 @@ use Rattle.zpl_lowering.specs.Where.{Where}
 use Rattle.zpl_lowering.specs.Statement as low
 use Rattle.zpl_lowering.specs.Statement.{Lowering}
 use Rattle.lowering_runs.specs.Seen.{seen_place}
-use Rattle.lowering_runs.specs.Goes.{World, Goes, TestsGo}
+use Rattle.lowering_runs.specs.Goes.{World, Goes, TestsGo, ValuesGo}
 use Rattle.lowering_runs.specs.Called.{CallsAgree}
-use Rattle.lowering_runs.specs.Suits.{ScalarTest, SuitsStmt, SuitsStmtBy}
+use Rattle.lowering_runs.specs.Suits.{ScalarBound, ScalarTest, SuitsStmt, SuitsStmtBy}
 use Rattle.lowering_runs.specs.Leaves.{ScalarLeaf}
 use Rattle.lowering_runs.proofs.ControlLemmas.{scalar_tests}
-use Rattle.lowering_runs.proofs.SuitLemmas.{goes_more, either_goes, FormGoes, suited_goes}
+use Rattle.lowering_runs.proofs.HeadLemmas.{scalar_values}
+use Rattle.lowering_runs.proofs.SuitLemmas.{goes_more, either_goes, leaf_goes, FormGoes, suited_goes}
 use Rattle.lowering_runs.proofs.StatementLemmas.{scalar_leaves}
 use Rattle.array_runs.specs.Floods.{IsArrayServed}
 use Rattle.array_runs.proofs.FloodLemmas.{served_goes}
@@ -21,26 +23,27 @@ use Rattle.prefix_runs.specs.Under.{IsUnder}
 use Rattle.prefix_runs.specs.Plain.{ArrayLeaf, PlainLeaf}
 use Rattle.prefix_runs.proofs.UnderLemmas.{under_goes}
 
-pub suited_agrees_by : (world : World) (IsTest : Expr → Where → Place → Type 0)
-    (IsLeaf : ℕ → Form → Where → Place → Type 0) → TestsGo world IsTest
+pub suited_agrees_by : (world : World) (IsTest IsBound : Expr → Where → Place → Type 0)
+    (IsLeaf : ℕ → Form → Where → Place → Type 0) → TestsGo world IsTest → ValuesGo world IsBound
     → ((at : ℕ) (form : Form) → Goes world (IsLeaf at form)
     (λ c store. mean.exec_form c world.turns at form store)
-    (λ l next. low.lowered_form l next at form) 1) → (stmt : Stmt)
-    → Goes world (SuitsStmtBy IsUnder IsTest IsLeaf stmt)
+    (λ l next. low.lowered_form l next at form) (1 + own_nodes form)) → (stmt : Stmt)
+    → Goes world (SuitsStmtBy IsUnder IsTest IsBound IsLeaf stmt)
     (λ c store. mean.exec c world.turns stmt store) (λ l next. low.lowered l next stmt) 0
-suited_agrees_by world IsTest IsLeaf tests leaves stmt =
-    suited_goes world IsUnder IsTest IsLeaf
-    (λ borders prefixes IsServed run made goes.
-    under_goes world borders prefixes IsServed run made goes) tests leaves stmt
+suited_agrees_by world IsTest IsBound IsLeaf tests bounds leaves stmt =
+    suited_goes world IsUnder IsTest IsBound IsLeaf
+    (λ borders prefixes IsServed run made spare goes.
+    under_goes world borders prefixes IsServed run made spare goes) tests bounds leaves stmt
 
 pub suited_agrees : (world : World) (IsLeaf : ℕ → Form → Where → Place → Type 0)
     → ((at : ℕ) (form : Form) → Goes world (IsLeaf at form)
     (λ c store. mean.exec_form c world.turns at form store)
-    (λ l next. low.lowered_form l next at form) 1) → (stmt : Stmt)
+    (λ l next. low.lowered_form l next at form) (1 + own_nodes form)) → (stmt : Stmt)
     → Goes world (SuitsStmt IsUnder IsLeaf stmt) (λ c store. mean.exec c world.turns stmt store)
     (λ l next. low.lowered l next stmt) 0
 suited_agrees world IsLeaf leaves stmt =
-    suited_agrees_by world ScalarTest IsLeaf (scalar_tests world) leaves stmt
+    suited_agrees_by world ScalarTest ScalarBound IsLeaf (scalar_tests world) (scalar_values world)
+    leaves stmt
 
 module _ (world : World) where
   no_array : (at : ℕ) (form : Form) → ((w : Where) (p : Place) → ArrayLeaf at form w p → ⊥)
@@ -78,4 +81,6 @@ module _ (world : World) where
       → Goes world (SuitsStmt IsUnder (PlainLeaf setup IsCallable) stmt)
       (λ c store. mean.exec c world.turns stmt store) (λ l next. low.lowered l next stmt) 0
   plain_agrees setup IsCallable calls stmt =
-      suited_agrees world (PlainLeaf setup IsCallable) (plain_leaves setup IsCallable calls) stmt
+      suited_agrees world (PlainLeaf setup IsCallable)
+      (λ at form. leaf_goes world (PlainLeaf setup IsCallable) at form
+      (plain_leaves setup IsCallable calls at form)) stmt

@@ -18,7 +18,7 @@ use Rattle.zpl_meaning.specs.Computed as mean_computed
 use Rattle.zpl_meaning.specs.Computed.{computed_then}
 use Rattle.row_runs.specs.Straight.{Every}
 use Rattle.zpl_meaning.specs.Store.{Thing, Scalar, ArrayAt, Fixed, Store, no_array, thing_of}
-use Rattle.zpl_meaning.specs.Context.{Mask, Currents, over_at, with_over, Edge, Place}
+use Rattle.zpl_meaning.specs.Context.{Mask, Currents, Over, over_at, with_over, Edge, Place}
 use Rattle.zpl_meaning.specs.Proper.{HasCurrent, IsArrayRank}
 use Rattle.zpl_meaning.specs.Regions.{vector_in, inner_over, mask_thing, mask_in, base_in, edge_in}
 use Rattle.zpl_meaning.specs.Regions as mean_regions
@@ -40,22 +40,23 @@ use Rattle.lowering_runs.specs.Seen.{slot_in, Spot, Sight, numbered, seen_thing,
 use Rattle.lowering_runs.specs.Run.{step, decide, does}
 use Rattle.lowering_runs.specs.Agrees.{Agrees, Trapping}
 use Rattle.lowering_runs.specs.Stands.{IsBefore, IsTaken, IsTakenEdge, AreTaken, Stands, HasRoom, IsCurrent, IsHeld, IsSound, IsLike}
-use Rattle.lowering_runs.specs.Goes.{World, context, lowering, Goes}
+use Rattle.lowering_runs.specs.Goes.{World, context, lowering, Goes, GoesTo}
 use Rattle.lowering_runs.proofs.AgreeLemmas.{alike_agrees}
 use Rattle.lowering_runs.proofs.ValueLemmas.{thing_seen}
-use Rattle.lowering_runs.proofs.FitLemmas.{currents_kept, held_on, stands_on, before_behind, keeps_all, anew_goes, room_first, room_rest, room_here}
+use Rattle.lowering_runs.proofs.FitLemmas.{IsCarried, anew_goes_to, currents_kept, held_on, stands_on, before_behind, keeps_all, room_first, room_rest, room_here}
 use Rattle.array_runs.proofs.CodedLemmas.{current_of, region_of}
 use Rattle.array_runs.proofs.StoredLemmas.{index_of_found}
 use Rattle.prefix_runs.specs.Opens.{IsOpenedAs, IsGivenRegion, Opens}
+use Rattle.prefix_runs.specs.Filled.{IsFilled}
 use Rattle.prefix_runs.specs.Under.{OpensPrefix, opened_at, over_of, mean_under, IsUnder}
 use Rattle.prefix_runs.proofs.ShapedLemmas.{Told}
 use Rattle.prefix_runs.proofs.SpanLemmas.{CurrentIf}
-use Rattle.prefix_runs.proofs.FillLemmas.{IsFilled, Filling, Fills, Refuses, declared_first, region_below}
+use Rattle.prefix_runs.proofs.FillLemmas.{Filling, Fills, Refuses, declared_first, region_below}
 use Rattle.prefix_runs.proofs.OpenLemmas.{Comes, computed_comes, bracket_comes}
 
 -- ---- the place behind a prefix
 
-over_with : (currents : SlotCurrents) (rank : Rank) (whole : Whole) (slotted : Slotted)
+pub over_with : (currents : SlotCurrents) (rank : Rank) (whole : Whole) (slotted : Slotted)
     → with_over (seen_currents whole currents) rank (seen_over whole slotted)
     ≡ seen_currents whole (with_slotted currents rank slotted)
 over_with currents (Some (suc zero)) whole slotted = refl
@@ -65,7 +66,24 @@ over_with currents (Some zero) whole slotted = refl
 over_with currents (Some (suc (suc (suc (suc n))))) whole slotted = refl
 over_with currents None whole slotted = refl
 
-taken_with : (currents : SlotCurrents) (rank : Rank) (slotted : Slotted) (slots : ℕ)
+-- another current region of a rank is its current region
+pub slotted_with : (currents : SlotCurrents) (rank : ℕ) (slotted : Slotted)
+    → IsArrayRank (Some rank) → slotted_at (with_slotted currents (Some rank) slotted) (Some rank) ≡ slotted
+slotted_with currents (suc zero) slotted r = refl
+slotted_with currents (suc (suc zero)) slotted r = refl
+slotted_with currents (suc (suc (suc zero))) slotted r = refl
+slotted_with currents zero slotted r = absurd r
+slotted_with currents (suc (suc (suc (suc k)))) slotted r = absurd r
+
+pub over_with_itself : (currents : Currents) (rank : ℕ) (over : Over) → IsArrayRank (Some rank)
+    → over_at (with_over currents (Some rank) over) (Some rank) ≡ over
+over_with_itself currents (suc zero) over r = refl
+over_with_itself currents (suc (suc zero)) over r = refl
+over_with_itself currents (suc (suc (suc zero))) over r = refl
+over_with_itself currents zero over r = absurd r
+over_with_itself currents (suc (suc (suc (suc k)))) over r = absurd r
+
+pub taken_with : (currents : SlotCurrents) (rank : Rank) (slotted : Slotted) (slots : ℕ)
     → slotted.slot < slots → AreTaken currents slots
     → AreTaken (with_slotted currents rank slotted) slots
 taken_with currents (Some (suc zero)) slotted slots l h =
@@ -78,7 +96,7 @@ taken_with currents (Some zero) slotted slots l h = h
 taken_with currents (Some (suc (suc (suc (suc n))))) slotted slots l h = h
 taken_with currents None slotted slots l h = h
 
-held_with : (tables : Tables) (w : Where) (slots : List Region) (rank : ℕ) (slotted : Slotted)
+pub held_with : (tables : Tables) (w : Where) (slots : List Region) (rank : ℕ) (slotted : Slotted)
     → IsArrayRank (Some rank) → IsCurrent slots rank slotted
     → IsHeld tables w.setup.known w.numbers.arrays w.currents slots
     → IsHeld tables w.setup.known w.numbers.arrays (with_slotted w.currents (Some rank) slotted) slots
@@ -109,11 +127,11 @@ held_with tables w slots (suc (suc (suc zero))) slotted r c h = record {
 held_with tables w slots zero slotted r c h = absurd r
 held_with tables w slots (suc (suc (suc (suc k)))) slotted r c h = absurd r
 
-rank_above : (rank : ℕ) → IsArrayRank (Some rank) → 1 ≤ rank
+pub rank_above : (rank : ℕ) → IsArrayRank (Some rank) → 1 ≤ rank
 rank_above zero r = absurd r
 rank_above (suc rank) r = omega arith
 
-rank_few : (rank : ℕ) → IsArrayRank (Some rank) → rank ≤ 3
+pub rank_few : (rank : ℕ) → IsArrayRank (Some rank) → rank ≤ 3
 rank_few zero r = omega arith
 rank_few (suc zero) r = omega arith
 rank_few (suc (suc zero)) r = omega arith
@@ -125,7 +143,7 @@ slot_taken : (whole : Whole) (slots : ℕ) (o : Option Slotted) → IsTaken o sl
 slot_taken whole slots None t h = absurd (let bad : false ≡ true = h in cc)
 slot_taken whole slots (Some one) t h = t
 
-taken_at : (currents : SlotCurrents) (whole : Whole) (rank : Rank) (slots : ℕ)
+pub taken_at : (currents : SlotCurrents) (whole : Whole) (rank : Rank) (slots : ℕ)
     → AreTaken currents slots → HasCurrent (seen_currents whole currents) rank
     → (slotted_at currents rank).slot < slots
 taken_at currents whole (Some (suc zero)) slots t h =
@@ -137,6 +155,35 @@ taken_at currents whole (Some (suc (suc (suc zero)))) slots t h =
 taken_at currents whole (Some zero) slots t h = absurd h
 taken_at currents whole (Some (suc (suc (suc (suc k))))) slots t h = absurd h
 taken_at currents whole None slots t h = absurd h
+
+-- the current region of a rank, which there is
+pub current_if : (tables : Tables) (w : Where) (now : Whole) (rank : ℕ)
+    → IsHeld tables w.setup.known w.numbers.arrays w.currents now.slots
+    → HasCurrent (seen_currents now w.currents) (Some rank)
+    → (c : IsCurrent now.slots rank (slotted_at w.currents (Some rank)))
+    × (c.region ≡ (over_at (seen_currents now w.currents) (Some rank)).region)
+current_if tables w now rank held h =
+    let c = current_of tables w now (Some rank) held h in
+    same c.of (rank_of c.is_of) c.current (region_of w now (Some rank) c)
+  where
+    rank_of : {a b : ℕ} → Some a ≡ Some b → b ≡ a
+    rank_of e = cc
+
+    same : (k : ℕ) → k ≡ rank → (c : IsCurrent now.slots k (slotted_at w.currents (Some rank)))
+        → (over_at (seen_currents now w.currents) (Some rank)).region ≡ c.region
+        → (c : IsCurrent now.slots rank (slotted_at w.currents (Some rank)))
+        × (c.region ≡ (over_at (seen_currents now w.currents) (Some rank)).region)
+    same k e c is = (
+      record {
+        region = c.region;
+        found = c.found;
+        is = c.is;
+        three = c.three;
+        ranked = c.ranked ∙ e;
+        flood = c.flood;
+      },
+      sym is,
+    )
 
 -- ---- masks, and the border that a prefix is
 
@@ -231,10 +278,10 @@ index_same xs ys k e =
     index_is (z ∷ zs) (suc k) = index_is zs k
 
 module _ (tables : Tables) (bottom : ℕ) (now after : Whole) (filled : IsFilled bottom now after) where
-  slots_kept : (k : ℕ) → k < bottom → slot_in after k ≡ slot_in now k
+  pub slots_kept : (k : ℕ) → k < bottom → slot_in after k ≡ slot_in now k
   slots_kept k lt = index_same now.slots after.slots k (filled.below k lt)
 
-  filled_sound : IsSound tables now → IsSound tables after
+  pub filled_sound : IsSound tables now → IsSound tables after
   filled_sound h = record {
     filled = record {
       scalars = ap (λ (xs : List ℤ). length xs) filled.scalars ∙ h.filled.scalars;
@@ -251,7 +298,7 @@ module _ (tables : Tables) (bottom : ℕ) (now after : Whole) (filled : IsFilled
         (sym filled.stores) (h.elements k row e kept);
   }
 
-  store_kept : (spots : List Spot) (arrays : List Stored)
+  pub store_kept : (spots : List Spot) (arrays : List Stored)
       → seen_store spots arrays after ≡ seen_store spots arrays now
   store_kept spots arrays =
       ap (λ (xs : List ℤ). seen_store spots arrays (record after { scalars = xs })) filled.scalars
@@ -259,12 +306,13 @@ module _ (tables : Tables) (bottom : ℕ) (now after : Whole) (filled : IsFilled
 
 -- ---- one prefix
 
-module _ (world : World) (borders : Bool) (prefix : Prefix) (rest : List Prefix)
+module _ (world : World) (Ended : Sight → Where → Next → Whole → Store → Whole → Type 0)
+    (carried : IsCarried world.tables Ended) (borders : Bool) (prefix : Prefix) (rest : List Prefix)
     (IsServed : Where → Place → Type 0) (run : Context → Store → Outcome)
-    (made : Lowering → Next → Lowered)
-    (goes : Goes world (IsUnder borders rest IsServed)
+    (made : Lowering → Next → Lowered) (spare : ℕ)
+    (goes : GoesTo world Ended (IsUnder borders rest IsServed)
     (λ c store. mean.under c rest store (λ inner. run inner store))
-    (λ l next. low.lowered_under borders l next rest made) 1)
+    (λ l next. low.lowered_under borders l next rest made) spare)
     (sight : Sight) (w : Where) (next : Next) (now : Whole) (stands : Stands sight.spots w next)
     (served : IsUnder borders (prefix ∷ rest) IsServed w (seen_place sight w now))
     (room : HasRoom world.tables next
@@ -319,34 +367,8 @@ module _ (world : World) (borders : Bool) (prefix : Prefix) (rest : List Prefix)
 
   has : CurrentIf now p o.rank slotted current
   has = subst (λ (r : Rank). CurrentIf now p o.rank (slotted_at w.currents r)
-      (over_at p.currents r).region) (sym o.ranked) (λ h. by h)
-    where
-      by : HasCurrent p.currents (Some o.rank)
-          → (c : IsCurrent now.slots o.rank (slotted_at w.currents (Some o.rank)))
-          × (c.region ≡ (over_at p.currents (Some o.rank)).region)
-      by h =
-          let c = current_of tables w now (Some o.rank) like.held h in
-          same c.of (rank_of c.is_of) c.current (region_of w now (Some o.rank) c)
-        where
-          rank_of : {a b : ℕ} → Some a ≡ Some b → b ≡ a
-          rank_of e = cc
-
-          same : (k : ℕ) → k ≡ o.rank
-              → (c : IsCurrent now.slots k (slotted_at w.currents (Some o.rank)))
-              → (over_at p.currents (Some o.rank)).region ≡ c.region
-              → (c : IsCurrent now.slots o.rank (slotted_at w.currents (Some o.rank)))
-              × (c.region ≡ (over_at p.currents (Some o.rank)).region)
-          same k e c is = (
-            record {
-              region = c.region;
-              found = c.found;
-              is = c.is;
-              three = c.three;
-              ranked = c.ranked ∙ e;
-              flood = c.flood;
-            },
-            sym is,
-          )
+      (over_at p.currents r).region) (sym o.ranked)
+      (λ h. current_if tables w now o.rank like.held h)
 
   slot_free : HasCurrent p.currents (Some o.rank) → slotted.slot < next.slots
   slot_free = subst (λ (r : Rank). HasCurrent p.currents (Some o.rank)
@@ -521,16 +543,16 @@ module _ (world : World) (borders : Bool) (prefix : Prefix) (rest : List Prefix)
         }
 
     behind_agrees : HasRoom tables more inner_made
-        → Agrees (IsLike tables sight.spots w next now) world.turns 1
+        → Agrees (Ended sight w next now) world.turns spare
         (mean.under (record { place = inner_p; call = world.call }) rest store
         (λ inner. run inner store))
         (does tables world.turns inner_made.code after)
     behind_agrees inner_room =
-        subst (λ (q : Place). Agrees (IsLike tables sight.spots w next now) world.turns 1
+        subst (λ (q : Place). Agrees (Ended sight w next now) world.turns spare
         (mean.under (record { place = q; call = world.call }) rest store (λ inner. run inner store))
         (does tables world.turns inner_made.code after)) place_is
-        (alike_agrees (IsLike tables sight.spots inner_w more after)
-        (IsLike tables sight.spots w next now) world.turns 1 _ _ outer_like
+        (alike_agrees (Ended sight inner_w more after) (Ended sight w next now) world.turns spare _ _
+        (carried sight w inner_w next more now after refl outer_like)
         (goes sight inner_w more after inner_stands
         (subst (λ (q : Place). IsUnder borders rest IsServed inner_w q) (sym place_is)
         (served.1 next.slots line store region
@@ -541,7 +563,7 @@ module _ (world : World) (borders : Bool) (prefix : Prefix) (rest : List Prefix)
 
   fills_agree : (v : mean_computed.Computed Region) (course : Course Whole) → value ≡ v
       → Filling next.slots opened.slot line now v course → Told opened.flood v
-      → Agrees (IsLike tables sight.spots w next now) world.turns 1
+      → Agrees (Ended sight w next now) world.turns spare
       (out.with_value (computed_then v (λ region. mean_computed.Gives (over_of p prefix region))) store
       line
       (λ over. mean.under
@@ -554,7 +576,7 @@ module _ (world : World) (borders : Bool) (prefix : Prefix) (rest : List Prefix)
       (room_rest tables next (code.Rows []) (of_opened opened) inner_made
       (record { scalars = room.scalars; slots = room.slots; arrays = room.arrays; temps = room.temps }))
 
-  pub under_agrees : Agrees (IsLike tables sight.spots w next now) world.turns 1
+  pub under_agrees : Agrees (Ended sight w next now) world.turns spare
       (mean.under (context world sight w now) (prefix ∷ rest) store (λ inner. run inner store))
       (does tables world.turns
       (low.lowered_under borders (lowering world w) next (prefix ∷ rest) made).code now)
@@ -565,17 +587,29 @@ module _ (world : World) (borders : Bool) (prefix : Prefix) (rest : List Prefix)
 
 -- ---- all prefixes
 
+pub under_goes_to : (world : World) (Ended : Sight → Where → Next → Whole → Store → Whole → Type 0)
+    → IsCarried world.tables Ended → (borders : Bool) (prefixes : List Prefix)
+    (IsServed : Where → Place → Type 0) (run : Context → Store → Outcome)
+    (made : Lowering → Next → Lowered) (spare : ℕ) → GoesTo world Ended IsServed run made spare
+    → GoesTo world Ended (IsUnder borders prefixes IsServed)
+    (λ c store. mean.under c prefixes store (λ inner. run inner store))
+    (λ l next. low.lowered_under borders l next prefixes made) spare
+under_goes_to world Ended carried borders [] IsServed run made spare goes = goes
+under_goes_to world Ended carried borders (prefix ∷ rest) IsServed run made spare goes =
+    anew_goes_to world Ended carried (IsUnder borders (prefix ∷ rest) IsServed)
+    (λ c store. mean.under c (prefix ∷ rest) store (λ inner. run inner store))
+    (λ l next. low.lowered_under borders l next (prefix ∷ rest) made) spare
+    (λ sight w next now stands served room like.
+    under_agrees world Ended carried borders prefix rest IsServed run made spare
+    (under_goes_to world Ended carried borders rest IsServed run made spare goes) sight w next now
+    stands served room like)
+
 pub under_goes : (world : World) (borders : Bool) (prefixes : List Prefix)
     (IsServed : Where → Place → Type 0) (run : Context → Store → Outcome)
-    (made : Lowering → Next → Lowered) → Goes world IsServed run made 1
+    (made : Lowering → Next → Lowered) (spare : ℕ) → Goes world IsServed run made spare
     → Goes world (IsUnder borders prefixes IsServed)
     (λ c store. mean.under c prefixes store (λ inner. run inner store))
-    (λ l next. low.lowered_under borders l next prefixes made) 1
-under_goes world borders [] IsServed run made goes = goes
-under_goes world borders (prefix ∷ rest) IsServed run made goes =
-    anew_goes world (IsUnder borders (prefix ∷ rest) IsServed)
-    (λ c store. mean.under c (prefix ∷ rest) store (λ inner. run inner store))
-    (λ l next. low.lowered_under borders l next (prefix ∷ rest) made) 1
-    (λ sight w next now stands served room like.
-    under_agrees world borders prefix rest IsServed run made
-    (under_goes world borders rest IsServed run made goes) sight w next now stands served room like)
+    (λ l next. low.lowered_under borders l next prefixes made) spare
+under_goes world borders prefixes IsServed run made spare goes =
+    under_goes_to world (λ sight w next start. IsLike world.tables sight.spots w next start)
+    (λ sight w inner next more start now same f. f) borders prefixes IsServed run made spare goes

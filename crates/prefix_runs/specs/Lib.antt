@@ -1,3 +1,4 @@
 pub mod Opens
+pub mod Filled
 pub mod Under
 pub mod Plain

@@ -1,7 +1,8 @@
 //! The laws of statements under prefixes, in lowered code.
 //!
 //! Each law is the contract of a function that does nothing: a call brings the law into a proof.
-ghost use Rattle.std.specs.Prelude.{ℕ, Bool, List};
+ghost use Rattle.std.specs.Prelude.{ℕ, ◌+◌, Bool, List};
+ghost use Rattle.zpl_names.specs.Counts.{own_nodes};
 ghost use Rattle.zpl_tree.specs.Syntax.{Expr, Form, Prefix, Stmt};
 ghost use Rattle.zpl_meaning.specs.Context.{Place, Setup};
 ghost use Rattle.zpl_meaning.specs.Outcome.{Outcome};
@@ -11,7 +12,7 @@ ghost use Rattle.zpl_lowering.specs.Lowered.{Lowered};
 ghost use Rattle.zpl_lowering.specs.Statement.{Lowering, lowered, lowered_form, lowered_under};
 ghost use Rattle.zpl_lowering.specs.Where.{Next, Where};
 ghost use Rattle.lowering_runs.specs.Called.{CallsAgree};
-ghost use Rattle.lowering_runs.specs.Goes.{Goes, TestsGo, World};
+ghost use Rattle.lowering_runs.specs.Goes.{Goes, TestsGo, ValuesGo, World};
 ghost use Rattle.lowering_runs.specs.Suits.{SuitsStmt, SuitsStmtBy};
 ghost use Rattle.prefix_runs.specs.Plain.{PlainLeaf};
 ghost use Rattle.prefix_runs.specs.Under.{IsUnder};
@@ -24,6 +25,11 @@ pub trait Standing {
 /// What is asked of a test of `if`, `while` or `repeat`, where it stands.
 pub trait Tests {
     ghost IsTest: { Expr → Where → Place → Type 0 };
+}
+
+/// What is asked of a bound of `for`, where it stands.
+pub trait Bounds {
+    ghost IsBound: { Expr → Where → Place → Type 0 };
 }
 
 /// What is asked of a form that has no statements in it, or is shattered, where it stands.
@@ -42,23 +48,23 @@ pub trait Callables {
 /// with their masks.
 pub fn prefixes_go_alike<S: Standing>()
     ensures { (world : World) (borders : Bool) (prefixes : List Prefix)
-        (run : Context → Store → Outcome) (made : Lowering → Next → Lowered) →
-        Goes world S.IsServed run made 1 →
+        (run : Context → Store → Outcome) (made : Lowering → Next → Lowered) (spare : ℕ) →
+        Goes world S.IsServed run made spare →
         Goes world (IsUnder borders prefixes S.IsServed)
         (λ c store. under c prefixes store (λ inner. run inner store))
-        (λ l next. lowered_under borders l next prefixes made) 1 }
+        (λ l next. lowered_under borders l next prefixes made) spare }
 {}
 
 /// The code of a statement goes as the statement does, with all prefixes, branches, loops and
-/// blocks in it, if tests go alike, and so does that of the forms in it that have no statements in
-/// them.
-pub fn statements_go_alike<T: Tests, L: Leaves>()
-    ensures { (world : World) → TestsGo world T.IsTest →
+/// blocks in it, if tests and bounds go alike, and so does that of the forms in it that have no
+/// statements in them.
+pub fn statements_go_alike<T: Tests, B: Bounds, L: Leaves>()
+    ensures { (world : World) → TestsGo world T.IsTest → ValuesGo world B.IsBound →
         ((at : ℕ) (form : Form) →
         Goes world (L.IsLeaf at form) (λ c store. exec_form c world.turns at form store)
-        (λ l next. lowered_form l next at form) 1) →
+        (λ l next. lowered_form l next at form) (1 + own_nodes form)) →
         (stmt : Stmt) →
-        Goes world (SuitsStmtBy IsUnder T.IsTest L.IsLeaf stmt)
+        Goes world (SuitsStmtBy IsUnder T.IsTest B.IsBound L.IsLeaf stmt)
         (λ c store. exec c world.turns stmt store) (λ l next. lowered l next stmt) 0 }
 {}
 

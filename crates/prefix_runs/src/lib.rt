@@ -4,6 +4,6 @@
 mod laws;
 
 pub use laws::{
-    Callables, Leaves, Standing, Tests, prefixes_go_alike, statements_go_alike,
+    Bounds, Callables, Leaves, Standing, Tests, prefixes_go_alike, statements_go_alike,
     statements_with_arrays_go_alike,
 };

@@ -33,7 +33,7 @@ use Rattle.lowering_runs.specs.Seen.{Sight, seen_place, seen_store}
 use Rattle.lowering_runs.specs.Scalars.{IsScalarAt}
 use Rattle.lowering_runs.specs.Stands.{IsHeld, IsSound, Stands}
 use Rattle.lowering_runs.proofs.BareLemmas.{settles}
-use Rattle.lowering_runs.proofs.ListLemmas.{meant}
+use Rattle.lowering_runs.specs.Values.{meant}
 use Rattle.lowering_runs.proofs.ValueLemmas.{scalar_unseen}
 use Rattle.array_runs.specs.Gates.{IsThere, holds}
 use Rattle.array_runs.proofs.CodedLemmas.{coded, current_of}

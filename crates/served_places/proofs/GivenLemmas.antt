@@ -113,7 +113,7 @@ module _ (place : Place) (given : KnowsGiven place.setup.known place.scope) wher
   rank_to (suc (suc (suc zero))) r = omega arith
   rank_to (suc (suc (suc (suc k)))) r = absurd r
 
-  opens : (hint : Rank) (rank : ℕ) (inner : Inner)
+  pub opens : (hint : Rank) (rank : ℕ) (inner : Inner)
       → inner_rank place.scope hint place.prefix inner ≡ Some rank → IsArrayRank (Some rank)
       → IsProperInner place (Some rank) inner → IsInnerOf place.scope (Some rank) inner
       → IsSound place.setup.known inner → Opens place rank inner

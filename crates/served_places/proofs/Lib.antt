@@ -4,3 +4,4 @@ pub mod BracketLemmas
 pub mod PrefixLemmas
 pub mod SlotLemmas
 pub mod CleanLemmas
+pub mod SourceLemmas

@@ -1,5 +1,5 @@
 -- Behind a prefix, current regions and arrays are as the text says there.
-use Rattle.std.proofs.Common.{◌≡◌, refl, sym, ◌∙◌, ap, subst, ℕ, zero, suc, Bool, true, false}
+use Rattle.std.proofs.Common.{◌≡◌, refl, sym, ◌∙◌, ap, subst, ℕ, zero, suc, Bool, false}
 use Rattle.std.proofs.Common.{[], length, Option, Some, None}
 use Rattle.std.specs.Prelude.{is_some, slice_get}
 use Rattle.zpl_tree.specs.Syntax.{Base, Mask as MaskText, Prefix}
@@ -30,7 +30,7 @@ some_same x y e = cc
 
 -- ---- what is told, with another slot
 
-current_told : (w : Where) (shapes : Shapes) → IsTold w shapes → (k : ℕ) → IsArrayRank (Some k)
+pub current_told : (w : Where) (shapes : Shapes) → IsTold w shapes → (k : ℕ) → IsArrayRank (Some k)
     → IsCurrentTold (current_at shapes k) (slotted_at w.currents (Some k))
 current_told w shapes told zero r = absurd r
 current_told w shapes told (suc zero) r = slot_current 1 shapes.one w.currents.one told.slots.one
@@ -40,7 +40,7 @@ current_told w shapes told (suc (suc (suc zero))) r =
     slot_current 3 shapes.three w.currents.three told.slots.three
 current_told w shapes told (suc (suc (suc (suc k)))) r = absurd r
 
-slots_with : (shapes : Shapes) (currents : SlotCurrents) (k : ℕ) (shape : Shape) (masked : Bool)
+pub slots_with : (shapes : Shapes) (currents : SlotCurrents) (k : ℕ) (shape : Shape) (masked : Bool)
     (slotted : Slotted) → IsArrayRank (Some k) → length shape ≡ k → slotted.flood ≡ shape
     → AreSlotsTold shapes currents
     → AreSlotsTold (with_current shapes (Some k) (Over shape masked))
@@ -54,7 +54,7 @@ slots_with shapes currents (suc (suc (suc zero))) shape masked slotted r l e h =
     record { one = h.one; two = h.two; three = (l, e) }
 slots_with shapes currents (suc (suc (suc (suc k)))) shape masked slotted r l e h = absurd r
 
-told_with : (w inner : Where) (shapes : Shapes) (k : ℕ) (shape : Shape) (masked : Bool)
+pub told_with : (w inner : Where) (shapes : Shapes) (k : ℕ) (shape : Shape) (masked : Bool)
     (slotted : Slotted) → IsArrayRank (Some k) → inner.numbers ≡ w.numbers
     → inner.currents ≡ with_slotted w.currents (Some k) slotted
     → ((o : Option Slotted) → IsMaskTold w o → IsMaskTold inner o)

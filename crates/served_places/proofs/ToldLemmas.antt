@@ -27,7 +27,7 @@ use Rattle.array_runs.specs.Reads.{IsShift}
 use Rattle.array_runs.specs.Floods.{three_floods, CoversFlood, CoverFloods, slot_floods, IsReadableAs, IsElementAs, IsElementwiseAs, IsReadableMaskAs, IsWritableAs, IsArrayServed}
 use Rattle.served_places.specs.Told.{IsSlotTold, IsMaskTold, IsStoredOf, IsTold, place_of, IsSeenFrom, reach_told, AreFree, IsPlainExpr}
 
-or_false : (a b : Bool) → a || b ≡ false → (a ≡ false) × (b ≡ false)
+pub or_false : (a b : Bool) → a || b ≡ false → (a ≡ false) × (b ≡ false)
 or_false true b h = absurd (let no : ⊥ = cc in no)
 or_false false b h = (refl, h)
 
@@ -114,7 +114,7 @@ reads_as slotted k many found (Some stored) shift ranked free h s =
     subst (λ (x : Option Shape). both_known reaches_beyond (Some slotted.flood) x ≡ false) shape.is
     free in
     let stored_is : map is_flood stored.storage.dims ≡ three_floods 3 shape.shape =
-    subst (λ (x : Option Shape). IsStoredOf x (Some stored)) shape.is h in (
+    (subst (λ (x : Option Shape). IsStoredOf x (Some stored)) shape.is h).0 in (
       subst (λ (bs : List Bool). CoverFloods bs (slot_floods slotted)) (sym stored_is)
           (floods_cover slotted.flood shape.shape 3 (many ∙ sym same) beyond),
       subst (λ (n : ℕ). IsShift n shift) (sym many) s,
@@ -267,7 +267,7 @@ module _ (spots : List Spot) (w : Where) (environment : Environment) (answer : �
         subst (λ (x : Option Shape). both_known reaches_beyond x (Some slotted.flood) ≡ false) shape.is
         (subst (λ (x : Option Shape). both_known reaches_beyond (array_shape found) x ≡ false) current
         parts.1) in
-        subst (λ (x : Option Shape). IsStoredOf x (Some stored)) shape.is h
+        (subst (λ (x : Option Shape). IsStoredOf x (Some stored)) shape.is h).0
         ∙ ap (three_floods 3)
         (sym (same_floods slotted.flood shape.shape (slot.many ∙ sym same) one other))
       where

@@ -4,6 +4,7 @@ use Rattle.std.specs.Option.{option_map}
 use Rattle.std.specs.List.{AllByRecursion}
 use Rattle.zpl_nums.specs.Integer.{IsInteger}
 use Rattle.zpl_region.specs.declared.regions.Region.{Region}
+use Rattle.zpl_region.specs.Region.{IsRegion}
 use Rattle.zpl_tree.specs.Syntax.{Name, Base, Dir, Expr, Number, Truth, Coord, Named, Shifted, Around, Remap, Call, Paren, Neg, Not, Abs, Pair, Reduce, Scan, Flood}
 use Rattle.zpl_names.specs.Kinds.{Rank, Shape}
 use Rattle.zpl_names.specs.Scope.{kind_of}
@@ -37,11 +38,13 @@ abbrev pub IsMaskTold : Where → Option Slotted → Type 0
 IsMaskTold w None = Unit {0}
 IsMaskTold w (Some slotted) = IsReadableMaskAs w slotted slotted.mask
 
--- an array has the flood dimensions of its text
+-- an array has the rank and the flood dimensions of its text
 abbrev pub IsStoredOf : Option Shape → Option Stored → Type 0
 IsStoredOf shape None = ⊥
 IsStoredOf None (Some stored) = ⊥
-IsStoredOf (Some shape) (Some stored) = map is_flood stored.storage.dims ≡ three_floods 3 shape
+IsStoredOf (Some shape) (Some stored) =
+    (map is_flood stored.storage.dims ≡ three_floods 3 shape)
+    × (stored.storage.rank ≡ length shape) × IsRegion stored.storage
 
 -- Slots, masks and arrays are as the text says, and directions have vectors of their ranks.
 pub record IsTold (w : Where) (shapes : Shapes) : Type 0 where
