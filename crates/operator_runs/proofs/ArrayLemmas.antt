@@ -1,5 +1,5 @@
 -- Assignments of arrays, whose values have operators over regions.
-use Rattle.std.proofs.Common.{◌≡◌, refl, sym, ◌∙◌, ap, subst, arith, ℕ, ◌≤◌, true, ◌&&◌, List, [], ◌∷◌, Option, Some, None, ◌⊎◌, inl, inr}
+use Rattle.std.proofs.Common.{◌≡◌, refl, sym, ◌∙◌, ap, subst, arith, ℕ, ◌+◌, ◌≤◌, ◌<◌, ℤ, true, ◌&&◌, List, [], ◌∷◌, Option, Some, None, ◌⊎◌, inl, inr}
 use Rattle.std.specs.Prelude.{slice_get}
 use Rattle.std.specs.List.{list_all}
 use Rattle.zpl_region.specs.declared.regions.Region.{Region}
@@ -10,7 +10,7 @@ use Rattle.zpl_names.specs.Sites.{Role}
 use Rattle.zpl_meaning.specs.Computed as mean
 use Rattle.zpl_meaning.specs.Computed.{computed_then}
 use Rattle.zpl_meaning.specs.Store.{Store, array_at, with_array}
-use Rattle.zpl_meaning.specs.Context.{Over, Place}
+use Rattle.zpl_meaning.specs.Context.{Mask, Over, Place}
 use Rattle.zpl_meaning.specs.Checks.{has_mask_within, is_within}
 use Rattle.zpl_meaning.specs.Fields.{Field, array_over, is_kept_in}
 use Rattle.zpl_meaning.specs.Phases as phase
@@ -21,21 +21,20 @@ use Rattle.zpl_meaning.specs.Proper.{HasCurrent}
 use Rattle.zpl_meaning.specs.Statement.{assign_array, written}
 use Rattle.node_form.specs.declared.tables.Tables.{Tables}
 use Rattle.node_form.specs.Expression.{Expression, words_of}
-use Rattle.row_runs.specs.Straight.{Every}
 use Rattle.row_runs.specs.Structured as code
 use Rattle.row_runs.specs.Structured.{Course, rows_do}
 use Rattle.flat_form.specs.Names.{word_reads}
 use Rattle.flat_form.specs.Right.{can_read}
 use Rattle.flat_form.specs.Whole.{Whole}
 use Rattle.zpl_lowering.specs.Where.{Stored, Slotted, Where, Next, slotted_at, rank_for}
-use Rattle.zpl_lowering.specs.Reference.{Reference, over_reference, refer_to}
-use Rattle.zpl_lowering.specs.Slate.{Placed}
-use Rattle.zpl_lowering.specs.Hoist.{Free}
-use Rattle.zpl_lowering.specs.Lowered.{first_left, free_at, phased_with}
+use Rattle.zpl_lowering.specs.Reference.{Reference, mask_reference, over_reference, refer_to}
+use Rattle.zpl_lowering.specs.Slate.{Placed, settled}
+use Rattle.zpl_lowering.specs.Lowered.{first_left, phased_with}
 use Rattle.zpl_lowering.specs.Statement.{lowered_array, placed_in, put_row}
 use Rattle.lowering_runs.specs.Seen.{Spot, Sight, seen_currents, seen_place, seen_store}
 use Rattle.lowering_runs.specs.Run.{does, decide, step}
 use Rattle.lowering_runs.specs.Agrees.{Agrees, Trapping}
+use Rattle.lowering_runs.proofs.AgreeLemmas.{led_agrees, weaker_agrees}
 use Rattle.lowering_runs.specs.Stands.{HasRoom, IsLike, Stands}
 use Rattle.array_runs.specs.Floods.{IsReadableMaskAs, IsWritableAs}
 use Rattle.array_runs.specs.Reads.{EachMatches}
@@ -45,20 +44,24 @@ use Rattle.array_runs.specs.Elementwise.{IsReadable, IsReadableMask}
 use Rattle.array_runs.proofs.CodedLemmas.{CurrentOf, current_of}
 use Rattle.array_runs.proofs.FloodLemmas.{mask_readable, writable}
 use Rattle.array_runs.proofs.TargetLemmas.{covers_matching}
-use Rattle.operator_runs.specs.Meant.{Under, InSlot}
-use Rattle.operator_runs.specs.Hoists.{IsReadWell, HoistAll, AllReach, OneStumbles}
+use Rattle.prefix_runs.proofs.UnderLemmas.{taken_at}
+use Rattle.operator_runs.specs.Meant.{InSlot, Site, Under}
+use Rattle.operator_runs.specs.Hoists.{IsReadWell, MoreValues, NoValues, Unused, tests_of}
+use Rattle.operator_runs.specs.Phases.{AreTakenBy, Phases, PassTo, OneTraps}
 use Rattle.operator_runs.specs.Operated.{IsOperated}
 use Rattle.operator_runs.proofs.HoistLemmas.{every_map}
-use Rattle.array_runs.specs.Integers.{GivesIntegers}
-use Rattle.operator_runs.proofs.LikeLemmas.{like_spared}
+use Rattle.operator_runs.proofs.LikeLemmas.{holding_taken, like_taken, slot_taken}
 use Rattle.operator_runs.proofs.MeantLemmas.{AreReferred, element_at, mask_at}
-use Rattle.operator_runs.proofs.PhaseLemmas.{phases_few, integer_fields, own_held}
+use Rattle.operator_runs.proofs.PhaseLemmas.{phases_come, own_held}
 use Rattle.operator_runs.proofs.PutLemmas.{put_agrees}
-use Rattle.operator_runs.proofs.SettleLemmas.{AreOperated, Fits, Reads, ReadsNone, ReadsUnder, fits_current}
-use Rattle.operator_runs.proofs.SpareLemmas.{spares_all, holds_on}
+use Rattle.operator_runs.proofs.ReadLemmas.{Fits, Reads, ReadsNone, ReadsUnder, fits_current}
+use Rattle.operator_runs.proofs.SettleLemmas.{AreOperated, NoneOperated, MoreOperated}
+use Rattle.operator_runs.proofs.SpareLemmas.{spares_all}
 
 module _ (tables : Tables) (n : ℕ) (sight : Sight) (w : Where) (next : Next) (now : Whole)
-    (role : Role) (line target : ℕ) (value : Expr) (stands : Stands sight.spots w next)
+    (role : Role) (line target most : ℕ) (value : Expr)
+    (few : tests_of (settled w line next (placed_in w role value).rank value).slate ≤ most)
+    (stands : Stands sight.spots w next)
     (room : next.scalars ≤ tables.scalars)
     (like : IsLike tables sight.spots w next now (seen_store sight.spots w.numbers.arrays now) now)
     (has_current : HasCurrent (seen_currents now w.currents) (rank_for w role))
@@ -93,8 +96,14 @@ module _ (tables : Tables) (n : ℕ) (sight : Sight) (w : Where) (next : Next) (
   abbrev region : Region
   region = current.current.region
 
-  fits : Fits w now rank over region
-  fits = fits_current w now rank current
+  before : over.slot < next.slots
+  before = taken_at w.currents now rank next.slots stands.taken has_current
+
+  abbrev ReadsAt : Rank → Site → Option Slotted → Type 0
+  ReadsAt = Reads w.currents (seen_currents now w.currents) next.slots now.slots
+
+  fits : Fits w.currents (seen_currents now w.currents) next.slots now.slots rank over region
+  fits = fits_current w now rank next.slots before current
 
   readable_mask : IsReadableMask w region over.mask
   readable_mask = mask_readable w now.slots current.of over current.current over.mask is_masked
@@ -108,27 +117,32 @@ module _ (tables : Tables) (n : ℕ) (sight : Sight) (w : Where) (next : Next) (
   exprs = placed_in w role value ∷ []
 
   -- arrays are read under the region, or not at all
-  either : (under : Option Slotted)
-      × AreOperated tables sight w line next now stands like.held (Under over region) under exprs
+  either : AreOperated sight w next now (Under over region ∷ []) exprs
   either = by is_operated
     where
       by : (((placed_in w role value).rank ≡ rank_for w role)
           × IsOperated w (seen_place sight w now) (Some (slotted_at w.currents (rank_for w role))) value)
           ⊎ IsOperated w (seen_place sight w now) None value
-          → (under : Option Slotted)
-          × AreOperated tables sight w line next now stands like.held (Under over region) under exprs
-      by (inl (e, h)) = (
-        Some over,
-        (
-          subst (λ (r : Rank). Reads w now r (Under over region) (Some over)) (sym e)
-              (ReadsUnder fits),
-          h,
-          tt,
-        ),
-      )
-      by (inr h) = (None, (ReadsNone, h, tt))
+          → AreOperated sight w next now (Under over region ∷ []) exprs
+      by (inl (e, h)) =
+          MoreOperated
+          (subst (λ (r : Rank). ReadsAt r (Under over region) (Some over)) (sym e) (ReadsUnder fits)) h
+          NoneOperated
+      by (inr h) = MoreOperated ReadsNone h NoneOperated
 
   -- ---- its own references
+
+  refers_before : (shift : List ℤ) (o : Option Stored)
+      → AreTakenBy next.slots (refer_to over.slot shift o)
+  refers_before shift None = tt
+  refers_before shift (Some stored) = (before, tt)
+
+  mask_before : AreTakenBy next.slots (over_reference w.numbers over)
+  mask_before = by over.mask
+    where
+      by : (mask : Option Mask) → AreTakenBy next.slots (mask_reference w.numbers over.slot mask)
+      by None = tt
+      by (Some mask) = refers_before [] (slice_get w.numbers.arrays mask.array)
 
   abbrev own : List Reference
   own = refer_to over.slot [] (slice_get w.numbers.arrays target)
@@ -164,44 +178,41 @@ module _ (tables : Tables) (n : ℕ) (sight : Sight) (w : Where) (next : Next) (
       (written (array_at store target) o.region (is_kept_in store o) (element values))))
 
   module _ (stored : Stored) (found : slice_get w.numbers.arrays target ≡ Some stored)
-      (matches : EachMatches stored.storage.dims region.dims) (behind : Free) (left : Expression) where
+      (matches : EachMatches stored.storage.dims region.dims) (behind : Unused)
+      (left : Expression) where
     came : (c : mean.Computed (List Field)) (course : Course Whole)
         → ((fields : List Field) → c ≡ mean.Gives fields
         → (is_within store region target ≡ true) × (has_mask_within store meant_over ≡ true))
-        → ((fields : List Field) → c ≡ mean.Gives fields → Every GivesIntegers fields)
-        → HoistAll tables spots w.numbers.arrays (Under over region) (free_at next 0) behind line 0 now
+        → (some : ℕ) → some ≤ most
+        → Phases tables spots w.numbers.arrays (Under over region ∷ []) next behind line some now
         (left ∷ []) c course
-        → Agrees Like n 0 (outcome meant_over c)
+        → Agrees Like n most (outcome meant_over c)
         (code.then_do course (rows_do (step tables n) (decide tables n)
         (put_row w line over left (Some stored))))
-    came c course holding integers (OneStumbles less) = Trapping (omega (arith, less))
-    came c course holding integers (AllReach {fields = []} s h less) = absurd h
-    came c course holding integers (AllReach {fields = field ∷ other ∷ rest} s h less) = absurd h.1
-    came c course holding integers (AllReach {after = after} {jumps = jumps} {fields = field ∷ []} s h less) =
+    came c course holding some le (OneTraps less) = Trapping (omega (arith, less, le))
+    came c course holding some le
+        (PassTo own {after = after} {jumps = jumps} apart t (MoreValues {field = field} h NoValues) integers
+        less) =
         let own_holds = holding (field ∷ []) refl in
-        let all = spares_all tables spots w.numbers.arrays behind after s.sound in
-        let i : InSlot after.slots over region = record {
-          found = ap (λ (xs : List Region). slice_get xs over.slot) s.slots ∙ fits.in_slot.found;
-          is = fits.in_slot.is;
-          three = fits.in_slot.three;
-          flood = fits.in_slot.flood;
-        } in
-        subst (λ (j : ℕ). Agrees Like n 0 (outcome meant_over (mean.Gives (field ∷ [])))
-        (code.behind [] j (rows_do (step tables n) (decide tables n)
-        (put_row w line over left (Some stored)) after)))
-        (let zero_is : 0 ≡ jumps = omega (arith, less) in zero_is)
+        let all = spares_all tables spots w.numbers.arrays own behind after t.sound in
+        let i : InSlot after.slots over region = slot_taken tables spots w.numbers.arrays next now after
+        t.slots over region before fits.in_slot in
+        weaker_agrees Like n n (jumps + 0) most _ _ (omega arith) (omega (arith, less, le))
+        (led_agrees Like n 0 jumps _ _
         (put_agrees tables n spots w line next now store after
-        (like_spared tables spots w next now store now after (free_at next 0) (omega arith) like s) over
-        region i target stored found matches readable_mask field (integers (field ∷ []) refl).0 left
-        (holds_on tables spots w.numbers.arrays now after s.slots (refer_to over.slot [] (Some stored))
+        (like_taken tables spots w next now store now after stands like t) over region i target stored
+        found matches readable_mask field integers.0 left
+        (holding_taken tables spots w.numbers.arrays next now after t.slots
+        (refer_to over.slot [] (Some stored)) (refers_before [] (Some stored))
         ∙ ap (λ (o : Option Stored). list_all (holds tables now) (refer_to over.slot [] o)) (sym found)
         ∙ (owned stored found matches).gate ∙ own_holds.0)
-        (holds_on tables spots w.numbers.arrays now after s.slots (over_reference w.numbers over)
+        (holding_taken tables spots w.numbers.arrays next now after t.slots
+        (over_reference w.numbers over) mask_before
         ∙ lasting.gate ∙ own_holds.1)
-        (λ cells t at. h.0.values after all cells t at)
+        (λ cells t at. h.values after all cells t at)
         (every_map (IsReadWell tables (Under over region) after behind.scalars)
         (λ one. list_all (can_read tables after region) (word_reads one) ≡ true) (words_of left)
-        (λ one r. r.reads) (h.0.reads after all)))
+        (λ one r. r.reads) (h.reads after all))))
 
   abbrev made : Option Stored → Course Whole
   made o =
@@ -213,42 +224,36 @@ module _ (tables : Tables) (n : ℕ) (sight : Sight) (w : Where) (next : Next) (
       (phased_with w line next own (over_reference w.numbers over) exprs).lowered) where
     at_over : (stored : Stored) (found : slice_get w.numbers.arrays target ≡ Some stored)
         → EachMatches stored.storage.dims region.dims
-        → Agrees Like n 0
+        → Agrees Like n most
         (outcome meant_over (fields_in place store
         (is_within store region target && has_mask_within store meant_over)
         (phase.placed_in place role value ∷ []))) (made (Some stored))
     at_over stored found matches =
         came stored found matches _ _ _ _
-        (own_held tables n sight w line next now stands room like.sound like.held (Under over region)
-        either.0 fits.in_slot exprs either.1 own (is_within store region target)
-        (owned stored found matches) (over_reference w.numbers over) (has_mask_within store meant_over)
-        lasting)
-        (integer_fields tables n sight w line next now stands room like.sound like.held
-        (Under over region) either.0 fits.in_slot exprs either.1 own (is_within store region target)
-        (owned stored found matches) (over_reference w.numbers over) (has_mask_within store meant_over)
-        lasting)
-        (phases_few tables n sight w line next now stands room like.sound like.held (Under over region)
-        either.0 fits.in_slot exprs either.1 own (is_within store region target)
-        (owned stored found matches) (over_reference w.numbers over) (has_mask_within store meant_over)
-        lasting space)
+        (own_held place store (is_within store region target) (has_mask_within store meant_over)
+        (phase.placed_in place role value ∷ [])) _ (omega (arith, few))
+        (phases_come tables n sight w line next now stands room like.sound like.held
+        (Under over region ∷ []) (fits.in_slot, tt) (before, tt) own (is_within store region target) (owned stored found matches)
+        (refers_before [] (slice_get w.numbers.arrays target)) (over_reference w.numbers over)
+        (has_mask_within store meant_over) lasting mask_before exprs either space)
 
     by_stored : (o : Option Stored) → slice_get w.numbers.arrays target ≡ o → IsWritable region o
-        → Agrees Like n 0
+        → Agrees Like n most
         (outcome meant_over (fields_in place store
         (is_within store region target && has_mask_within store meant_over)
         (phase.placed_in place role value ∷ []))) (made (slice_get w.numbers.arrays target))
     by_stored None e h = absurd h
     by_stored (Some stored) e h =
-        subst (λ (o : Option Stored). Agrees Like n 0
+        subst (λ (o : Option Stored). Agrees Like n most
         (outcome meant_over (fields_in place store
         (is_within store region target && has_mask_within store meant_over)
         (phase.placed_in place role value ∷ []))) (made o)) (sym e) (at_over stored e h)
 
-    pub array_agrees : Agrees Like n 0 (assign_array place role target value line store)
+    pub array_agrees : Agrees Like n most (assign_array place role target value line store)
         (does tables n (lowered_array w line next over (placed_in w role value)
         (slice_get w.numbers.arrays target)).code now)
     array_agrees =
-        subst (λ (o : Over). Agrees Like n 0
+        subst (λ (o : Over). Agrees Like n most
         (outcome o (fields_in place store (is_within store o.region target && has_mask_within store o)
         (phase.placed_in place role value ∷ []))) (made (slice_get w.numbers.arrays target)))
         (sym fits.over_is)

@@ -5,6 +5,7 @@ use Rattle.std.specs.Option.{option_map}
 use Rattle.std.specs.Prelude.{slice_get, slice_index_or}
 use Rattle.zpl_nums.specs.declared.operators.Op.{Op}
 use Rattle.zpl_tree.specs.Syntax.{Name, Expr, Number, Truth, Coord, Named, Shifted, Around, Remap, Call, Paren, Neg, Not, Abs, Pair, Reduce, Scan, Flood, Assign}
+use Rattle.zpl_names.specs.Counts.{expr_nodes}
 use Rattle.zpl_names.specs.Sites.{Assigned}
 use Rattle.zpl_meaning.specs.Store.{Store, Thing, Scalar, ArrayAt, Fixed, thing_of}
 use Rattle.zpl_meaning.specs.Context.{Place}
@@ -28,6 +29,7 @@ use Rattle.lowering_runs.proofs.NumberLemmas.{get_some, number_below}
 use Rattle.lowering_runs.proofs.ValueLemmas.{known_thing, thing_seen}
 use Rattle.operator_runs.specs.Operated.{IsOperated}
 use Rattle.operator_runs.specs.Served.{IsScalarOperated, IsArrayOperated}
+use Rattle.operator_runs.proofs.NodeLemmas.{assigned_few}
 use Rattle.operator_runs.proofs.ScalarLemmas.{assigned}
 use Rattle.operator_runs.proofs.ArrayLemmas.{array_agrees}
 
@@ -109,22 +111,22 @@ module _ (world : World) (at : ℕ) (name : Name) (op : Option Op) (value : Expr
     ThingAgrees thing =
         (let own = low.lowered_to w (Assigned name op) line next expr thing in
         HasRoom world.tables next own
-        → Agrees (IsLike world.tables sight.spots w next now) world.turns 0
+        → Agrees (IsLike world.tables sight.spots w next now) world.turns (expr_nodes value)
         (mean.assign_to place (Assigned name op) (option_map (seen_thing sight.spots) thing) expr line
         store) (does world.tables world.turns own.code now))
 
     of_form : (under : Option Slotted) → IsOperated w place under expr
         → ThingAgrees (thing_of w.environment name.text)
-        → HasRoom world.tables next (made (lowering world w) next) → Agrees (IsLike world.tables sight.spots w next now) world.turns 0
+        → HasRoom world.tables next (made (lowering world w) next) → Agrees (IsLike world.tables sight.spots w next now) world.turns (expr_nodes value)
         (run (context world sight w now) store)
         (does world.tables world.turns (made (lowering world w) next).code now)
     of_form under operated h space =
-        subst (λ (o : Outcome). Agrees (IsLike world.tables sight.spots w next now) world.turns 0 o
+        subst (λ (o : Outcome). Agrees (IsLike world.tables sight.spots w next now) world.turns (expr_nodes value) o
         (does world.tables world.turns (made (lowering world w) next).code now))
         (sym (assign_plain w place under (context world sight w now) name op value line store operated
         ∙ ap (λ (t : Option Thing). mean.assign_to place (Assigned name op) t expr line store)
         (thing_seen sight.spots w.environment.names name.text)))
-        (subst (λ (x : Lowered). Agrees (IsLike world.tables sight.spots w next now) world.turns 0
+        (subst (λ (x : Lowered). Agrees (IsLike world.tables sight.spots w next now) world.turns (expr_nodes value)
         (mean.assign_to place (Assigned name op)
         (option_map (seen_thing sight.spots) (thing_of w.environment name.text)) expr line store)
         (does world.tables world.turns x.code now))
@@ -155,19 +157,21 @@ module _ (world : World) (at : ℕ) (name : Name) (op : Option Op) (value : Expr
             subst (λ (o : Option ℕ).
             (let own = low.lowered_scalar w line next (low.placed_in w (Assigned name op) expr) o in
             HasRoom world.tables next own
-            → Agrees (IsLike world.tables sight.spots w next now) world.turns 0
+            → Agrees (IsLike world.tables sight.spots w next now) world.turns (expr_nodes value)
             (mean.assign_scalar place (Assigned name op) (place_of sight.spots q) expr line store)
             (does world.tables world.turns own.code now))) (sym number)
             (assigned world.tables world.turns sight w next now stands
             (let le : next.scalars ≤ world.tables.scalars = omega (arith, space.scalars) in le)
-            (Assigned name op) line q k expr operated found lt like) space
+            (Assigned name op) line (expr_nodes value) q k expr
+            (assigned_few name op value w line next (low.placed_in w (Assigned name op) expr).rank) operated
+            found lt like) space
     scalar_thing operated (Some (ArrayAt q home)) e t space = absurd t
     scalar_thing operated (Some (Fixed number)) e t space = absurd t
     scalar_thing operated None e t space = absurd t
 
-  pub scalar_goes : Goes world (IsScalarOperated name op value) run made 0
+  pub scalar_goes : Goes world (IsScalarOperated name op value) run made (expr_nodes value)
   scalar_goes =
-      anew_goes world (IsScalarOperated name op value) run made 0
+      anew_goes world (IsScalarOperated name op value) run made (expr_nodes value)
       (λ sight w next now stands served room like.
       of_form sight w next now stands like None served.operated
       (scalar_thing sight w next now stands like served.operated (thing_of w.environment name.text)
@@ -182,12 +186,14 @@ module _ (world : World) (at : ℕ) (name : Name) (op : Option Op) (value : Expr
         (Some (ArrayAt served.target served.home))
     array_thing space =
         array_agrees world.tables world.turns sight w next now (Assigned name op) (line_of w at)
-        served.target (assigned_expr name op value) stands
+        served.target (expr_nodes value) (assigned_expr name op value)
+        (assigned_few name op value w (line_of w at) next
+        (low.placed_in w (Assigned name op) (assigned_expr name op value)).rank) stands
         (let le : next.scalars ≤ world.tables.scalars = omega (arith, space.scalars) in le) like served.current
         served.writable served.masked served.operated
         (room_phases world.tables next _ _ space)
 
-    array_here : HasRoom world.tables next (made (lowering world w) next) → Agrees (IsLike world.tables sight.spots w next now) world.turns 0
+    array_here : HasRoom world.tables next (made (lowering world w) next) → Agrees (IsLike world.tables sight.spots w next now) world.turns (expr_nodes value)
         (run (context world sight w now) (seen_store sight.spots w.numbers.arrays now))
         (does world.tables world.turns (made (lowering world w) next).code now)
     array_here space = by _ _ served.operated
@@ -200,14 +206,14 @@ module _ (world : World) (at : ℕ) (name : Name) (op : Option Op) (value : Expr
         by : (X : Type 0) (under : Option Slotted)
             → (X × IsOperated w (seen_place sight w now) under (assigned_expr name op value))
             ⊎ IsOperated w (seen_place sight w now) None (assigned_expr name op value)
-            → Agrees (IsLike world.tables sight.spots w next now) world.turns 0
+            → Agrees (IsLike world.tables sight.spots w next now) world.turns (expr_nodes value)
             (run (context world sight w now) (seen_store sight.spots w.numbers.arrays now))
             (does world.tables world.turns (made (lowering world w) next).code now)
         by X under (inl h) = of_form sight w next now stands like under h.1 thing space
         by X under (inr h) = of_form sight w next now stands like None h thing space
 
-  pub array_goes : Goes world (IsArrayOperated name op value) run made 0
+  pub array_goes : Goes world (IsArrayOperated name op value) run made (expr_nodes value)
   array_goes =
-      anew_goes world (IsArrayOperated name op value) run made 0
+      anew_goes world (IsArrayOperated name op value) run made (expr_nodes value)
       (λ sight w next now stands served room like.
       array_here sight w next now stands like served room)

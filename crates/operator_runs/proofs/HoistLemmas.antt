@@ -3,8 +3,8 @@
 use Rattle.std.proofs.Common.{◌&&◌}
 use Rattle.zpl_lowering.specs.Reference.{mask_reference}
 use Rattle.zpl_meaning.specs.Context.{Mask}
-use Rattle.std.proofs.Common.{suc, zero}
-use Rattle.std.specs.Prelude.{◌==◌, All, not, option_and_then, unsigned_abs}
+use Rattle.std.proofs.Common.{suc, inr}
+use Rattle.std.specs.Prelude.{◌==◌, All, not, option_and_then}
 use Rattle.std.proofs.Math.Path.{fun_ext}
 use Rattle.std.proofs.lemmas.Bool.Decides.{Decides-eqb}
 use Rattle.zpl_nums.specs.Integer.{is_true}
@@ -13,7 +13,6 @@ use Rattle.zpl_arrays.specs.Array.{array_of}
 use Rattle.zpl_arrays.specs.Conformity.{flood_conforms, reduction_conforms}
 use Rattle.zpl_arrays.specs.Flood.{flood_source}
 use Rattle.zpl_arrays.specs.Fold.{partly_reduced}
-use Rattle.zpl_arrays.specs.Scan.{scanned_along}
 use Rattle.zpl_arrays.proofs.ArrayLemmas.{array_of_is_array}
 use Rattle.zpl_meaning.specs.Checks.{conform, conforms}
 use Rattle.zpl_meaning.specs.Fields.{everywhere, scan_field}
@@ -24,7 +23,7 @@ use Rattle.node_form.specs.Value.{unmoved}
 use Rattle.row_runs.specs.Run.{Goes, Step}
 use Rattle.row_runs.specs.Structured.{by_step}
 use Rattle.grid_meaning.specs.Room.{zeros_at}
-use Rattle.flat_form.specs.Moves.{flooded, found, kept_by, moved_in, parted, provided, reads_in, reads_mask, scan_value, scanned_in}
+use Rattle.flat_form.specs.Moves.{flooded, found, kept_by, moved_in, parted, provided, reads_in, reads_mask, scan_value}
 use Rattle.flat_form.specs.Right.{can_write}
 use Rattle.flat_form.specs.Row as row
 use Rattle.flat_form.specs.States.{IsStoreOf}
@@ -43,12 +42,22 @@ use Rattle.array_runs.proofs.ElementLemmas.{element_part}
 use Rattle.array_runs.proofs.FloodLemmas.{current_floods}
 use Rattle.array_runs.proofs.StoredLemmas.{found_array, zip_at}
 use Rattle.print_runs.proofs.TempLemmas.{room_step}
-use Rattle.operator_runs.specs.Meant.{IsAlong, IsPlainMask, PartFoldedMeant, ScannedMeant, FloodedMeant}
+use Rattle.operator_runs.specs.Meant.{IsAlong, PartFoldedMeant, ScannedMeant, FloodedMeant}
 use Rattle.operator_runs.proofs.MeantLemmas.{mask_in}
 use Rattle.operator_runs.proofs.SpareLemmas.{spares_temp}
 use Rattle.operator_runs.proofs.StateLemmas as state
-use Rattle.operator_runs.proofs.StateLemmas.{HasState}
+use Rattle.operator_runs.proofs.StateLemmas.{AreApart, HasState, holds_in, mask_held, refer_at, refers_held}
+use Rattle.zpl_region.specs.Hull.{IsBoxed}
+use Rattle.zpl_arrays.specs.Around.{around_source, copy_shift}
+use Rattle.zpl_lowering.specs.Reference.{at_place}
+use Rattle.array_runs.specs.Reads.{EachCovers}
+use Rattle.operator_runs.specs.Meant.{IsAround, WrappedMeant}
+use Rattle.operator_runs.specs.Copies.{AllCopied, AreCopied, IsCopy}
+use Rattle.operator_runs.proofs.WrapPlaceLemmas.{is_copying}
+use Rattle.operator_runs.proofs.WrapRowLemmas.{copy_found}
+use Rattle.operator_runs.proofs.WrapHoistLemmas.{neighbour_names, wrap_hoists}
 use Rattle.operator_runs.proofs.RemapHoistLemmas.{remap_hoists}
+use Rattle.operator_runs.proofs.ScanHoistLemmas.{scan_field_is, scan_row_does, without_hoists}
 use Rattle.operator_runs.specs.Meant.{RemappedMeant, count_of}
 use Rattle.std.proofs.lemmas.List.{length-replicate}
 use Rattle.zpl_nums.specs.declared.ends.TrapKind.TheVariants.{OutsideStorage}
@@ -100,7 +109,7 @@ use Rattle.zpl_lowering.specs.Slate as slate
 use Rattle.zpl_lowering.specs.Slate.{Slate, Slates, NoSlate, ThenSlate}
 use Rattle.zpl_lowering.specs.Reference.{Reference, all_referred, is_unmoved, over_reference, referred, vector_over}
 use Rattle.zpl_lowering.specs.Hoist as hoist
-use Rattle.zpl_lowering.specs.Hoist.{Free, Hoisted, all_hoisted, behind, fold_rows, hoisted, mask_code, neighbour_if, stored_element, unary_code}
+use Rattle.zpl_lowering.specs.Hoist.{Hoisted, all_hoisted, fold_rows, hoisted, mask_code, neighbour_if, stored_element, unary_code}
 use Rattle.lowering_runs.specs.Run.{decide, does, step}
 use Rattle.lowering_runs.specs.Seen.{Spot, numbered, place_of, seen_store}
 use Rattle.lowering_runs.specs.Scalars.{IsSameValue, BothGive as BothGive_, BothDivide as BothDivide_}
@@ -117,13 +126,14 @@ use Rattle.array_runs.proofs.PartLemmas.{IsPart, all_append, both_true, coordina
 use Rattle.array_runs.proofs.MaskLemmas.{IsMasking}
 use Rattle.operator_runs.specs.Meant.{Site, Alone, Under, InSlot, IsSite, IsMeant}
 use Rattle.operator_runs.specs.Meant.{ConstantMeant, VariableMeant, CoordinateMeant, ElementMeant}
-use Rattle.operator_runs.specs.Meant.{UnaryMeant, BinaryMeant, FoldedMeant, AreMeant, NoneMeant, MoreMeant}
-use Rattle.operator_runs.specs.Hoists.{operands_of, IsReadWell, Spares, HasValues, Hoists, Reaches, Stumbles, HoistAll, AllReach, OneStumbles, tests_of, tests_of_all}
+use Rattle.operator_runs.specs.Meant.{UnaryMeant, BinaryMeant, FoldedMeant, AreMeant, NoneMeant, MoreMeant, AreMeantAt, NoneAt, MoreAt}
+use Rattle.operator_runs.specs.Hoists.{Own, Unused, beyond, copies_of, copies_of_all, free_of, operands_of, IsReadWell, Spares, HasValues, HaveValues, HaveValuesAt, NoValues, MoreValues, Hoists, Reaches, Stumbles, HoistAll, AllReach, OneStumbles, tests_of, tests_of_all}
 use Rattle.operator_runs.proofs.JoinLemmas.{acc_group, with_total, IsJoining}
 use Rattle.operator_runs.proofs.FoldLemmas.{with_fold, fold_course, fold_does}
-use Rattle.operator_runs.proofs.SpareLemmas.{IsFreer, spares_all, spares_then, holds_on, spares_total, spares_fold}
+use Rattle.operator_runs.proofs.SpareLemmas.{IsFreer, spares_all, spares_then, spares_total, spares_fold}
 use Rattle.operator_runs.proofs.StandLemmas.{NamesBelow, acc_stands, mask_names}
-use Rattle.operator_runs.proofs.MeantLemmas.{current_in, element_at, mask_at}
+use Rattle.operator_runs.proofs.CurrentLemmas.{current_in}
+use Rattle.operator_runs.proofs.MeantLemmas.{element_at, mask_at}
 use Rattle.operator_runs.proofs.IntegerLemmas.{field_integers}
 
 -- ---- lists
@@ -181,12 +191,6 @@ variable_read site whole cells t None = refl
 variable_read site whole cells t (Some k) =
     ap (λ xs. flat.read (slice_get xs k)) (scalars_of site whole cells t)
 
--- the words of an element name no scalars
-neighbour_names : (b : Bool) (array : ℕ) (v : List ℤ) (k : ℕ)
-    → Every (NamesBelow k) (words_of (neighbour_if b array v))
-neighbour_names true array v k = (tt, tt)
-neighbour_names false array v k = (tt, tt)
-
 element_names : (o : Option Stored) (shift : List ℤ) (k : ℕ)
     → Every (NamesBelow k) (words_of (stored_element o shift).left)
 element_names None shift k = (tt, tt)
@@ -196,16 +200,33 @@ element_names (Some stored) shift k =
 
 -- ---- what is free
 
-freer_behind : {A : Type 0} (free : Free) (h : Hoisted A) → IsFreer free (behind free h)
-freer_behind free h = record { scalars = omega arith; temps = omega arith }
+freer_behind : {A : Type 0} (free : Unused) (count : ℕ) (h : Hoisted A)
+    → IsFreer free (beyond free count h)
+freer_behind free count h =
+    record { scalars = omega arith; copies = omega arith; temps = omega arith }
 
-behind_both : {A B C : Type 0} (f : A → B → C) (free : Free) (one : Hoisted A) (other : Hoisted B)
-    → behind (behind free one) other ≡ behind free (hoist.both f one other)
-behind_both f free one other =
-    ap (λ (i : ℕ). record { scalars = i; temps = free.temps + length one.temps + length other.temps })
+behind_both : {A B C : Type 0} (f : A → B → C) (free : Unused) (count more : ℕ) (one : Hoisted A)
+    (other : Hoisted B)
+    → beyond (beyond free count one) more other ≡ beyond free (count + more) (hoist.both f one other)
+behind_both f free count more one other =
+    ap (λ (i : ℕ). record {
+      scalars = i;
+      copies = free.copies + count + more;
+      temps = free.temps + length one.temps + length other.temps;
+    })
     (let e : free.scalars + one.scalars + other.scalars
     ≡ free.scalars + (one.scalars + other.scalars) = omega arith in e)
-    ∙ ap (λ (i : ℕ). record { scalars = free.scalars + (one.scalars + other.scalars); temps = i })
+    ∙ ap (λ (i : ℕ). record {
+      scalars = free.scalars + (one.scalars + other.scalars);
+      copies = i;
+      temps = free.temps + length one.temps + length other.temps;
+    })
+    (let e : free.copies + count + more ≡ free.copies + (count + more) = omega arith in e)
+    ∙ ap (λ (i : ℕ). record {
+      scalars = free.scalars + (one.scalars + other.scalars);
+      copies = free.copies + (count + more);
+      temps = i;
+    })
     (let e : free.temps + length one.temps + length other.temps
     ≡ free.temps + length (one.temps ++ other.temps) =
     omega (arith, length-append one.temps other.temps) in e)
@@ -217,30 +238,37 @@ temps_front rows k (flood ∷ temps) more h = (h.0, temps_front rows (suc k) tem
 
 module _ (tables : Tables) (n : ℕ) (spots : List Spot) (w : Where) (line : ℕ) (next : Next)
     (stands : Stands spots w next) (room : next.scalars ≤ tables.scalars)
-    (all : AreStored tables w.numbers.arrays) (slots : List Region) (store : Store) where
-  abbrev Spared : Free → Whole → Whole → Type 0
-  Spared = Spares tables spots w.numbers.arrays
+    (all : AreStored tables w.numbers.arrays) (own : Own) (slots : List Region)
+    (apart : AreApart own slots) (store : Store) where
+  abbrev Spared : Unused → Whole → Whole → Type 0
+  Spared = Spares tables spots w.numbers.arrays own
 
-  abbrev Values : Site → Free → Whole → Field → Expression → Type 0
-  Values = HasValues tables spots w.numbers.arrays
+  abbrev Values : Site → Unused → Whole → Field → Expression → Type 0
+  Values = HasValues tables spots w.numbers.arrays own
 
-  abbrev Hoist : Site → Free → Free → ℕ → Whole → Expression → mean.Computed Field → Course Whole
+  abbrev Hoist : Site → Unused → Unused → ℕ → Whole → Expression → mean.Computed Field → Course Whole
       → Type 0
-  Hoist site free more most = Hoists tables spots w.numbers.arrays site free more line most
+  Hoist site free more most = Hoists tables spots w.numbers.arrays own site free more line most
 
   abbrev rows : List Row → Whole → Course Whole
   rows = rows_do (step tables n) (decide tables n)
 
   abbrev pub IsState : Whole → Type 0
-  IsState = HasState tables spots w.numbers.arrays slots store
+  IsState = HasState tables spots w.numbers.arrays own slots apart store
 
-  abbrev spared_state : (free : Free) (now after : Whole) → IsState now → Spared free now after
+  abbrev spared_state : (free : Unused) (now after : Whole) → IsState now → Spared free now after
       → IsState after
-  spared_state = state.spared_state tables spots w.numbers.arrays slots store
+  spared_state = state.spared_state tables spots w.numbers.arrays own slots apart store
 
   abbrev slot_in_state : (now : Whole) → IsState now → (over : Slotted) (region : Region)
       → InSlot slots over region → InSlot now.slots over region
-  slot_in_state = state.slot_in_state tables spots w.numbers.arrays slots store
+  slot_in_state = state.slot_in_state tables spots w.numbers.arrays own slots apart store
+
+  abbrev masks_held : (now : Whole) → IsState now → (over : Slotted) (region : Region)
+      → InSlot slots over region → (mask : Option Mask)
+      → list_all (holds_in tables slots) (mask_reference w.numbers over.slot mask) ≡ true
+      → list_all (holds tables now) (mask_reference w.numbers over.slot mask) ≡ true
+  masks_held = mask_held tables spots w.numbers.arrays own slots apart store w.numbers
 
   pub scalars_here : (now : Whole) → IsState now → (place : ℕ)
       → IsInteger (scalar_at store (place_of spots place))
@@ -255,17 +283,17 @@ module _ (tables : Tables) (n : ℕ) (spots : List Spot) (w : Where) (line : ℕ
 
   -- ---- what has no rows
 
-  module _ (site : Site) (free : Free) (le : next.scalars ≤ free.scalars) (now : Whole)
+  module _ (site : Site) (free : Unused) (le : next.scalars ≤ free.scalars) (now : Whole)
       (here : IsState now) where
     still_hoists : (left : Expression) (field : Field)
-        → Values site (behind free (hoist.alone left)) now field left
-        → Hoist site free (behind free (hoist.alone left)) 0 now left (mean.Gives field)
+        → Values site (beyond free 0 (hoist.alone left)) now field left
+        → Hoist site free (beyond free 0 (hoist.alone left)) 0 now left (mean.Gives field)
         (code.goes_on now)
     still_hoists left field h =
-        Reaches (spares_all tables spots w.numbers.arrays free now here.sound) h (omega arith)
+        Reaches (spares_all tables spots w.numbers.arrays own free now here.sound) h (omega arith)
 
     constant_hoists : (value : ℤ)
-        → Hoist site free (behind free (hoist.alone (word.Constant value))) 0 now
+        → Hoist site free (beyond free 0 (hoist.alone (word.Constant value))) 0 now
         (word.Constant value) (mean.Gives (constant_field value)) (code.goes_on now)
     constant_hoists value =
         still_hoists (word.Constant value) (constant_field value)
@@ -276,7 +304,7 @@ module _ (tables : Tables) (n : ℕ) (spots : List Spot) (w : Where) (line : ℕ
 
     variable_hoists : (place : ℕ)
         → Hoist site free
-        (behind free (hoist.alone (variable_code (slice_get w.numbers.scalars place)))) 0 now
+        (beyond free 0 (hoist.alone (variable_code (slice_get w.numbers.scalars place)))) 0 now
         (variable_code (slice_get w.numbers.scalars place))
         (mean.Gives (constant_field (scalar_at store (place_of spots place)))) (code.goes_on now)
     variable_hoists place =
@@ -300,7 +328,7 @@ module _ (tables : Tables) (n : ℕ) (spots : List Spot) (w : Where) (line : ℕ
         read : (number : Option ℕ) (later : Whole)
             → ((k : ℕ) → number ≡ Some k → k < next.scalars)
             → Every (IsReadWell tables site later
-            (behind free (hoist.alone (variable_code number))).scalars)
+            (beyond free 0 (hoist.alone (variable_code number))).scalars)
             (words_of (variable_code number))
         read None later below = (record { reads = refl; names = tt }, tt)
         read (Some k) later below =
@@ -316,22 +344,23 @@ module _ (tables : Tables) (n : ℕ) (spots : List Spot) (w : Where) (line : ℕ
       meant left
 
   part_hoists : (over : Slotted) (region : Region) → InSlot slots over region → (one : Slate)
-      (meant : Term) (field : Field) → field_of store meant ≡ mean.Gives field → (free : Free)
-      → next.scalars ≤ free.scalars → hoisted w.numbers line free one
-      ≡ record (hoist.alone (hoisted w.numbers line free one).left)
-      { shifts = (hoisted w.numbers line free one).shifts }
+      (meant : Term) (field : Field) → field_of store meant ≡ mean.Gives field → (free : Unused)
+      → next.scalars ≤ free.scalars → hoisted w.numbers line (free_of free) one
+      ≡ record (hoist.alone (hoisted w.numbers line (free_of free) one).left)
+      { shifts = (hoisted w.numbers line (free_of free) one).shifts }
       → (now : Whole) → IsState now
-      → list_all (holds tables now) (referred w.numbers one) ≡ true
-      → ((k : ℕ) → Every (NamesBelow k) (words_of (hoisted w.numbers line free one).left))
+      → Every (λ (one : Reference). one.slot ≡ over.slot) (referred w.numbers one)
+      → list_all (holds_in tables slots) (referred w.numbers one) ≡ true
+      → ((k : ℕ) → Every (NamesBelow k) (words_of (hoisted w.numbers line (free_of free) one).left))
       → ((later : Whole) → IsSound tables later → (i : InSlot later.slots over region)
       → (left : Expression) × IsPart tables spots w line later region.rank over
       (current_in later.slots over region i) one meant left)
-      → Hoist (Under over region) free (behind free (hoisted w.numbers line free one)) 0 now
-      (hoisted w.numbers line free one).left (mean.Gives field)
-      (does tables n (hoisted w.numbers line free one).code now)
-  part_hoists over region i one meant field fielded free le plain now here held names part =
-      let left = (hoisted w.numbers line free one).left in
-      subst (λ (h : Hoisted Expression). Hoist (Under over region) free (behind free h) 0 now left
+      → Hoist (Under over region) free (beyond free 0 (hoisted w.numbers line (free_of free) one)) 0 now
+      (hoisted w.numbers line (free_of free) one).left (mean.Gives field)
+      (does tables n (hoisted w.numbers line (free_of free) one).code now)
+  part_hoists over region i one meant field fielded free le plain now here at_over held names part =
+      let left = (hoisted w.numbers line (free_of free) one).left in
+      subst (λ (h : Hoisted Expression). Hoist (Under over region) free (beyond free 0 h) 0 now left
       (mean.Gives field) (does tables n h.code now)) (sym plain)
       (still_hoists (Under over region) free le now here left field
       (record {
@@ -339,7 +368,7 @@ module _ (tables : Tables) (n : ℕ) (spots : List Spot) (w : Where) (line : ℕ
             let p = at later s in
             subst (λ (e : Expression). IsSame (field t)
             (tree_value (operands_of (Under over region) later cells t) e))
-            (sym (p.1.hoists free).left_is)
+            (sym (p.1.hoists (free_of free)).left_is)
             (subst (λ (f : Field). IsSame (f t)
             (tree_value (operands_of (Under over region) later cells t) p.0))
             (field_same later s p.1.field p.1.fielded)
@@ -348,24 +377,26 @@ module _ (tables : Tables) (n : ℕ) (spots : List Spot) (w : Where) (line : ℕ
             let p = at later s in
             both_read later _ (words_of left) (subst (λ (e : Expression).
             Every (λ one. list_all (can_read tables later region) (word_reads one) ≡ true)
-            (words_of e)) (sym (p.1.hoists free).left_is) (p.1.reads (held_at later s)))
+            (words_of e)) (sym (p.1.hoists (free_of free)).left_is) (p.1.reads (held_at later s)))
             (names _);
       }))
     where
-      at : (later : Whole) (s : Spared (behind free (hoist.alone (hoisted w.numbers line free one).left)) now later)
+      at : (later : Whole) (s : Spared (beyond free 0 (hoist.alone (hoisted w.numbers line (free_of free) one).left)) now later)
           → (left : Expression) × IsPart tables spots w line later region.rank over
           (current_in later.slots over region (slot_in_state later
-          (spared_state (behind free (hoist.alone (hoisted w.numbers line free one).left)) now later here s) over region i)) one meant left
+          (spared_state (beyond free 0 (hoist.alone (hoisted w.numbers line (free_of free) one).left)) now later here s) over region i)) one meant left
       at later s =
           part later s.sound
-          (slot_in_state later (spared_state (behind free (hoist.alone (hoisted w.numbers line free one).left)) now later here s) over region i)
+          (slot_in_state later (spared_state (beyond free 0 (hoist.alone (hoisted w.numbers line (free_of free) one).left)) now later here s) over region i)
 
-      held_at : (later : Whole) → Spared (behind free (hoist.alone (hoisted w.numbers line free one).left)) now later
+      held_at : (later : Whole) → Spared (beyond free 0 (hoist.alone (hoisted w.numbers line (free_of free) one).left)) now later
           → list_all (holds tables later) (referred w.numbers one) ≡ true
       held_at later s =
-          holds_on tables spots w.numbers.arrays now later s.slots (referred w.numbers one) ∙ held
+          refers_held tables spots w.numbers.arrays own slots apart store later
+          (spared_state (beyond free 0 (hoist.alone (hoisted w.numbers line (free_of free) one).left)) now
+          later here s) over region i (referred w.numbers one) at_over held
 
-      field_same : (later : Whole) → Spared (behind free (hoist.alone (hoisted w.numbers line free one).left)) now later → (f : Field)
+      field_same : (later : Whole) → Spared (beyond free 0 (hoist.alone (hoisted w.numbers line (free_of free) one).left)) now later → (f : Field)
           → field_of (seen_store spots w.numbers.arrays later) meant ≡ mean.Gives f → f ≡ field
       field_same later s f e =
           let both : mean.Gives f ≡ mean.Gives field =
@@ -381,7 +412,7 @@ module _ (tables : Tables) (n : ℕ) (spots : List Spot) (w : Where) (line : ℕ
 
   -- ---- operators on values
 
-  unary_hoists : (site : Site) (free more : Free) (most : ℕ) (now : Whole) (left : Expression)
+  unary_hoists : (site : Site) (free more : Unused) (most : ℕ) (now : Whole) (left : Expression)
       (op : UnaryOp) (c : mean.Computed Field) (course : Course Whole)
       → Hoist site free more most now left c course
       → Hoist site free more most now (unary_code op left) (computed_then c (λ field.
@@ -417,7 +448,7 @@ module _ (tables : Tables) (n : ℕ) (spots : List Spot) (w : Where) (line : ℕ
   paired op one other t = both_then (one t) (other t) (λ a b. given (applied op a b))
 
   -- the right one stands behind the left one
-  binary_hoists : (site : Site) (free mid last : Free) (one_most other_most : ℕ) (now : Whole)
+  binary_hoists : (site : Site) (free mid last : Unused) (one_most other_most : ℕ) (now : Whole)
       (op : Op) (left right : Expression) (c d : mean.Computed Field) (course : Course Whole)
       (others : Whole → Course Whole) → IsFreer free mid → IsFreer mid last
       → Hoist site free mid one_most now left c course
@@ -438,18 +469,18 @@ module _ (tables : Tables) (n : ℕ) (spots : List Spot) (w : Where) (line : ℕ
           (code.behind [] jumps other)
       by d other (Stumbles {jumps = j} less) = Stumbles (omega (arith, few, less, sum_of jumps j))
       by d other (Reaches {after = end} {jumps = j} {field = g} r i less) =
-          Reaches (spares_then tables spots w.numbers.arrays free mid now after end le s r)
+          Reaches (spares_then tables spots w.numbers.arrays own free mid now after end le s r)
           (record {
             values = λ later l cells t m.
                 pair_same op (field t) (g t) (tree_value (operands_of site later cells t) left)
                 (tree_value (operands_of site later cells t) right)
-                (h.values later (spares_then tables spots w.numbers.arrays mid last after end later ge
+                (h.values later (spares_then tables spots w.numbers.arrays own mid last after end later ge
                 r l) cells t m)
                 (i.values later l cells t m);
             reads = λ later l.
                 every_append (IsReadWell tables site later last.scalars) (words_of left) _
                 (more_read site later mid.scalars last.scalars ge.scalars (words_of left)
-                (h.reads later (spares_then tables spots w.numbers.arrays mid last after end later ge
+                (h.reads later (spares_then tables spots w.numbers.arrays own mid last after end later ge
                 r l)))
                 (every_append (IsReadWell tables site later last.scalars) (words_of right) _
                 (i.reads later l) (record { reads = refl; names = tt }, tt));
@@ -457,12 +488,12 @@ module _ (tables : Tables) (n : ℕ) (spots : List Spot) (w : Where) (line : ℕ
 
   -- ---- folds
 
-  module _ (site : Site) (free mid last : Free) (now : Whole) (here : IsState now) (le : IsFreer free mid)
+  module _ (site : Site) (free mid last : Unused) (now : Whole) (here : IsState now) (le : IsFreer free mid)
       (ge : mid.scalars < last.scalars) (more : mid.temps ≤ last.temps)
       (from : next.scalars ≤ mid.scalars) (lt : mid.scalars < tables.scalars) (operator : Fold)
       (over : Slotted) (region : Region) (i : InSlot slots over region)
       (readable : IsReadableMask w region over.mask) (no_floods : no_flood region ≡ true)
-      (held : list_all (holds tables now) (over_reference w.numbers over) ≡ true)
+      (held : list_all (holds_in tables slots) (over_reference w.numbers over) ≡ true)
       (left : Expression) where
     abbrev is_in : List ℤ → Bool
     is_in = is_kept_in store (record { region = region; mask = over.mask })
@@ -487,7 +518,7 @@ module _ (tables : Tables) (n : ℕ) (spots : List Spot) (w : Where) (line : ℕ
 
       spared : Spared mid after begun
       spared =
-          spares_total tables spots w.numbers.arrays mid after s.sound rises k (omega arith) lt
+          spares_total tables spots w.numbers.arrays own mid after s.sound rises k (omega arith) lt
           (unit_of operator) (unit_integer operator)
 
       at_begun : IsState begun
@@ -497,9 +528,7 @@ module _ (tables : Tables) (n : ℕ) (spots : List Spot) (w : Where) (line : ℕ
       i_begun = slot_in_state begun at_begun over region i
 
       held_begun : list_all (holds tables begun) (over_reference w.numbers over) ≡ true
-      held_begun =
-          holds_on tables spots w.numbers.arrays now begun (spared.slots ∙ s.slots)
-          (over_reference w.numbers over) ∙ held
+      held_begun = masks_held begun at_begun over region i over.mask held
 
       m : IsMasking tables spots w line begun region.rank over
           (current_in begun.slots over region i_begun) over.mask
@@ -572,9 +601,9 @@ module _ (tables : Tables) (n : ℕ) (spots : List Spot) (w : Where) (line : ℕ
           (code.behind [] jumps (fold_course after k operator region is_in line c))
       by_array most jumps few (mean.Gives array) e =
           Reaches
-          (spares_then tables spots w.numbers.arrays free mid now after
+          (spares_then tables spots w.numbers.arrays own free mid now after
           (with_fold after k operator (total array)) le s
-          (spares_fold tables spots w.numbers.arrays mid after s.sound rises k (omega arith) lt
+          (spares_fold tables spots w.numbers.arrays own mid after s.sound rises k (omega arith) lt
           (total array) (total_integer array e) operator))
           (total_values (total array)) (omega (arith, few, sum_of jumps 0))
       by_array most jumps few (mean.Traps kind) e =
@@ -610,12 +639,13 @@ module _ (tables : Tables) (n : ℕ) (spots : List Spot) (w : Where) (line : ℕ
   module _ (over : Slotted) (region : Region) (j : InSlot slots over region) (source : Slotted)
       (tuples : Region) (i : InSlot slots source tuples) (mask : Option Mask)
       (readable : IsReadableMask w tuples mask) (is_in : List ℤ → Bool)
-      (is_in_is : (t : List ℤ) → is_kept store mask t ≡ is_in t) (free mid last : Free) (now : Whole)
+      (is_in_is : (t : List ℤ) → is_kept store mask t ≡ is_in t) (free mid last : Unused) (now : Whole)
       (here : IsState now) (le : IsFreer free mid) (ge : mid.scalars ≤ last.scalars)
-      (more : mid.temps + 2 ≤ last.temps) (from : next.scalars ≤ mid.scalars)
+      (more : mid.temps + 2 ≤ last.temps) (since : own.temps ≤ mid.temps)
+      (from : next.scalars ≤ mid.scalars)
       (one_row : slice_get tables.arrays mid.temps ≡ Some (temp_row source.flood))
       (other_row : slice_get tables.arrays (suc mid.temps) ≡ Some (temp_row over.flood))
-      (held : list_all (holds tables now) (mask_reference w.numbers source.slot mask) ≡ true)
+      (held : list_all (holds_in tables slots) (mask_reference w.numbers source.slot mask) ≡ true)
       (left : Expression) (one : Row) (result : Array → List ℤ → ℤ)
       (one_does : (state : Whole) → IsState state
       → list_all (holds tables state) (mask_reference w.numbers source.slot mask) ≡ true
@@ -647,14 +677,14 @@ module _ (tables : Tables) (n : ℕ) (spots : List Spot) (w : Where) (line : ℕ
       spared_source : (state : Whole) → IsSound tables state → (f : List ℤ → ℤ)
           → Spared mid state (with_array_in state temp (array_of tuples f))
       spared_source state sound f =
-          spares_temp tables spots w.numbers.arrays mid state sound all temp (omega arith)
+          spares_temp tables spots w.numbers.arrays own mid state sound all temp (omega arith)
           (temp_row source.flood) one_row refl (array_of tuples f)
           (of_temp source.flood tuples f (has_steps tuples.dims i.is.dims))
 
       spared_target : (state : Whole) → IsSound tables state → (f : List ℤ → ℤ)
           → Spared mid state (with_array_in state (suc temp) (array_of region f))
       spared_target state sound f =
-          spares_temp tables spots w.numbers.arrays mid state sound all (suc temp) (omega arith)
+          spares_temp tables spots w.numbers.arrays own mid state sound all (suc temp) (omega arith)
           (temp_row over.flood) other_row refl (array_of region f)
           (of_temp over.flood region f (has_steps region.dims j.is.dims))
 
@@ -674,13 +704,9 @@ module _ (tables : Tables) (n : ℕ) (spots : List Spot) (w : Where) (line : ℕ
           sound.filled.stores other_row in
           set_there state.stores (suc temp) (array_of region f) old.0 old.1
 
-      twice : Free
-      twice = mid
-
       -- from values on
-      module _ (start : Whole) (at_start : IsState start)
-          (held_start : list_all (holds tables start) (mask_reference w.numbers source.slot mask) ≡ true)
-          (f : List ℤ → ℤ) (there : slice_get start.stores temp ≡ Some (array_of tuples f)) where
+      module _ (start : Whole) (at_start : IsState start) (f : List ℤ → ℤ)
+          (there : slice_get start.stores temp ≡ Some (array_of tuples f)) where
         abbrev roomed_in : Whole
         roomed_in = with_array_in start (suc temp) (zeros_at region)
 
@@ -704,9 +730,7 @@ module _ (tables : Tables) (n : ℕ) (spots : List Spot) (w : Where) (line : ℕ
             (constant_field (pos 0)) start at_start.sound.settled
             (slot_in_state start at_start over region j).found)
             ∙ ap (λ x. by_step roomed_in x code.goes_on)
-            (one_does roomed_in at_room
-            (holds_on tables spots w.numbers.arrays start roomed_in refl
-            (mask_reference w.numbers source.slot mask) ∙ held_start) f
+            (one_does roomed_in at_room (masks_held roomed_in at_room source tuples i mask held) f
             (set_apart start.stores (suc temp) temp (zeros_at region) (λ q. absurd (omega (arith, q)))
             ∙ there) (target_there start at_start.sound (λ t. pos 0)))
 
@@ -717,13 +741,13 @@ module _ (tables : Tables) (n : ℕ) (spots : List Spot) (w : Where) (line : ℕ
               subst (λ (c : flat.Computed ℤ). IsSame (mean.Gives (result (array_of tuples f) t)) c)
               (sym (temp_value tables n over region (suc temp) other_row slots j later
               (result (array_of tuples f))
-              (l.stores (suc temp) (omega (arith, more))
+              (l.stores (suc temp) (omega (arith, more)) (inr (omega (arith, since)))
               ∙ target_there roomed_in at_room.sound (result (array_of tuples f))) cells t m)) BothGive;
           reads = λ later l. (
             record {
               reads = ap (λ b. b && true) (can_take tables n over region (suc temp) other_row slots j
                   later (array_of region (result (array_of tuples f)))
-                  (l.stores (suc temp) (omega (arith, more))
+                  (l.stores (suc temp) (omega (arith, more)) (inr (omega (arith, since)))
                   ∙ target_there roomed_in at_room.sound (result (array_of tuples f))) refl);
               names = tt;
             },
@@ -749,9 +773,7 @@ module _ (tables : Tables) (n : ℕ) (spots : List Spot) (w : Where) (line : ℕ
         i1 = slot_in_state s1 at1 source tuples i
 
         held1 : list_all (holds tables s1) (mask_reference w.numbers source.slot mask) ≡ true
-        held1 =
-            holds_on tables spots w.numbers.arrays now s1 (sp1.slots ∙ s.slots)
-            (mask_reference w.numbers source.slot mask) ∙ held
+        held1 = masks_held s1 at1 source tuples i mask held
 
         masks : IsMasking tables spots w line s1 tuples.rank source (current_in s1.slots source tuples i1) mask
         masks = mask_in tables spots w line all s1 at1.sound source tuples i1 mask readable
@@ -787,24 +809,19 @@ module _ (tables : Tables) (n : ℕ) (spots : List Spot) (w : Where) (line : ℕ
         at2 : IsState s2
         at2 = spared_state mid s1 s2 at1 sp2
 
-        held2 : list_all (holds tables s2) (mask_reference w.numbers source.slot mask) ≡ true
-        held2 =
-            holds_on tables spots w.numbers.arrays s1 s2 refl (mask_reference w.numbers source.slot mask)
-            ∙ held1
-
         same_free : IsFreer mid mid
-        same_free = record { scalars = omega arith; temps = omega arith }
+        same_free = record { scalars = omega arith; copies = omega arith; temps = omega arith }
 
-        all_spared : Spared free now (end s2 at2 held2 value (source_there s1 at1.sound value))
+        all_spared : Spared free now (end s2 at2 value (source_there s1 at1.sound value))
         all_spared =
             let there2 = source_there s1 at1.sound value in
-            let a = spares_then tables spots w.numbers.arrays mid mid after s1 s2 same_free sp1 sp2 in
-            let b = spares_then tables spots w.numbers.arrays mid mid after s2
-            (roomed_in s2 at2 held2 value there2) same_free a (sp_room s2 at2 held2 value there2) in
-            let c = spares_then tables spots w.numbers.arrays mid mid after
-            (roomed_in s2 at2 held2 value there2) (end s2 at2 held2 value there2) same_free b
-            (sp_end s2 at2 held2 value there2) in
-            spares_then tables spots w.numbers.arrays free mid now after (end s2 at2 held2 value there2) le
+            let a = spares_then tables spots w.numbers.arrays own mid mid after s1 s2 same_free sp1 sp2 in
+            let b = spares_then tables spots w.numbers.arrays own mid mid after s2
+            (roomed_in s2 at2 value there2) same_free a (sp_room s2 at2 value there2) in
+            let c = spares_then tables spots w.numbers.arrays own mid mid after
+            (roomed_in s2 at2 value there2) (end s2 at2 value there2) same_free b
+            (sp_end s2 at2 value there2) in
+            spares_then tables spots w.numbers.arrays own free mid now after (end s2 at2 value there2) le
             s c
 
         by_filled : (most jumps : ℕ) → jumps ≤ most → (c : mean.Computed Array)
@@ -826,8 +843,8 @@ module _ (tables : Tables) (n : ℕ) (spots : List Spot) (w : Where) (line : ℕ
             (code.behind [] jumps (rows last_rows (with_array_in s1 temp a)))) (sym is)
             (subst (λ (x : Course Whole). Hoist (Under over region) free last most now
             (word.Element (suc temp)) (mean.Gives (λ t. mean.Gives (result (array_of tuples value) t)))
-            (code.behind [] jumps x)) (sym (ends_in s2 at2 held2 value there2))
-            (Reaches all_spared (end_values s2 at2 held2 value there2)
+            (code.behind [] jumps x)) (sym (ends_in s2 at2 value there2))
+            (Reaches all_spared (end_values s2 at2 value there2)
             (omega (arith, few, sum_of jumps 0)))))
 
         pub moved_hoists : (most jumps : ℕ) → jumps ≤ most
@@ -939,68 +956,16 @@ module _ (tables : Tables) (n : ℕ) (spots : List Spot) (w : Where) (line : ℕ
 
   -- ---- scans, by the mask
 
-  scan_row_does : (over : Slotted) (region : Region) (j : InSlot slots over region) (k : ℕ)
-      → slice_get tables.arrays k ≡ Some (temp_row over.flood)
-      → slice_get tables.arrays (suc k) ≡ Some (temp_row over.flood) → (operator : Fold)
-      → (along : Option ℤ) → IsAlong along → no_flood region ≡ true → (mask : Option ℕ)
-      → (state : Whole) → IsState state → reads_mask tables state region mask ≡ true
-      → (is_in : List ℤ → Bool)
-      → kept_by (option_and_then (λ mask. slice_get state.stores mask) mask) ≡ is_in
-      → (f : List ℤ → ℤ) → slice_get state.stores k ≡ Some (array_of region f)
-      → slice_get state.stores (suc k) ≡ Some (zeros_at region)
-      → step tables n (row.Plain (instr.Scan (suc k) over.slot operator (along_of along) k mask)) state
-      ≡ Goes [] (with_array_in state (suc k)
-      (array_of region (scan_value (along_of along) operator region is_in (element (array_of region f)))))
-  scan_row_does over region j k one_row other_row operator along is_along no_floods mask state here reads
-      is_in kept f there room =
-      let last : Array → Step Whole =
-      λ store. moved_in state (suc k) region (scan_value (along_of along) operator region
-      (kept_by (option_and_then (λ mask. slice_get state.stores mask) mask)) (element store)) in
-      ap straight (settled_act tables n state here.sound.settled
-      (row.Plain (instr.Scan (suc k) over.slot operator (along_of along) k mask)))
-      ∙ ap (λ o. found o (λ region.
-      scanned_in tables state (suc k) region operator (along_of along) k mask))
-      (slot_in_state state here over region j).found
-      ∙ ap (λ b. provided (b && (can_write tables state region (suc k)
-      && (reads_in tables state region k && reads_mask tables state region mask)))
-      (found (slice_get state.stores k) last)) no_floods
-      ∙ ap (λ b. provided (b && (reads_in tables state region k && reads_mask tables state region mask))
-      (found (slice_get state.stores k) last))
-      (can_put tables n over region (suc k) other_row slots j state room)
-      ∙ ap (λ b. provided (b && reads_mask tables state region mask)
-      (found (slice_get state.stores k) last))
-      (can_take tables n over region k one_row slots j state (array_of region f) there refl)
-      ∙ ap (λ b. provided b (found (slice_get state.stores k) last)) reads
-      ∙ ap (λ o. found o last) there
-      ∙ ap (λ (g : List ℤ → Bool). moved_in state (suc k) region
-      (scan_value (along_of along) operator region g (element (array_of region f)))) kept
-      ∙ moved_is tables n over region (suc k) other_row slots j state room
-      (scan_value (along_of along) operator region is_in (element (array_of region f)))
-
-  scan_field_is : (operator : Fold) (along : Option ℤ) → IsAlong along → (region : Region)
-      (is_in : List ℤ → Bool) (array : Array)
-      → (λ t. mean.Gives (scan_value (along_of along) operator region is_in (element array) t))
-      ≡ scan_field operator along region is_in array
-  scan_field_is operator None h region is_in array = refl
-  scan_field_is operator (Some k) h region is_in array =
-      fun_ext (λ t. ap (λ v. mean.Gives v) (by t (unsigned_abs k) h))
-    where
-      by : (t : List ℤ) (j : ℕ) → 1 ≤ j
-          → scan_value j operator region is_in (element array) t
-          ≡ scanned_along j operator region is_in (element array) t
-      by t zero h = absurd (omega (arith, h))
-      by t (suc j) h = refl
-
   module _ (over : Slotted) (region : Region) (j : InSlot slots over region) (operator : Fold)
       (along : Option ℤ) (is_along : IsAlong along) (readable : IsReadableMask w region over.mask)
-      (no_floods : no_flood region ≡ true) (free : Free) (le : next.scalars ≤ free.scalars)
-      (now : Whole) (here : IsState now) (inner : Hoisted Expression) (most : ℕ)
+      (no_floods : no_flood region ≡ true) (free : Unused) (le : next.scalars ≤ free.scalars)
+      (since : own.temps ≤ free.temps) (now : Whole) (here : IsState now) (inner : Hoisted Expression) (copies most : ℕ)
       (c : mean.Computed Field) where
     abbrev kept_in : List ℤ → Bool
     kept_in = is_kept_in store (record { region = region; mask = over.mask })
 
-    abbrev mid : Free
-    mid = behind free inner
+    abbrev mid : Unused
+    mid = beyond free copies inner
 
     abbrev meant_field : mean.Computed Field
     meant_field =
@@ -1017,47 +982,50 @@ module _ (tables : Tables) (n : ℕ) (spots : List Spot) (w : Where) (line : ℕ
         → ((state : Whole) → IsState state
         → list_all (holds tables state) (over_reference w.numbers over) ≡ true
         → (reads_mask tables state region mask ≡ true)
-        × (kept_by (option_and_then (λ mask. slice_get state.stores mask) mask) ≡ kept_in))
-        → list_all (holds tables now) (over_reference w.numbers over) ≡ true
+        × ((t : List ℤ) → kept_by (option_and_then (λ mask. slice_get state.stores mask) mask) t
+        ≡ kept_in t))
+        → list_all (holds_in tables slots) (over_reference w.numbers over) ≡ true
         → TempsAt tables.arrays free.temps (inner.temps ++ over.flood ∷ over.flood ∷ [])
         → (TempsAt tables.arrays free.temps inner.temps
         → Hoist (Under over region) free mid most now inner.left c (does tables n inner.code now))
         → free.scalars + inner.scalars ≤ tables.scalars
-        → Hoist (Under over region) free (behind free (scan_hoisted mask)) most now
+        → Hoist (Under over region) free (beyond free copies (scan_hoisted mask)) most now
         (scan_hoisted mask).left meant_field (does tables n (scan_hoisted mask).code now)
     by_number mask reads held temps h space =
-        let own = temps_rest tables.arrays free.temps inner.temps (over.flood ∷ over.flood ∷ []) temps in
-        subst (λ (g : Array → Field). Hoist (Under over region) free (behind free (scan_hoisted mask))
+        let two = temps_rest tables.arrays free.temps inner.temps (over.flood ∷ over.flood ∷ []) temps in
+        subst (λ (g : Array → Field). Hoist (Under over region) free (beyond free copies (scan_hoisted mask))
         most now (scan_hoisted mask).left
         (computed_then c (λ field. computed_then (array_over region kept_in field) (λ array.
         mean.Gives (g array)))) (does tables n (scan_hoisted mask).code now))
         (fun_ext (λ array. scan_field_is operator along is_along region kept_in array))
         (temp_hoists over region j over region j over.mask readable kept_in (λ t. refl) free mid
-        (behind free (scan_hoisted mask)) now here (freer_behind free inner) (omega arith)
-        (omega (arith, length-append inner.temps (over.flood ∷ over.flood ∷ []))) (omega (arith, le))
-        own.0 own.1.0 held inner.left
+        (beyond free copies (scan_hoisted mask)) now here (freer_behind free copies inner) (omega arith)
+        (omega (arith, length-append inner.temps (over.flood ∷ over.flood ∷ []))) (omega (arith, since))
+        (omega (arith, le)) two.0 two.1.0 held inner.left
         (row.Plain (instr.Scan (suc mid.temps) over.slot operator (along_of along) mid.temps mask))
         (λ array t. scan_value (along_of along) operator region kept_in (element array) t)
         (λ state there held f source_there room.
         let r = reads state there held in
-        scan_row_does over region j mid.temps own.0 own.1.0 operator along is_along no_floods mask state
-        there r.0 kept_in r.1 f source_there room)
+        scan_row_does tables n spots w line all own slots apart store over region j mid mid.temps
+        (suc mid.temps)
+        two.0 two.1.0 operator along no_floods mask state there r.0 kept_in (λ t m. r.1 t) f source_there
+        room)
         most c (does tables n inner.code now)
         (h (temps_front tables.arrays free.temps inner.temps (over.flood ∷ over.flood ∷ []) temps)))
 
     none_reads : over.mask ≡ None → (state : Whole) → IsState state
         → list_all (holds tables state) (over_reference w.numbers over) ≡ true
         → (reads_mask tables state region None ≡ true)
-        × (kept_by (option_and_then (λ mask. slice_get state.stores mask) None) ≡ kept_in)
-    none_reads e state _ held =
-        (refl, fun_ext (λ t. sym (ap (λ m. is_kept store m t) e)))
+        × ((t : List ℤ) → kept_by (option_and_then (λ mask. slice_get state.stores mask) None) t
+        ≡ kept_in t)
+    none_reads e state _ held = (refl, λ t. sym (ap (λ m. is_kept store m t) e))
 
     some_reads : (place : ℕ)
         → over.mask ≡ Some (record { array = place; without = false }) → (state : Whole)
         → IsState state → list_all (holds tables state) (over_reference w.numbers over) ≡ true
         → (reads_mask tables state region (Some (number_of (slice_get w.numbers.arrays place))) ≡ true)
-        × (kept_by (option_and_then (λ mask. slice_get state.stores mask)
-        (Some (number_of (slice_get w.numbers.arrays place)))) ≡ kept_in)
+        × ((t : List ℤ) → kept_by (option_and_then (λ mask. slice_get state.stores mask)
+        (Some (number_of (slice_get w.numbers.arrays place)))) t ≡ kept_in t)
     some_reads place e state there held =
         by (slice_get w.numbers.arrays place) refl
         (subst (λ (m : Option Mask). IsReadableMask w region m) e readable)
@@ -1072,8 +1040,8 @@ module _ (tables : Tables) (n : ℕ) (spots : List Spot) (w : Where) (line : ℕ
             → list_all (holds tables state) (refer_to over.slot []
             (slice_get w.numbers.arrays place)) ≡ true
             → (reads_mask tables state region (Some (number_of o)) ≡ true)
-            × (kept_by (option_and_then (λ mask. slice_get state.stores mask) (Some (number_of o)))
-            ≡ kept_in)
+            × ((t : List ℤ) → kept_by (option_and_then (λ mask. slice_get state.stores mask)
+            (Some (number_of o))) t ≡ kept_in t)
         by None q r held = absurd r
         by (Some stored) q r held =
             let i = slot_in_state state there over region j in
@@ -1083,58 +1051,91 @@ module _ (tables : Tables) (n : ℕ) (spots : List Spot) (w : Where) (line : ℕ
             (current_in state.slots over region i) place stored q f r.0 [] tt in (
               right_true (can_read tables state region (record { array = stored.array; shift = unmoved }))
                   (p.reads held).0,
-              ap (λ (o : Option Array). kept_by o) f.in_stores
-                  ∙ fun_ext (λ t.
-                  ap (λ (a : Array). is_true (element a t))
+              λ t. ap (λ (o : Option Array). kept_by o t) f.in_stores
+                  ∙ ap (λ (a : Array). is_true (element a t))
                   (sym f.seen ∙ ap (λ (x : Store). array_at x place) there.seen_is)
-                  ∙ sym (ap (λ m. is_kept store m t) e)),
+                  ∙ sym (ap (λ m. is_kept store m t) e),
             )
 
-    scan_at : (mask : Option Mask) → over.mask ≡ mask → IsPlainMask mask
-        → list_all (holds tables now) (over_reference w.numbers over) ≡ true
-        → (let made = scanning w.numbers line free operator along over mask inner in
+    -- under `without`, an array has the complement
+    by_complement : (place : ℕ) → over.mask ≡ Some (record { array = place; without = true })
+        → list_all (holds_in tables slots) (over_reference w.numbers over) ≡ true
+        → (let made = masked_scan w.numbers line (free_of free) operator along over inner true
+        (number_of (slice_get w.numbers.arrays place)) in
         TempsAt tables.arrays free.temps made.temps
         → (TempsAt tables.arrays free.temps inner.temps
         → Hoist (Under over region) free mid most now inner.left c (does tables n inner.code now))
         → free.scalars + inner.scalars ≤ tables.scalars
-        → Hoist (Under over region) free (behind free made) most now made.left meant_field
+        → Hoist (Under over region) free (beyond free copies made) most now made.left meant_field
         (does tables n made.code now))
-    scan_at None e plain_mask held temps h space =
-        by_number None (none_reads e) held temps h space
-    scan_at (Some mask) e plain_mask held temps h space =
-        by mask.without plain_mask (e ∙ ap (λ (b : Bool). Some (record { array = mask.array; without = b }))
-        plain_mask) temps
+    by_complement place e held temps h space =
+        by (slice_get w.numbers.arrays place) refl
+        (subst (λ (m : Option Mask). IsReadableMask w region m) e readable)
       where
-        by : (b : Bool) → b ≡ false → over.mask ≡ Some (record { array = mask.array; without = false })
-            → (let made = masked_scan w.numbers line free operator along over inner b
+        three : List (List Bool)
+        three = over.flood ∷ over.flood ∷ over.flood ∷ []
+
+        by : (o : Option Stored) → slice_get w.numbers.arrays place ≡ o → IsReadable region [] o
+            → (let made = masked_scan w.numbers line (free_of free) operator along over inner true (number_of o) in
+            Hoist (Under over region) free (beyond free copies made) most now made.left meant_field
+            (does tables n made.code now))
+        by None q r = absurd r
+        by (Some stored) q r =
+            let two = temps_rest tables.arrays free.temps inner.temps three temps in
+            without_hoists tables n spots w line all own slots apart store over region j place stored q e readable
+            no_floods operator along is_along free mid (beyond free copies (masked_scan w.numbers line
+            (free_of free) operator along over inner true stored.array)) now here (freer_behind free copies inner) (omega arith)
+            (omega (arith, length-append inner.temps three)) (omega (arith, since)) two.0 two.1.0 two.1.1.0
+            held inner.left most
+            c (does tables n inner.code now) (h (temps_front tables.arrays free.temps inner.temps three temps))
+
+    scan_at : (mask : Option Mask) → over.mask ≡ mask
+        → list_all (holds_in tables slots) (over_reference w.numbers over) ≡ true
+        → (let made = scanning w.numbers line (free_of free) operator along over mask inner in
+        TempsAt tables.arrays free.temps made.temps
+        → (TempsAt tables.arrays free.temps inner.temps
+        → Hoist (Under over region) free mid most now inner.left c (does tables n inner.code now))
+        → free.scalars + inner.scalars ≤ tables.scalars
+        → Hoist (Under over region) free (beyond free copies made) most now made.left meant_field
+        (does tables n made.code now))
+    scan_at None e held temps h space = by_number None (none_reads e) held temps h space
+    scan_at (Some mask) e held temps h space = by mask.without refl temps
+      where
+        masked : (b : Bool) → mask.without ≡ b
+            → over.mask ≡ Some (record { array = mask.array; without = b })
+        masked b q =
+            e ∙ ap (λ (b : Bool). Some (record { array = mask.array; without = b })) q
+
+        by : (b : Bool) → mask.without ≡ b
+            → (let made = masked_scan w.numbers line (free_of free) operator along over inner b
             (number_of (slice_get w.numbers.arrays mask.array)) in
             TempsAt tables.arrays free.temps made.temps
-            → Hoist (Under over region) free (behind free made) most now made.left meant_field
+            → Hoist (Under over region) free (beyond free copies made) most now made.left meant_field
             (does tables n made.code now))
-        by true q e temps = absurd (let no : ⊥ = cc in no)
-        by false q e temps =
+        by true q temps = by_complement mask.array (masked true q) held temps h space
+        by false q temps =
             by_number (Some (number_of (slice_get w.numbers.arrays mask.array)))
-            (some_reads mask.array e) held temps h space
+            (some_reads mask.array (masked false q)) held temps h space
 
-  scan_scalars : (operator : Fold) (along : Option ℤ) (over : Slotted) (free : Free)
+  scan_scalars : (operator : Fold) (along : Option ℤ) (over : Slotted) (free : Unused)
       (inner : Hoisted Expression) (mask : Option Mask)
-      → inner.scalars ≤ (scanning w.numbers line free operator along over mask inner).scalars
+      → inner.scalars ≤ (scanning w.numbers line (free_of free) operator along over mask inner).scalars
   scan_scalars operator along over free inner None = omega arith
   scan_scalars operator along over free inner (Some mask) = by mask.without
     where
       by : (b : Bool)
-          → inner.scalars ≤ (masked_scan w.numbers line free operator along over inner b
+          → inner.scalars ≤ (masked_scan w.numbers line (free_of free) operator along over inner b
           (number_of (slice_get w.numbers.arrays mask.array))).scalars
       by true = omega arith
       by false = omega arith
 
   -- ---- slates
 
-  held_both : (now : Whole) (xs ys : List Reference) → list_all (holds tables now) (xs ++ ys) ≡ true
-      → (list_all (holds tables now) xs ≡ true) × (list_all (holds tables now) ys ≡ true)
-  held_both now xs ys e =
-      both_true (list_all (holds tables now) xs) (list_all (holds tables now) ys)
-      (sym (all_append (holds tables now) xs ys) ∙ e)
+  held_both : (xs ys : List Reference) → list_all (holds_in tables slots) (xs ++ ys) ≡ true
+      → (list_all (holds_in tables slots) xs ≡ true) × (list_all (holds_in tables slots) ys ≡ true)
+  held_both xs ys e =
+      both_true (list_all (holds_in tables slots) xs) (list_all (holds_in tables slots) ys)
+      (sym (all_append (holds_in tables slots) xs ys) ∙ e)
 
   plain_element : (o : Option Stored) (shift : List ℤ)
       → stored_element o shift
@@ -1144,87 +1145,138 @@ module _ (tables : Tables) (n : ℕ) (spots : List Spot) (w : Where) (line : ℕ
 
   -- ---- several
 
-  abbrev HoistsAll : Site → Free → Free → ℕ → Whole → List Expression → mean.Computed (List Field)
-      → Course Whole → Type 0
-  HoistsAll site free more most = HoistAll tables spots w.numbers.arrays site free more line most
+  -- what is left of several has the values of their fields
+  abbrev Have : Type 1
+  Have = Unused → Whole → List Field → List Expression → Type 0
 
-  later_values : (site : Site) (mid last : Free) (after end : Whole) → IsFreer mid last
+  abbrev HoistsAll : Have → Unused → Unused → ℕ → Whole → List Expression
+      → mean.Computed (List Field) → Course Whole → Type 0
+  HoistsAll Valued free more most =
+      HoistAll tables spots w.numbers.arrays own Valued free more line most
+
+  abbrev AllAt : Site → Have
+  AllAt = HaveValues tables spots w.numbers.arrays own
+
+  abbrev EachAt : List Site → Have
+  EachAt = HaveValuesAt tables spots w.numbers.arrays own
+
+  later_values : (site : Site) (mid last : Unused) (after end : Whole) → IsFreer mid last
       → Spared mid after end → (field : Field) (left : Expression)
       → Values site mid after field left → Values site last end field left
   later_values site mid last after end ge r field left h = record {
     values = λ later l.
-        h.values later (spares_then tables spots w.numbers.arrays mid last after end later ge r l);
+        h.values later (spares_then tables spots w.numbers.arrays own mid last after end later ge r l);
     reads = λ later l.
         more_read site later mid.scalars last.scalars ge.scalars (words_of left)
-        (h.reads later (spares_then tables spots w.numbers.arrays mid last after end later ge r l));
+        (h.reads later (spares_then tables spots w.numbers.arrays own mid last after end later ge r l));
   }
 
-  both_hoist : (site : Site) (free mid last : Free) (one_most other_most : ℕ) (now : Whole)
+  both_hoist : (site : Site) (Behind Both : Have)
+      → ((free : Unused) (after : Whole) (field : Field) (fields : List Field) (left : Expression)
+      (rest : List Expression) → Values site free after field left → Behind free after fields rest
+      → Both free after (field ∷ fields) (left ∷ rest))
+      → (free mid last : Unused) (one_most other_most : ℕ) (now : Whole)
       (left : Expression) (rest : List Expression) (c : mean.Computed Field)
       (d : mean.Computed (List Field)) (course : Course Whole) (others : Whole → Course Whole)
       → IsFreer free mid → IsFreer mid last → Hoist site free mid one_most now left c course
       → ((after : Whole) → Spared free now after
-      → HoistsAll site mid last other_most after rest d (others after))
-      → HoistsAll site free last (one_most + other_most) now (left ∷ rest)
+      → HoistsAll Behind mid last other_most after rest d (others after))
+      → HoistsAll Both free last (one_most + other_most) now (left ∷ rest)
       (both_then c d (λ field fields. mean.Gives (field ∷ fields))) (code.then_do course others)
-  both_hoist site free mid last one_most other_most now left rest c d course others le ge
+  both_hoist site Behind Both join free mid last one_most other_most now left rest c d course others le ge
       (Stumbles few) k = OneStumbles (omega (arith, few))
-  both_hoist site free mid last one_most other_most now left rest c d course others le ge
+  both_hoist site Behind Both join free mid last one_most other_most now left rest c d course others le ge
       (Reaches {after = after} {jumps = jumps} {field = field} s h few) k =
       by d (others after) (k after s)
     where
       by : (d : mean.Computed (List Field)) (other : Course Whole)
-          → HoistsAll site mid last other_most after rest d other
-          → HoistsAll site free last (one_most + other_most) now (left ∷ rest)
+          → HoistsAll Behind mid last other_most after rest d other
+          → HoistsAll Both free last (one_most + other_most) now (left ∷ rest)
           (both_then (mean.Gives field) d (λ field fields. mean.Gives (field ∷ fields)))
           (code.behind [] jumps other)
       by d other (OneStumbles {jumps = j} less) =
           OneStumbles (omega (arith, few, less, sum_of jumps j))
       by d other (AllReach {after = end} {jumps = j} {fields = fields} r i less) =
-          AllReach (spares_then tables spots w.numbers.arrays free mid now after end le s r)
-          (later_values site mid last after end ge r field left h, i)
+          AllReach (spares_then tables spots w.numbers.arrays own free mid now after end le s r)
+          (join last end field fields left rest
+          (later_values site mid last after end ge r field left h) i)
           (omega (arith, few, less, sum_of jumps j))
+
+  -- a slate, and others behind it
+  more_hoist : (site : Site) (Behind Both : Have)
+      → ((free : Unused) (after : Whole) (field : Field) (fields : List Field) (left : Expression)
+      (rest : List Expression) → Values site free after field left → Behind free after fields rest
+      → Both free after (field ∷ fields) (left ∷ rest))
+      → (one : Slate) (rest : Slates) (first : Term) (terms : Terms) (now : Whole) (free : Unused)
+      → (let first_one = hoisted w.numbers line (free_of free) one in
+      let mid = beyond free (copies_of one) first_one in
+      let others = all_hoisted w.numbers line (free_of mid) rest in
+      let all = all_hoisted w.numbers line (free_of free) (ThenSlate one rest) in
+      Hoist site free mid (tests_of one) now first_one.left (field_of store first)
+      (does tables n first_one.code now)
+      → ((after : Whole) → Spared free now after
+      → HoistsAll Behind mid (beyond mid (copies_of_all rest) others) (tests_of_all rest) after others.left
+      (fields_of store terms) (does tables n others.code after))
+      → HoistsAll Both free (beyond free (copies_of_all (ThenSlate one rest)) all)
+      (tests_of_all (ThenSlate one rest)) now all.left (fields_of store (ThenTerm first terms))
+      (does tables n all.code now))
+  more_hoist site Behind Both join one rest first terms now free h k =
+      let first_one = hoisted w.numbers line (free_of free) one in
+      let mid = beyond free (copies_of one) first_one in
+      let others = all_hoisted w.numbers line (free_of mid) rest in
+      subst (λ (last : Unused). HoistsAll Both free last (tests_of one + tests_of_all rest) now
+      (first_one.left ∷ others.left) (fields_of store (ThenTerm first terms))
+      (code.then_do (does tables n first_one.code now) (does tables n others.code)))
+      (behind_both (λ one others. one ∷ others) free (copies_of one) (copies_of_all rest) first_one
+      others)
+      (both_hoist site Behind Both join free mid (beyond mid (copies_of_all rest) others) (tests_of one)
+      (tests_of_all rest) now first_one.left others.left (field_of store first) (fields_of store terms)
+      (does tables n first_one.code now) (does tables n others.code)
+      (freer_behind free (copies_of one) first_one) (freer_behind mid (copies_of_all rest) others) h k)
 
   -- ---- remap reads
 
-  left_count : (free : Free) (indices : Slates)
-      → length (all_hoisted w.numbers line free indices).left ≡ count_of indices
+  left_count : (free : Unused) (indices : Slates)
+      → length (all_hoisted w.numbers line (free_of free) indices).left ≡ count_of indices
   left_count free NoSlate = refl
   left_count free (ThenSlate first rest) =
-      ap suc (left_count (behind free (hoisted w.numbers line free first)) rest)
+      ap suc (left_count (beyond free 0 (hoisted w.numbers line (free_of free) first)) rest)
 
   remap_at : (over : Slotted) (region : Region) → InSlot slots over region
       → IsReadableMask w region over.mask → no_flood region ≡ true → (place : ℕ) (stored : Stored)
-      → IsRegion stored.storage → (free : Free) → next.scalars ≤ free.scalars → (now : Whole)
+      → IsRegion stored.storage → (free : Unused) → next.scalars ≤ free.scalars
+      → own.temps ≤ free.temps → (now : Whole)
       → IsState now → (inner : Hoisted (List Expression))
       → length inner.left ≡ stored.storage.rank
-      → list_all (holds tables now) (over_reference w.numbers over) ≡ true → (most : ℕ)
+      → list_all (holds_in tables slots) (over_reference w.numbers over) ≡ true → (copies most : ℕ)
       (c : mean.Computed (List Field)) (o : Option Stored) → slice_get w.numbers.arrays place ≡ Some stored
       → o ≡ Some stored
-      → (let made = hoist.remapping w.numbers line free over o inner in
+      → (let made = hoist.remapping w.numbers line (free_of free) over o inner in
       free.scalars + made.scalars ≤ tables.scalars → TempsAt tables.arrays free.temps made.temps
       → (free.scalars + inner.scalars ≤ tables.scalars
       → TempsAt tables.arrays free.temps inner.temps
-      → HoistsAll (Under over region) free (behind free inner) most now inner.left c
+      → HoistsAll (AllAt (Under over region)) free (beyond free copies inner) most now inner.left c
       (does tables n inner.code now))
-      → Hoist (Under over region) free (behind free made) (most + 1) now made.left
+      → Hoist (Under over region) free (beyond free copies made) (most + 1) now made.left
       (computed_then c (λ fields. computed_then (arrays_over region
       (is_kept_in store (record { region = region; mask = over.mask })) fields) (λ arrays. mean.provided
       (list_all (λ t. has_target (is_kept_in store (record { region = region; mask = over.mask }) t)
       (array_at store place) arrays t) (members region)) OutsideStorage
       (λ _. mean.Gives (remap_field (array_at store place) arrays)))))
       (does tables n made.code now))
-  remap_at over region i readable no_floods place stored is free le now here inner ranked held most c
+  remap_at over region i readable no_floods place stored is free le since now here inner ranked held copies
+      most c
       None in_numbers e space temps h = absurd (let no : ⊥ = cc in no)
-  remap_at over region i readable no_floods place stored is free le now here inner ranked held most c
+  remap_at over region i readable no_floods place stored is free le since now here inner ranked held copies
+      most c
       (Some other) in_numbers e space temps h =
       let same : other ≡ stored = cc in
       let count = length inner.left in
-      let mid = behind free inner in
-      remap_hoists tables n spots w line all slots store over region i readable no_floods place other
+      let mid = beyond free copies inner in
+      remap_hoists tables n spots w line all own slots apart store over region i readable no_floods place other
       (in_numbers ∙ sym e) (subst (λ (x : Stored). IsRegion x.storage) (sym same) is) free mid
-      (behind free (hoist.remapping w.numbers line free over (Some other) inner)) now here
-      (freer_behind free inner) (omega arith)
+      (beyond free copies (hoist.remapping w.numbers line (free_of free) over (Some other) inner)) now here
+      (freer_behind free copies inner) (omega arith) (omega (arith, since))
       (rises_on 0 (numbered spots) next.scalars mid.scalars (omega (arith, le)) stands.rises)
       (omega (arith, space)) inner.left
       (subst (λ (x : Stored). count ≡ x.storage.rank) (sym same) ranked)
@@ -1238,172 +1290,240 @@ module _ (tables : Tables) (n : ℕ) (spots : List Spot) (w : Where) (line : ℕ
       (h (omega (arith, space))
       (temps_front tables.arrays free.temps inner.temps (replicate (count + 1) over.flood) temps))
 
+  -- ---- reads that wrap round
+
+  wrap_at : (over : Slotted) (region : Region) → InSlot slots over region → (place : ℕ) (home : Region)
+      (d : List ℤ) (copy first : ℕ) (stored : Stored) → IsAround home d stored
+      → region.rank ≡ home.rank → EachCovers home.dims region.dims → (free : Unused)
+      → own.temps ≤ free.temps → IsCopy tables w own free.copies home (copy_shift home d) copy first
+      → (now : Whole) → IsState now
+      → list_all (holds_in tables slots) (at_place over.slot copy
+      ∷ record { slot = over.slot; array = copy; shift = copy_shift home d } ∷ []) ≡ true
+      → slice_get w.numbers.arrays place ≡ Some stored → (o : Option Stored) → o ≡ Some stored
+      → (let made = hoist.wrapping line o home (copy_shift home d) copy first in
+      Hoist (Under over region) free (beyond free 1 made) 0 now made.left
+      (mean.Gives (λ t. mean.Gives (element (array_at store place) (around_source home d t))))
+      (does tables n made.code now))
+  wrap_at over region i place home d copy first stored around ranks covers free since copied now here
+      held in_numbers None e = absurd (let no : ⊥ = cc in no)
+  wrap_at over region i place home d copy first stored around ranks covers free since copied now here
+      held in_numbers (Some other) e =
+      let same : other ≡ stored = cc in
+      let f = copy_found tables n spots w line own home d copy first free copied now here.sound in
+      let copying = is_copying home d around.is around.three around.boxed around.limit around.long
+      around.copy_limit (subst (λ (r : Region). All HasStep r.dims) f.storage f.is.steps)
+      (subst (λ (r : Region). All IsBoxed r.dims) f.storage f.boxed)
+      (ap (λ (r : Region). length r.dims) (sym f.storage) ∙ f.three) in
+      subst (λ (x : Stored).
+      (let made = hoist.wrapping line (Some x) home (copy_shift home d) copy first in
+      Hoist (Under over region) free (beyond free 1 made) 0 now made.left
+      (mean.Gives (λ t. mean.Gives (element (array_at store place) (around_source home d t))))
+      (does tables n made.code now))) (sym same)
+      (wrap_hoists tables n spots w line all own slots apart store (arrays_here now here) place stored
+      in_numbers home d around copying copy first free copied now here over region i ranks covers
+      (beyond free 1 (hoist.wrapping line (Some stored) home (copy_shift home d) copy first))
+      (omega arith) (let low = copied.below in omega (arith, low, since)) held)
+
   -- ---- slates, and several of them
 
   mutual
-    pub hoists : (site : Site) (one : Slate) (meant : Term) → IsMeant w spots slots site one meant
+    pub hoists : {around : Bool} (site : Site) (one : Slate) (meant : Term) → IsMeant around w spots slots site one meant
         → IsSite slots site → (now : Whole) → IsState now
-        → list_all (holds tables now) (referred w.numbers one) ≡ true → conforms meant ≡ true
-        → (free : Free) → next.scalars ≤ free.scalars
-        → free.scalars + (hoisted w.numbers line free one).scalars ≤ tables.scalars
-        → TempsAt tables.arrays free.temps (hoisted w.numbers line free one).temps
-        → Hoist site free (behind free (hoisted w.numbers line free one)) (tests_of one) now
-        (hoisted w.numbers line free one).left (field_of store meant)
-        (does tables n (hoisted w.numbers line free one).code now)
-    hoists site _ _ (ConstantMeant {value = value} is) i now here held conf free le space temps =
+        → list_all (holds_in tables slots) (referred w.numbers one) ≡ true → conforms meant ≡ true
+        → (free : Unused) → next.scalars ≤ free.scalars → own.temps ≤ free.temps
+        → AreCopied tables w own free.copies one
+        → free.scalars + (hoisted w.numbers line (free_of free) one).scalars ≤ tables.scalars
+        → TempsAt tables.arrays free.temps (hoisted w.numbers line (free_of free) one).temps
+        → Hoist site free (beyond free (copies_of one) (hoisted w.numbers line (free_of free) one)) (tests_of one) now
+        (hoisted w.numbers line (free_of free) one).left (field_of store meant)
+        (does tables n (hoisted w.numbers line (free_of free) one).code now)
+    hoists site _ _ (ConstantMeant {value = value} is) i now here held conf free le since copied space temps =
         constant_hoists site free le now here value
-    hoists site _ _ (VariableMeant {place = place}) i now here held conf free le space temps =
+    hoists site _ _ (VariableMeant {place = place}) i now here held conf free le since copied space temps =
         variable_hoists site free le now here place
-    hoists _ _ _ (CoordinateMeant {over = over} {region = region} {k = k} lt) i now here held conf free le space temps =
+    hoists _ _ _ (CoordinateMeant {over = over} {region = region} {k = k} lt) i now here held conf free le since copied space temps =
         part_hoists over region i (slate.Coordinate k) (term.Coordinate k)
-        (λ t. mean.Gives (coordinate_of k t)) refl free le refl now here refl (λ j. (tt, tt))
+        (λ t. mean.Gives (coordinate_of k t)) refl free le refl now here tt refl (λ j. (tt, tt))
         (λ later sound i. (
           word.Coordinate k,
           coordinate_part tables spots w line later region.rank over
               (current_in later.slots over region i) k lt,
         ))
     hoists _ _ _ (ElementMeant {over = over} {region = region} {place = place} {shift = shift} r) i now
-        here held conf free le space temps =
+        here held conf free le since copied space temps =
         part_hoists over region i (slate.Element over.slot place shift) (term.Element region place shift)
-        _ refl free le (plain_element (slice_get w.numbers.arrays place) shift) now here held
+        _ refl free le (plain_element (slice_get w.numbers.arrays place) shift) now here
+        (refer_at tables spots w.numbers.arrays own slots apart store over.slot shift
+        (slice_get w.numbers.arrays place)) held
         (λ j. element_names (slice_get w.numbers.arrays place) shift j)
         (λ later sound i. element_at tables spots w line all later sound over region i place shift r)
-    hoists site _ _ (UnaryMeant {operator = op} {one = one} {operand = operand} h) i now here held conf free le space temps =
-        unary_hoists site free (behind free (hoisted w.numbers line free one)) (tests_of one) now
-        (hoisted w.numbers line free one).left op (field_of store operand)
-        (does tables n (hoisted w.numbers line free one).code now)
-        (hoists site one operand h i now here held conf free le space temps)
+    hoists _ _ _ (WrappedMeant {over = over} {region = region} {place = place} {home = home} {d = d}
+        {copy = copy} {first = first} {stored = stored} e in_numbers is ranks covers) i now here held
+        conf free le since copied space temps =
+        wrap_at over region i place home d copy first stored is ranks covers free since copied now
+        here held in_numbers (slice_get w.numbers.arrays place) in_numbers
+    hoists site _ _ (UnaryMeant {operator = op} {one = one} {operand = operand} h) i now here held conf free le since copied space temps =
+        unary_hoists site free (beyond free (copies_of one) (hoisted w.numbers line (free_of free) one)) (tests_of one) now
+        (hoisted w.numbers line (free_of free) one).left op (field_of store operand)
+        (does tables n (hoisted w.numbers line (free_of free) one).code now)
+        (hoists site one operand h i now here held conf free le since copied space temps)
     hoists site _ _ (BinaryMeant {operator = op} {one = one} {other = other} {left = left}
-        {right = right} h k) i now here held conf free le space temps =
-        let first = hoisted w.numbers line free one in
-        let mid = behind free first in
-        let second = hoisted w.numbers line mid other in
-        let parts = held_both now (referred w.numbers one) (referred w.numbers other) held in
+        {right = right} h k) i now here held conf free le since copied space temps =
+        let first = hoisted w.numbers line (free_of free) one in
+        let mid = beyond free (copies_of one) first in
+        let second = hoisted w.numbers line (free_of mid) other in
+        let parts = held_both (referred w.numbers one) (referred w.numbers other) held in
         let confs = both_true (conforms left) (conforms right) conf in
-        subst (λ (last : Free). Hoist site free last (tests_of one + tests_of other) now
+        subst (λ (last : Unused). Hoist site free last (tests_of one + tests_of other) now
         (word.Operation op first.left second.left) (field_of store (term.Binary op left right))
         (code.then_do (does tables n first.code now) (does tables n second.code)))
-        (behind_both (word.Operation op) free first second)
-        (binary_hoists site free mid (behind mid second) (tests_of one) (tests_of other) now op first.left
+        (behind_both (word.Operation op) free (copies_of one) (copies_of other) first second)
+        (binary_hoists site free mid (beyond mid (copies_of other) second) (tests_of one) (tests_of other) now op first.left
         second.left (field_of store left) (field_of store right) (does tables n first.code now)
-        (does tables n second.code) (freer_behind free first) (freer_behind mid second)
-        (hoists site one left h i now here parts.0 confs.0 free le (omega (arith, space))
+        (does tables n second.code) (freer_behind free (copies_of one) first)
+        (freer_behind mid (copies_of other) second)
+        (hoists site one left h i now here parts.0 confs.0 free le since copied.0 (omega (arith, space))
         (temps_front tables.arrays free.temps first.temps second.temps temps))
         (λ after s.
         hoists site other right k i after (spared_state free now after here s)
-        (holds_on tables spots w.numbers.arrays now after s.slots (referred w.numbers other) ∙ parts.1)
-        confs.1 mid (omega (arith, le)) (omega (arith, space))
+        parts.1 confs.1 mid (omega (arith, le)) (omega (arith, since)) copied.1 (omega (arith, space))
         (temps_rest tables.arrays free.temps first.temps second.temps temps)))
     hoists site _ _ (FoldedMeant {operator = operator} {over = over} {region = region} {one = one}
-        {operand = operand} j readable no_floods h) i now here held conf free le space temps =
-        let inner = hoisted w.numbers line free one in
-        let mid = behind free inner in
-        let parts = held_both now (referred w.numbers one) (over_reference w.numbers over) held in
-        fold_hoists site free mid (behind free (hoisted w.numbers line free (slate.Folded operator over one)))
-        now here (freer_behind free inner) (omega arith)
+        {operand = operand} j readable no_floods h) i now here held conf free le since copied space temps =
+        let inner = hoisted w.numbers line (free_of free) one in
+        let mid = beyond free (copies_of one) inner in
+        let parts = held_both (referred w.numbers one) (over_reference w.numbers over) held in
+        fold_hoists site free mid (beyond free (copies_of one) (hoisted w.numbers line (free_of free) (slate.Folded operator over one)))
+        now here (freer_behind free (copies_of one) inner) (omega arith)
         (omega (arith, length-append inner.temps [])) (omega (arith, le)) (omega (arith, space)) operator
         over region j readable no_floods parts.1 inner.left (tests_of one) (field_of store operand)
         (does tables n inner.code now)
         (field_integers w spots slots store (scalars_here now here) (arrays_here now here)
         (Under over region) one operand h j)
-        (hoists (Under over region) one operand h j now here parts.0 conf free le (omega (arith, space))
-        (temps_front tables.arrays free.temps inner.temps [] temps))
+        (hoists (Under over region) one operand h j now here parts.0 conf free le since copied
+        (omega (arith, space)) (temps_front tables.arrays free.temps inner.temps [] temps))
     hoists _ _ _ (PartFoldedMeant {operator = operator} {over = over} {source = source}
         {region = region} {tuples = tuples} {one = one} {operand = operand} j readable no_floods h) i now
-        here held conf free le space temps =
-        let inner = hoisted w.numbers line free one in
-        let mid = behind free inner in
-        let parts = held_both now (over_reference w.numbers over) (referred w.numbers one) held in
+        here held conf free le since copied space temps =
+        let inner = hoisted w.numbers line (free_of free) one in
+        let mid = beyond free (copies_of one) inner in
+        let parts = held_both (over_reference w.numbers over) (referred w.numbers one) held in
         let confs = both_true (reduction_conforms region tuples) (conforms operand) conf in
-        let own = temps_rest tables.arrays free.temps inner.temps (source.flood ∷ over.flood ∷ []) temps
+        let two = temps_rest tables.arrays free.temps inner.temps (source.flood ∷ over.flood ∷ []) temps
         in
         temp_hoists over region i source tuples j None tt everywhere (λ t. refl) free mid
-        (behind free (hoisted w.numbers line free (slate.PartFolded operator over source one))) now here
-        (freer_behind free inner) (omega arith)
-        (omega (arith, length-append inner.temps (source.flood ∷ over.flood ∷ []))) (omega (arith, le))
-        own.0 own.1.0 refl inner.left
+        (beyond free (copies_of one) (hoisted w.numbers line (free_of free) (slate.PartFolded operator over source one))) now here
+        (freer_behind free (copies_of one) inner) (omega arith)
+        (omega (arith, length-append inner.temps (source.flood ∷ over.flood ∷ [])))
+        (omega (arith, since)) (omega (arith, le)) two.0 two.1.0 refl inner.left
         (row.Plain (instr.Part (suc mid.temps) over.slot operator mid.temps source.slot))
         (λ array t. partly_reduced operator region tuples (element array) t)
         (λ state there held f source_there room.
-        part_does over region i source tuples j mid.temps own.0 own.1.0 state there f source_there room
+        part_does over region i source tuples j mid.temps two.0 two.1.0 state there f source_there room
         operator confs.0 no_floods)
         (tests_of one) (field_of store operand) (does tables n inner.code now)
-        (hoists (Under source tuples) one operand h j now here parts.1 confs.1 free le
+        (hoists (Under source tuples) one operand h j now here parts.1 confs.1 free le since copied
         (omega (arith, space))
         (temps_front tables.arrays free.temps inner.temps (source.flood ∷ over.flood ∷ []) temps))
     hoists _ _ _ (FloodedMeant {over = over} {source = source} {region = region} {tuples = tuples}
-        {one = one} {operand = operand} j readable h) i now here held conf free le space temps =
-        let inner = hoisted w.numbers line free one in
-        let mid = behind free inner in
-        let parts = held_both now (over_reference w.numbers over) (referred w.numbers one) held in
+        {one = one} {operand = operand} j readable h) i now here held conf free le since copied space temps =
+        let inner = hoisted w.numbers line (free_of free) one in
+        let mid = beyond free (copies_of one) inner in
+        let parts = held_both (over_reference w.numbers over) (referred w.numbers one) held in
         let confs = both_true (flood_conforms region tuples) (conforms operand) conf in
-        let own = temps_rest tables.arrays free.temps inner.temps (source.flood ∷ over.flood ∷ []) temps
+        let two = temps_rest tables.arrays free.temps inner.temps (source.flood ∷ over.flood ∷ []) temps
         in
         temp_hoists over region i source tuples j None tt everywhere (λ t. refl) free mid
-        (behind free (hoisted w.numbers line free (slate.Flooded over source one))) now here
-        (freer_behind free inner) (omega arith)
-        (omega (arith, length-append inner.temps (source.flood ∷ over.flood ∷ []))) (omega (arith, le))
-        own.0 own.1.0 refl inner.left
+        (beyond free (copies_of one) (hoisted w.numbers line (free_of free) (slate.Flooded over source one))) now here
+        (freer_behind free (copies_of one) inner) (omega arith)
+        (omega (arith, length-append inner.temps (source.flood ∷ over.flood ∷ [])))
+        (omega (arith, since)) (omega (arith, le)) two.0 two.1.0 refl inner.left
         (row.Plain (instr.Flood (suc mid.temps) over.slot mid.temps source.slot))
         (λ array t. element array (flood_source tuples t))
         (λ state there held f source_there room.
-        flood_does over region i source tuples j mid.temps own.0 own.1.0 state there f source_there room
+        flood_does over region i source tuples j mid.temps two.0 two.1.0 state there f source_there room
         confs.0)
         (tests_of one) (field_of store operand) (does tables n inner.code now)
-        (hoists (Under source tuples) one operand h j now here parts.1 confs.1 free le
+        (hoists (Under source tuples) one operand h j now here parts.1 confs.1 free le since copied
         (omega (arith, space))
         (temps_front tables.arrays free.temps inner.temps (source.flood ∷ over.flood ∷ []) temps))
     hoists _ _ _ (ScannedMeant {operator = operator} {along = along} {over = over} {region = region}
-        {one = one} {operand = operand} readable plain_mask is_along no_floods h) i now here held conf
-        free le space temps =
-        let inner = hoisted w.numbers line free one in
-        let parts = held_both now (referred w.numbers one) (over_reference w.numbers over) held in
-        scan_at over region i operator along is_along readable no_floods free le now here inner
-        (tests_of one) (field_of store operand) over.mask refl plain_mask parts.1 temps
+        {one = one} {operand = operand} readable is_along no_floods h) i now here held conf
+        free le since copied space temps =
+        let inner = hoisted w.numbers line (free_of free) one in
+        let parts = held_both (referred w.numbers one) (over_reference w.numbers over) held in
+        scan_at over region i operator along is_along readable no_floods free le since now here inner
+        (copies_of one) (tests_of one) (field_of store operand) over.mask refl parts.1 temps
         (λ fits.
-        hoists (Under over region) one operand h i now here parts.0 conf free le
+        hoists (Under over region) one operand h i now here parts.0 conf free le since copied
         (omega (arith, space, scan_scalars operator along over free inner over.mask)) fits)
         (omega (arith, space, scan_scalars operator along over free inner over.mask))
     hoists _ _ _ (RemappedMeant {over = over} {region = region} {place = place} {stored = stored}
         {indices = indices} {terms = terms} in_numbers is count readable no_floods h) i now here held
-        conf free le space temps =
-        let inner = all_hoisted w.numbers line free indices in
-        let parts = held_both now (over_reference w.numbers over) (all_referred w.numbers indices) held in
-        remap_at over region i readable no_floods place stored is free le now here inner
-        (left_count free indices ∙ count) parts.0 (tests_of_all indices) (fields_of store terms)
+        conf free le since copied space temps =
+        let inner = all_hoisted w.numbers line (free_of free) indices in
+        let parts = held_both (over_reference w.numbers over) (all_referred w.numbers indices) held in
+        remap_at over region i readable no_floods place stored is free le since now here inner
+        (left_count free indices ∙ count) parts.0 (copies_of_all indices) (tests_of_all indices) (fields_of store terms)
         (slice_get w.numbers.arrays place) in_numbers in_numbers space temps
         (λ space temps.
-        all_hoist (Under over region) indices terms h i now here parts.1 conf free le space temps)
+        all_hoist (Under over region) indices terms h i now here parts.1 conf free le since copied space temps)
 
-    pub all_hoist : (site : Site) (slates : Slates) (terms : Terms)
-        → AreMeant w spots slots site slates terms → IsSite slots site → (now : Whole) → IsState now
-        → list_all (holds tables now) (all_referred w.numbers slates) ≡ true → conform terms ≡ true
-        → (free : Free) → next.scalars ≤ free.scalars
-        → free.scalars + (all_hoisted w.numbers line free slates).scalars ≤ tables.scalars
-        → TempsAt tables.arrays free.temps (all_hoisted w.numbers line free slates).temps
-        → HoistsAll site free (behind free (all_hoisted w.numbers line free slates))
-        (tests_of_all slates) now (all_hoisted w.numbers line free slates).left (fields_of store terms)
-        (does tables n (all_hoisted w.numbers line free slates).code now)
-    all_hoist site _ _ NoneMeant i now here held conf free le space temps =
-        AllReach (spares_all tables spots w.numbers.arrays free now here.sound) tt (omega arith)
+    pub all_hoist : {around : Bool} (site : Site) (slates : Slates) (terms : Terms)
+        → AreMeant around w spots slots site slates terms → IsSite slots site → (now : Whole) → IsState now
+        → list_all (holds_in tables slots) (all_referred w.numbers slates) ≡ true → conform terms ≡ true
+        → (free : Unused) → next.scalars ≤ free.scalars → own.temps ≤ free.temps
+        → AllCopied tables w own free.copies slates
+        → free.scalars + (all_hoisted w.numbers line (free_of free) slates).scalars ≤ tables.scalars
+        → TempsAt tables.arrays free.temps (all_hoisted w.numbers line (free_of free) slates).temps
+        → HoistsAll (AllAt site) free (beyond free (copies_of_all slates) (all_hoisted w.numbers line (free_of free) slates))
+        (tests_of_all slates) now (all_hoisted w.numbers line (free_of free) slates).left (fields_of store terms)
+        (does tables n (all_hoisted w.numbers line (free_of free) slates).code now)
+    all_hoist site _ _ NoneMeant i now here held conf free le since copied space temps =
+        AllReach (spares_all tables spots w.numbers.arrays own free now here.sound) tt (omega arith)
     all_hoist site _ _ (MoreMeant {one = one} {rest = rest} {first = first} {terms = terms} h k) i now
-        here held conf free le space temps =
-        let first_one = hoisted w.numbers line free one in
-        let mid = behind free first_one in
-        let others = all_hoisted w.numbers line mid rest in
-        let parts = held_both now (referred w.numbers one) (all_referred w.numbers rest) held in
+        here held conf free le since copied space temps =
+        let first_one = hoisted w.numbers line (free_of free) one in
+        let mid = beyond free (copies_of one) first_one in
+        let others = all_hoisted w.numbers line (free_of mid) rest in
+        let parts = held_both (referred w.numbers one) (all_referred w.numbers rest) held in
         let confs = both_true (conforms first) (conform terms) conf in
-        subst (λ (last : Free). HoistsAll site free last (tests_of one + tests_of_all rest) now
-        (first_one.left ∷ others.left) (fields_of store (ThenTerm first terms))
-        (code.then_do (does tables n first_one.code now) (does tables n others.code)))
-        (behind_both (λ one others. one ∷ others) free first_one others)
-        (both_hoist site free mid (behind mid others) (tests_of one) (tests_of_all rest) now
-        first_one.left others.left (field_of store first) (fields_of store terms)
-        (does tables n first_one.code now) (does tables n others.code) (freer_behind free first_one)
-        (freer_behind mid others) (hoists site one first h i now here parts.0 confs.0 free le
+        more_hoist site (AllAt site) (AllAt site) (λ free after field fields left rest v vs. (v, vs)) one rest first terms now free
+        (hoists site one first h i now here parts.0 confs.0 free le since copied.0
         (omega (arith, space)) (temps_front tables.arrays free.temps first_one.temps others.temps temps))
         (λ after s.
         all_hoist site rest terms k i after (spared_state free now after here s)
-        (holds_on tables spots w.numbers.arrays now after s.slots (all_referred w.numbers rest) ∙ parts.1)
-        confs.1 mid (omega (arith, le)) (omega (arith, space))
-        (temps_rest tables.arrays free.temps first_one.temps others.temps temps)))
+        parts.1 confs.1 mid (omega (arith, le)) (omega (arith, since)) copied.1 (omega (arith, space))
+        (temps_rest tables.arrays free.temps first_one.temps others.temps temps))
+
+  -- ---- expressions of a statement, each at its site
+
+  pub each_hoist : {around : Bool} (sites : List Site) (slates : Slates) (terms : Terms)
+      → AreMeantAt around w spots slots sites slates terms → Every (IsSite slots) sites
+      → (now : Whole) → IsState now
+      → list_all (holds_in tables slots) (all_referred w.numbers slates) ≡ true → conform terms ≡ true
+      → (free : Unused) → next.scalars ≤ free.scalars → own.temps ≤ free.temps
+      → AllCopied tables w own free.copies slates
+      → free.scalars + (all_hoisted w.numbers line (free_of free) slates).scalars ≤ tables.scalars
+      → TempsAt tables.arrays free.temps (all_hoisted w.numbers line (free_of free) slates).temps
+      → HoistsAll (EachAt sites) free
+      (beyond free (copies_of_all slates) (all_hoisted w.numbers line (free_of free) slates))
+      (tests_of_all slates) now (all_hoisted w.numbers line (free_of free) slates).left
+      (fields_of store terms) (does tables n (all_hoisted w.numbers line (free_of free) slates).code now)
+  each_hoist _ _ _ NoneAt i now here held conf free le since copied space temps =
+      AllReach (spares_all tables spots w.numbers.arrays own free now here.sound) NoValues (omega arith)
+  each_hoist _ _ _ (MoreAt {site = site} {sites = sites} {one = one} {rest = rest} {first = first}
+      {terms = terms} h k) i now here held conf free le since copied space temps =
+      let first_one = hoisted w.numbers line (free_of free) one in
+      let mid = beyond free (copies_of one) first_one in
+      let others = all_hoisted w.numbers line (free_of mid) rest in
+      let parts = held_both (referred w.numbers one) (all_referred w.numbers rest) held in
+      let confs = both_true (conforms first) (conform terms) conf in
+      more_hoist site (EachAt sites) (EachAt (site ∷ sites)) (λ free after field fields left rest v vs. MoreValues v vs) one rest first
+      terms now free
+      (hoists site one first h i.0 now here parts.0 confs.0 free le since copied.0
+      (omega (arith, space)) (temps_front tables.arrays free.temps first_one.temps others.temps temps))
+      (λ after s.
+      each_hoist sites rest terms k i.1 after (spared_state free now after here s)
+      parts.1 confs.1 mid (omega (arith, le)) (omega (arith, since)) copied.1 (omega (arith, space))
+      (temps_rest tables.arrays free.temps first_one.temps others.temps temps))

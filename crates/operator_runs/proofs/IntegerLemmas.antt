@@ -18,8 +18,8 @@ use Rattle.row_runs.specs.Straight.{Every}
 use Rattle.lowering_runs.specs.Seen.{Spot, place_of}
 use Rattle.array_runs.specs.Integers.{AreIntegers, GivesIntegers, HasIntegers}
 use Rattle.array_runs.proofs.IntegerLemmas.{IfGives, term_integers, unit_integer}
-use Rattle.operator_runs.specs.Meant.{Site, Under, IsMeant, IsSite, AreMeant, NoneMeant, MoreMeant}
-use Rattle.operator_runs.specs.Meant.{ConstantMeant, VariableMeant, CoordinateMeant, ElementMeant}
+use Rattle.operator_runs.specs.Meant.{Site, Under, IsMeant, IsSite, AreMeantAt, NoneAt, MoreAt}
+use Rattle.operator_runs.specs.Meant.{ConstantMeant, VariableMeant, CoordinateMeant, ElementMeant, WrappedMeant}
 use Rattle.operator_runs.specs.Meant.{UnaryMeant, BinaryMeant, FoldedMeant, PartFoldedMeant, ScannedMeant, FloodedMeant, RemappedMeant}
 
 any_from : (values : List ℤ) (own : ℤ) → IsInteger own → IsInteger (fold (joined Any) own values)
@@ -35,12 +35,13 @@ any_integer is_in value ts =
 module _ (w : Where) (spots : List Spot) (slots : List Region) (store : Store)
     (scalars : (place : ℕ) → IsInteger (scalar_at store (place_of spots place)))
     (arrays : HasIntegers store) where
-  pub meant_integers : (site : Site) (one : Slate) (meant : Term)
-      → IsMeant w spots slots site one meant → IsSite slots site → AreIntegers store meant
+  pub meant_integers : {around : Bool} (site : Site) (one : Slate) (meant : Term)
+      → IsMeant around w spots slots site one meant → IsSite slots site → AreIntegers store meant
   meant_integers site _ _ (ConstantMeant is) i = is
   meant_integers site _ _ (VariableMeant {place = place}) i = scalars place
   meant_integers _ _ _ (CoordinateMeant lt) i = tt
   meant_integers _ _ _ (ElementMeant r) i = tt
+  meant_integers _ _ _ (WrappedMeant e in_numbers is ranks covers) i = tt
   meant_integers site _ _ (UnaryMeant {one = one} {operand = operand} m) i =
       meant_integers site one operand m i
   meant_integers site _ _ (BinaryMeant {one = one} {other = other} {left = left} {right = right} m k) i =
@@ -52,29 +53,29 @@ module _ (w : Where) (spots : List Spot) (slots : List Region) (store : Store)
       {operand = operand} j readable flat m) i =
       (j.is, meant_integers (Under source tuples) one operand m j)
   meant_integers _ _ _ (ScannedMeant {over = over} {region = region} {one = one} {operand = operand}
-      readable plain_mask is_along flat m) i =
+      readable is_along flat m) i =
       (i.is, meant_integers (Under over region) one operand m i)
   meant_integers _ _ _ (FloodedMeant {source = source} {tuples = tuples} {one = one}
       {operand = operand} j readable m) i =
       (j.is, meant_integers (Under source tuples) one operand m j)
   meant_integers _ _ _ (RemappedMeant in_numbers is count readable flat m) i = tt
 
-  pub field_integers : (site : Site) (one : Slate) (meant : Term)
-      → IsMeant w spots slots site one meant → IsSite slots site → IfGives (field_of store meant)
+  pub field_integers : {around : Bool} (site : Site) (one : Slate) (meant : Term)
+      → IsMeant around w spots slots site one meant → IsSite slots site → IfGives (field_of store meant)
   field_integers site one meant m i =
       term_integers store arrays meant (meant_integers site one meant m i)
 
-  -- of several
-  pub fields_integers : (site : Site) (slates : Slates) (terms : Terms)
-      → AreMeant w spots slots site slates terms → IsSite slots site
+  -- of several, each at its site
+  pub fields_integers : {around : Bool} (sites : List Site) (slates : Slates) (terms : Terms)
+      → AreMeantAt around w spots slots sites slates terms → Every (IsSite slots) sites
       → (fields : List Field) → fields_of store terms ≡ mean.Gives fields
       → Every GivesIntegers fields
-  fields_integers site _ _ NoneMeant i fields e =
+  fields_integers _ _ _ NoneAt i fields e =
       let same : [] ≡ fields = cc in subst (λ (fs : List Field). Every GivesIntegers fs) same tt
-  fields_integers site _ _ (MoreMeant {one = one} {rest = rest} {first = first} {terms = terms} h k) i
-      fields e =
-      by (field_of store first) (fields_of store terms) (field_integers site one first h i)
-      (fields_integers site rest terms k i) e
+  fields_integers _ _ _ (MoreAt {site = site} {sites = sites} {one = one} {rest = rest} {first = first}
+      {terms = terms} h k) i fields e =
+      by (field_of store first) (fields_of store terms) (field_integers site one first h i.0)
+      (fields_integers sites rest terms k i.1) e
     where
       by : (c : mean.Computed Field) (d : mean.Computed (List Field)) → IfGives c
           → ((others : List Field) → d ≡ mean.Gives others → Every GivesIntegers others)

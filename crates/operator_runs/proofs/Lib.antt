@@ -3,11 +3,17 @@ pub mod FoldLemmas
 pub mod SpareLemmas
 pub mod StateLemmas
 pub mod StandLemmas
+pub mod CurrentLemmas
 pub mod MeantLemmas
 pub mod IntegerLemmas
 pub mod HoistLemmas
+pub mod ReadLemmas
+pub mod SourceLemmas
 pub mod SettleLemmas
-pub mod StillLemmas
+pub mod NodeLemmas
+pub mod CopyLemmas
+pub mod OwnLemmas
+pub mod SlotLemmas
 pub mod PhaseLemmas
 pub mod LikeLemmas
 pub mod ScalarLemmas
@@ -20,7 +26,16 @@ pub mod TempLemmas
 pub mod PutsLemmas
 pub mod OutsideLemmas
 pub mod RemapHoistLemmas
+pub mod ScanHoistLemmas
 pub mod WrapLemmas
 pub mod WrapCopyLemmas
+pub mod WrapCountLemmas
+pub mod WrapLimitLemmas
+pub mod WrapPlaceLemmas
+pub mod WrapReadLemmas
+pub mod WrapRowLemmas
+pub mod WrapHoistLemmas
 pub mod TestLemmas
+pub mod ValueLemmas
+pub mod ReturnLemmas
 mod Examples

@@ -1,7 +1,7 @@
 -- What a slate asks before its operators are computed is what its term asks: whether regions
 -- conform, and whether references lie in storages.
 use Rattle.zpl_meaning.specs.Context.{Mask}
-use Rattle.std.proofs.Common.{◌≡◌, refl, ◌∙◌, ap, ℕ, Bool, true, false, ◌&&◌}
+use Rattle.std.proofs.Common.{◌≡◌, refl, ◌∙◌, ap, ℕ, ◌+◌, ◌∷◌, Bool, true, false, ◌&&◌}
 use Rattle.std.proofs.Common.{List, [], ◌++◌, ℤ, Option, Some, None, append_assoc}
 use Rattle.std.specs.Prelude.{slice_get}
 use Rattle.std.specs.List.{list_all}
@@ -37,7 +37,7 @@ use Rattle.flat_form.specs.Whole.{registers_of}
 use Rattle.lowering_runs.proofs.RowLemmas.{settled_act}
 use Rattle.lowering_runs.specs.Run.{decide, step, straight}
 use Rattle.lowering_runs.specs.Seen.{Spot, seen_store}
-use Rattle.lowering_runs.specs.Stands.{AreStored, IsCurrent, IsSound}
+use Rattle.lowering_runs.specs.Stands.{AreStored, IsSound}
 use Rattle.array_runs.specs.Gates.{IsThere, holds}
 use Rattle.array_runs.specs.Elementwise.{IsReadable, IsReadableMask}
 use Rattle.array_runs.proofs.StoredLemmas.{found_array}
@@ -45,29 +45,26 @@ use Rattle.array_runs.proofs.PartLemmas.{IsPart, all_append}
 use Rattle.array_runs.proofs.ElementLemmas.{element_part}
 use Rattle.array_runs.proofs.MaskLemmas.{IsMasking, masking}
 use Rattle.operator_runs.specs.Meant.{Site, Under, InSlot, IsSite, IsMeant, AreMeant}
-use Rattle.operator_runs.specs.Meant.{ConstantMeant, VariableMeant, CoordinateMeant, ElementMeant}
-use Rattle.operator_runs.specs.Meant.{UnaryMeant, BinaryMeant, FoldedMeant, PartFoldedMeant, ScannedMeant, FloodedMeant, RemappedMeant, NoneMeant, MoreMeant}
+use Rattle.operator_runs.specs.Meant.{ConstantMeant, VariableMeant, CoordinateMeant, ElementMeant, WrappedMeant}
+use Rattle.operator_runs.specs.Meant.{UnaryMeant, BinaryMeant, FoldedMeant, PartFoldedMeant, ScannedMeant, FloodedMeant, RemappedMeant, NoneMeant, MoreMeant, AreMeantAt, NoneAt, MoreAt}
 use Rattle.operator_runs.specs.Guards.{guard}
-
--- a slot with a region has it as the current one
-abbrev pub current_in : (slots : List Region) (over : Slotted) (region : Region) → InSlot slots over region
-    → IsCurrent slots region.rank over
-current_in slots over region h = record {
-  region = region;
-  found = h.found;
-  is = h.is;
-  three = h.three;
-  ranked = refl;
-  flood = h.flood;
-}
+use Rattle.zpl_arrays.specs.Around.{copy_shift}
+use Rattle.zpl_arrays.specs.Reference.{lies_in}
+use Rattle.zpl_lowering.specs.Reference.{at_place}
+use Rattle.array_runs.specs.Reads.{EachCovers}
+use Rattle.operator_runs.specs.Meant.{IsAround}
+use Rattle.operator_runs.specs.Hoists.{Own, copies_of}
+use Rattle.operator_runs.specs.Copies.{AllCopied, AreCopied, IsCopy}
+use Rattle.operator_runs.proofs.CurrentLemmas.{current_in}
+use Rattle.operator_runs.proofs.WrapReadLemmas.{both_hold, both_there, copy_matching}
 
 module _ (tables : Tables) (spots : List Spot) (w : Where) (line : ℕ)
     (all : AreStored tables w.numbers.arrays) (now : Whole) (sound : IsSound tables now) where
   abbrev seen : Store
   seen = seen_store spots w.numbers.arrays now
 
-  abbrev Meant : Site → Slate → Term → Type 0
-  Meant = IsMeant w spots now.slots
+  abbrev Meant : Bool → Site → Slate → Term → Type 0
+  Meant around = IsMeant around w spots now.slots
 
   -- a read, as a part
   pub element_at : (over : Slotted) (region : Region) (h : InSlot now.slots over region)
@@ -129,23 +126,44 @@ module _ (tables : Tables) (spots : List Spot) (w : Where) (line : ℕ)
         ∙ ap (λ c. a && c) k.gate;
   }
 
+  -- a read that wraps round
+  wrapped_referred : (own : Own) (number : ℕ) (over : Slotted) (region : Region)
+      → InSlot now.slots over region → (home : Region) (d : List ℤ) (copy first : ℕ) (stored : Stored)
+      → IsAround home d stored → region.rank ≡ home.rank → EachCovers home.dims region.dims
+      → IsCopy tables w own number home (copy_shift home d) copy first
+      → AreReferred (at_place over.slot copy
+      ∷ record { slot = over.slot; array = copy; shift = copy_shift home d } ∷ [])
+      (lies_in region home)
+  wrapped_referred own number over region s home d copy first stored a ranks covers c = record {
+    there = both_there tables w line home d a.is a.three a.boxed a.long a.level
+        (copy_matching home d a.long a.three) copy c.stored now sound over region s ranks covers;
+    gate = both_hold tables w line home d a.is a.three a.boxed a.long a.level
+        (copy_matching home d a.long a.three) copy c.stored now sound over region s ranks covers;
+  }
+
   mutual
-    pub is_referred : (site : Site) (one : Slate) (meant : Term) → Meant site one meant
-        → IsSite now.slots site → AreReferred (referred w.numbers one) (refers seen meant)
-    is_referred site _ _ (ConstantMeant is) s = none_referred
-    is_referred site _ _ VariableMeant s = none_referred
-    is_referred _ _ _ (CoordinateMeant lt) s = none_referred
-    is_referred _ _ _ (ElementMeant {over = over} {region = region} {place = place} {shift = shift} r) s =
+    pub is_referred : {around : Bool} (site : Site) (one : Slate) (meant : Term)
+        → Meant around site one meant
+        → IsSite now.slots site → (own : Own) (number : ℕ) → AreCopied tables w own number one
+        → AreReferred (referred w.numbers one) (refers seen meant)
+    is_referred site _ _ (ConstantMeant is) s own number c = none_referred
+    is_referred site _ _ VariableMeant s own number c = none_referred
+    is_referred _ _ _ (CoordinateMeant lt) s own number c = none_referred
+    is_referred _ _ _ (ElementMeant {over = over} {region = region} {place = place} {shift = shift} r) s own number c =
         let p = element_at over region s place shift r in
         record { there = p.1.there; gate = p.1.gate }
-    is_referred site _ _ (UnaryMeant {one = one} {operand = operand} h) s =
-        let r = is_referred site one operand h s in record { there = r.there; gate = r.gate }
-    is_referred site _ _ (BinaryMeant {one = one} {other = other} {left = left} {right = right} h k) s =
+    is_referred _ _ _ (WrappedMeant {over = over} {region = region} {home = home} {d = d} {copy = copy}
+        {first = first} {stored = stored} e in_numbers is ranks covers) s own number c =
+        wrapped_referred own number over region s home d copy first stored is ranks covers c
+    is_referred site _ _ (UnaryMeant {one = one} {operand = operand} h) s own number c =
+        let r = is_referred site one operand h s own number c in record { there = r.there; gate = r.gate }
+    is_referred site _ _ (BinaryMeant {one = one} {other = other} {left = left} {right = right} h k) s own number c =
         both_referred (referred w.numbers one) (referred w.numbers other) (refers seen left)
-        (refers seen right) (is_referred site one left h s) (is_referred site other right k s)
+        (refers seen right) (is_referred site one left h s own number c.0)
+        (is_referred site other right k s own (number + copies_of one) c.1)
     is_referred site _ _ (FoldedMeant {over = over} {region = region} {one = one} {operand = operand}
-        i readable flat h) s =
-        let r = is_referred (Under over region) one operand h i in
+        i readable flat h) s own number c =
+        let r = is_referred (Under over region) one operand h i own number c in
         let m = mask_at over region i readable in
         let b = both_referred (referred w.numbers one) (over_reference w.numbers over)
         (refers seen operand) (has_mask_within seen (record { region = region; mask = over.mask })) r
@@ -156,22 +174,22 @@ module _ (tables : Tables) (spots : List Spot) (w : Where) (line : ℕ)
               (has_mask_within seen (record { region = region; mask = over.mask }));
         }
     is_referred _ _ _ (PartFoldedMeant {over = over} {source = source} {region = region}
-        {tuples = tuples} {one = one} {operand = operand} i readable no_floods h) s =
-        let r = is_referred (Under source tuples) one operand h i in
+        {tuples = tuples} {one = one} {operand = operand} i readable no_floods h) s own number c =
+        let r = is_referred (Under source tuples) one operand h i own number c in
         let m = mask_at over region s readable in
         both_referred (over_reference w.numbers over) (referred w.numbers one)
         (has_mask_within seen (record { region = region; mask = over.mask })) (refers seen operand)
         (record { there = m.there; gate = m.gate }) r
     is_referred _ _ _ (FloodedMeant {over = over} {source = source} {region = region}
-        {tuples = tuples} {one = one} {operand = operand} i readable h) s =
-        let r = is_referred (Under source tuples) one operand h i in
+        {tuples = tuples} {one = one} {operand = operand} i readable h) s own number c =
+        let r = is_referred (Under source tuples) one operand h i own number c in
         let m = mask_at over region s readable in
         both_referred (over_reference w.numbers over) (referred w.numbers one)
         (has_mask_within seen (record { region = region; mask = over.mask })) (refers seen operand)
         (record { there = m.there; gate = m.gate }) r
     is_referred _ _ _ (ScannedMeant {over = over} {region = region} {one = one} {operand = operand}
-        readable plain_mask is_along no_floods h) s =
-        let r = is_referred (Under over region) one operand h s in
+        readable is_along no_floods h) s own number c =
+        let r = is_referred (Under over region) one operand h s own number c in
         let m = mask_at over region s readable in
         let b = both_referred (referred w.numbers one) (over_reference w.numbers over)
         (refers seen operand) (has_mask_within seen (record { region = region; mask = over.mask })) r
@@ -182,19 +200,33 @@ module _ (tables : Tables) (spots : List Spot) (w : Where) (line : ℕ)
               (has_mask_within seen (record { region = region; mask = over.mask }));
         }
     is_referred _ _ _ (RemappedMeant {over = over} {region = region} {indices = indices} {terms = terms}
-        in_numbers is count readable no_floods h) s =
+        in_numbers is count readable no_floods h) s own number c =
         let m = mask_at over region s readable in
         both_referred (over_reference w.numbers over) (all_referred w.numbers indices)
         (has_mask_within seen (record { region = region; mask = over.mask })) (refer seen terms)
-        (record { there = m.there; gate = m.gate }) (are_referred (Under over region) indices terms h s)
+        (record { there = m.there; gate = m.gate }) (are_referred (Under over region) indices terms h s own number c)
 
-    pub are_referred : (site : Site) (slates : Slates) (terms : Terms)
-        → AreMeant w spots now.slots site slates terms → IsSite now.slots site
+    pub are_referred : {around : Bool} (site : Site) (slates : Slates) (terms : Terms)
+        → AreMeant around w spots now.slots site slates terms → IsSite now.slots site → (own : Own)
+        (number : ℕ) → AllCopied tables w own number slates
         → AreReferred (all_referred w.numbers slates) (refer seen terms)
-    are_referred site _ _ NoneMeant s = none_referred
-    are_referred site _ _ (MoreMeant {one = one} {rest = rest} {first = first} {terms = terms} h k) s =
+    are_referred site _ _ NoneMeant s own number c = none_referred
+    are_referred site _ _ (MoreMeant {one = one} {rest = rest} {first = first} {terms = terms} h k) s own number c =
         both_referred (referred w.numbers one) (all_referred w.numbers rest) (refers seen first)
-        (refer seen terms) (is_referred site one first h s) (are_referred site rest terms k s)
+        (refer seen terms) (is_referred site one first h s own number c.0)
+        (are_referred site rest terms k s own (number + copies_of one) c.1)
+
+  -- each at its site
+  pub each_referred : {around : Bool} (sites : List Site) (slates : Slates) (terms : Terms)
+      → AreMeantAt around w spots now.slots sites slates terms → Every (IsSite now.slots) sites
+      → (own : Own) (number : ℕ) → AllCopied tables w own number slates
+      → AreReferred (all_referred w.numbers slates) (refer seen terms)
+  each_referred _ _ _ NoneAt s own number c = none_referred
+  each_referred _ _ _ (MoreAt {site = site} {sites = sites} {one = one} {rest = rest} {first = first}
+      {terms = terms} h k) s own number c =
+      both_referred (referred w.numbers one) (all_referred w.numbers rest) (refers seen first)
+      (refer seen terms) (is_referred site one first h s.0 own number c.0)
+      (each_referred sites rest terms k s.1 own (number + copies_of one) c.1)
 
   -- ---- conformity
 
@@ -249,12 +281,14 @@ module _ (tables : Tables) (spots : List Spot) (w : Where) (line : ℕ)
         ∙ checked_does (control.conforms kind region tuples)
 
     mutual
-      pub conformed : (site : Site) (one : Slate) (meant : Term) → Meant site one meant
+      pub conformed : {around : Bool} (site : Site) (one : Slate) (meant : Term)
+          → Meant around site one meant
           → IsSite now.slots site → Conform (conforming line one) (conforms meant)
       conformed site _ _ (ConstantMeant is) there rest = refl
       conformed site _ _ VariableMeant there rest = refl
       conformed _ _ _ (CoordinateMeant lt) there rest = refl
       conformed _ _ _ (ElementMeant r) there rest = refl
+      conformed _ _ _ (WrappedMeant e in_numbers is ranks covers) there rest = refl
       conformed site _ _ (UnaryMeant {one = one} {operand = operand} h) there rest =
           conformed site one operand h there rest
       conformed site _ _ (BinaryMeant {one = one} {other = other} {left = left} {right = right} h k)
@@ -265,7 +299,7 @@ module _ (tables : Tables) (spots : List Spot) (w : Where) (line : ℕ)
           i readable flat h) there rest =
           conformed (Under over region) one operand h i rest
       conformed _ _ _ (ScannedMeant {over = over} {region = region} {one = one} {operand = operand}
-          readable plain_mask is_along no_floods h) there rest =
+          readable is_along no_floods h) there rest =
           conformed (Under over region) one operand h there rest
       conformed _ _ _ (PartFoldedMeant {over = over} {source = source} {region = region}
           {tuples = tuples} {one = one} {operand = operand} i readable no_floods h) there rest =
@@ -287,11 +321,20 @@ module _ (tables : Tables) (spots : List Spot) (w : Where) (line : ℕ)
           in_numbers is count readable no_floods h) there rest =
           all_conformed (Under over region) indices terms h there rest
 
-      pub all_conformed : (site : Site) (slates : Slates) (terms : Terms)
-          → AreMeant w spots now.slots site slates terms → IsSite now.slots site
+      pub all_conformed : {around : Bool} (site : Site) (slates : Slates) (terms : Terms)
+          → AreMeant around w spots now.slots site slates terms → IsSite now.slots site
           → Conform (all_conforming line slates) (conform terms)
       all_conformed site _ _ NoneMeant there rest = refl
       all_conformed site _ _ (MoreMeant {one = one} {rest = more} {first = first} {terms = terms} h k)
           there rest =
           both_conform (conforming line one) (all_conforming line more) (conforms first) (conform terms)
           (conformed site one first h there) (all_conformed site more terms k there) rest
+
+    pub each_conformed : {around : Bool} (sites : List Site) (slates : Slates) (terms : Terms)
+        → AreMeantAt around w spots now.slots sites slates terms → Every (IsSite now.slots) sites
+        → Conform (all_conforming line slates) (conform terms)
+    each_conformed _ _ _ NoneAt there rest = refl
+    each_conformed _ _ _ (MoreAt {site = site} {sites = sites} {one = one} {rest = more} {first = first}
+        {terms = terms} h k) there rest =
+        both_conform (conforming line one) (all_conforming line more) (conforms first) (conform terms)
+        (conformed site one first h there.0) (each_conformed sites more terms k there.1) rest

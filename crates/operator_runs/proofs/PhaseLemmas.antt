@@ -1,9 +1,9 @@
--- The phases of a statement: its checks and the rows of its operators, and the fields that they
--- come to.
-use Rattle.zpl_lowering.specs.Lowered.{Lowered, both}
-use Rattle.lowering_runs.proofs.FitLemmas.{room_first}
+-- The phases of a statement: the rows of its brackets, its checks, the rows of its operators, and the
+-- fields that they come to.
 use Rattle.std.proofs.Common.{◌≡◌, refl, sym, ◌∙◌, ap, subst, arith, ℕ, ◌+◌, ◌≤◌, Bool, true, false, ◌&&◌}
-use Rattle.std.proofs.Common.{List, [], ◌++◌, map, Option, append-nil, ◌∷◌}
+use Rattle.std.proofs.Common.{List, [], ◌++◌, length, map, append-nil}
+use Rattle.std.specs.Prelude.{slice_get}
+use Rattle.zpl_region.specs.declared.regions.Region.{Region}
 use Rattle.std.specs.List.{list_all}
 use Rattle.zpl_nums.specs.declared.ends.TrapKind.TheVariants.{OutsideStorage, RegionMismatch}
 use Rattle.zpl_meaning.specs.Computed as mean
@@ -14,34 +14,43 @@ use Rattle.zpl_meaning.specs.Term.{Terms}
 use Rattle.zpl_meaning.specs.Checks.{conform, refer}
 use Rattle.zpl_meaning.specs.Fields.{Field, fields_of}
 use Rattle.zpl_meaning.specs.Phases.{fields_in}
+use Rattle.zpl_meaning.specs.Settled as phase
 use Rattle.node_form.specs.declared.tables.Tables.{Tables}
 use Rattle.node_form.specs.Expression.{Expression}
-use Rattle.row_runs.specs.Straight.{Every}
 use Rattle.row_runs.specs.Structured as code
 use Rattle.row_runs.specs.Structured.{Course, rows_do}
 use Rattle.flat_form.specs.Row.{Row}
 use Rattle.flat_form.specs.Whole.{Whole}
-use Rattle.zpl_lowering.specs.Where.{Slotted, Where, Next}
-use Rattle.zpl_lowering.specs.Slate as slate
+use Rattle.zpl_lowering.specs.Where.{Where, Next}
 use Rattle.zpl_lowering.specs.Slate.{Placed, Settled, Slates, settled_each}
 use Rattle.zpl_lowering.specs.Reference.{Reference, all_conforming, all_referred, needs}
-use Rattle.zpl_lowering.specs.Hoist.{Free, Hoisted, all_hoisted, behind}
-use Rattle.zpl_lowering.specs.Lowered.{free_at, phases_of}
+use Rattle.zpl_lowering.specs.Hoist.{Hoisted, all_hoisted}
+use Rattle.zpl_lowering.specs.Lowered.{Lowered, both, phased_with, phases_of}
 use Rattle.lowering_runs.specs.Run.{decide, does, step}
 use Rattle.lowering_runs.specs.Seen.{Spot, Sight, seen_place, seen_store}
-use Rattle.lowering_runs.specs.Stands.{HasRoom, IsHeld, IsSound, Stands, TempsAt}
+use Rattle.lowering_runs.specs.Stands.{HasRoom, IsHeld, IsSound, Misses, RowsAt, Stands, TempsAt}
+use Rattle.lowering_runs.proofs.FitLemmas.{room_first}
+use Rattle.lowering_runs.proofs.PrintLemmas.{rows_append}
 use Rattle.array_runs.specs.Gates.{holds, gate}
+use Rattle.array_runs.specs.Integers.{GivesIntegers}
 use Rattle.array_runs.proofs.GateLemmas.{needs_gate}
 use Rattle.array_runs.proofs.PartLemmas.{both_true}
-use Rattle.operator_runs.specs.Meant.{Site, IsSite}
-use Rattle.operator_runs.specs.Hoists.{HoistAll, OneStumbles, tests_of_all}
+use Rattle.row_runs.specs.Straight.{Every}
+use Rattle.prefix_runs.specs.Filled.{IsFilled}
+use Rattle.operator_runs.specs.Meant.{Site, AreMeantAt, IsSite}
+use Rattle.operator_runs.specs.Hoists.{HaveValuesAt, HoistAll, AllReach, OneStumbles, Own, Unused, beyond, copies_of_all, free_of, own_at, tests_of_all, unused_at}
 use Rattle.operator_runs.specs.Guards.{guard}
-use Rattle.operator_runs.proofs.MeantLemmas.{AreReferred, all_conformed, are_referred, both_referred}
-use Rattle.operator_runs.proofs.StillLemmas.{AllOperated, each_still}
-use Rattle.operator_runs.proofs.HoistLemmas.{all_hoist, arrays_here, scalars_here}
-use Rattle.array_runs.specs.Integers.{GivesIntegers}
+use Rattle.operator_runs.specs.Settles.{Settles, SettlesTo, Unsettled}
+use Rattle.operator_runs.specs.Phases.{AreOwn, AreTakenBy, IsTakenSite, KeepsTaken, Phases, PassTo, OneTraps}
+use Rattle.operator_runs.proofs.MeantLemmas.{AreReferred, each_conformed, each_referred, both_referred}
+use Rattle.operator_runs.proofs.StateLemmas.{AreApart, HasState, holds_in}
+use Rattle.operator_runs.proofs.HoistLemmas.{each_hoist, arrays_here, scalars_here}
 use Rattle.operator_runs.proofs.IntegerLemmas.{fields_integers}
-use Rattle.operator_runs.proofs.SettleLemmas.{AreOperated, AreSettled, are_settled, placed_of}
+use Rattle.operator_runs.proofs.LikeLemmas.{holding_taken, sites_taken, taken_filled, taken_spared, taken_then, there_taken}
+use Rattle.operator_runs.proofs.CopyLemmas.{each_copied}
+use Rattle.operator_runs.proofs.SettleLemmas.{AreOperated, AreOperatedWith, placed_of, settles}
+use Rattle.operator_runs.proofs.OwnLemmas.{each_held_same, each_meant_same, own_copies, own_free, own_of, sites_missed, sites_same, take_none, without_apart, without_own, without_same}
+use Rattle.operator_runs.specs.Copies.{AllCopied, AllTakeOthers, IsMissedSite}
 
 -- room for a statement is room for its phases
 pub room_phases : (tables : Tables) (next : Next) (one other : Lowered)
@@ -49,16 +58,38 @@ pub room_phases : (tables : Tables) (next : Next) (one other : Lowered)
 room_phases tables next one other h =
     room_first tables next (code.Then one.code other.code) one other h
 
+-- where there are fields, the statement's own references hold
+pub own_held : (place : Place) (store : Store) (own last : Bool) (exprs : List phase.Placed)
+    (fields : List Field) → fields_in place store (own && last) exprs ≡ mean.Gives fields
+    → (own ≡ true) × (last ≡ true)
+own_held place store own last exprs fields = by (phase.settled_each place store exprs)
+  where
+    held : (terms : Terms) (conforms goes : Bool) → provided conforms RegionMismatch (λ _.
+        provided goes OutsideStorage (λ _. fields_of store terms)) ≡ mean.Gives fields → goes ≡ true
+    held terms true true e = refl
+    held terms true false e = absurd (let no : ⊥ = cc in no)
+    held terms false goes e = absurd (let no : ⊥ = cc in no)
+
+    by : (c : mean.Computed Terms) → computed_then c (λ terms.
+        provided (conform terms) RegionMismatch (λ _.
+        provided ((own && last) && refer store terms) OutsideStorage (λ _.
+        fields_of store terms))) ≡ mean.Gives fields → (own ≡ true) × (last ≡ true)
+    by (mean.Traps kind) e = absurd (let no : ⊥ = cc in no)
+    by (mean.Gives terms) e =
+        both_true own last
+        (both_true (own && last) (refer store terms)
+        (held terms (conform terms) ((own && last) && refer store terms) e)).0
+
 module _ (tables : Tables) (n : ℕ) (sight : Sight) (w : Where) (line : ℕ) (next : Next) (now : Whole)
     (stands : Stands sight.spots w next) (room : next.scalars ≤ tables.scalars)
     (sound : IsSound tables now)
-    (held : IsHeld tables w.setup.known w.numbers.arrays w.currents now.slots) (site : Site)
-    (under : Option Slotted) (there : IsSite now.slots site) (exprs : List Placed)
-    (operated : AreOperated tables sight w line next now stands held site under exprs)
+    (held : IsHeld tables w.setup.known w.numbers.arrays w.currents now.slots) (sites : List Site)
+    (are_sites : Every (IsSite now.slots) sites) (before : Every (IsTakenSite next.slots) sites)
     (own : List Reference) (own_is : Bool)
     (owned : AreReferred tables sight.spots w line held.stored now sound own own_is)
-    (last : List Reference) (last_is : Bool)
-    (lasting : AreReferred tables sight.spots w line held.stored now sound last last_is) where
+    (own_before : AreTakenBy next.slots own) (last : List Reference) (last_is : Bool)
+    (lasting : AreReferred tables sight.spots w line held.stored now sound last last_is)
+    (last_before : AreTakenBy next.slots last) where
   abbrev spots : List Spot
   spots = sight.spots
 
@@ -68,186 +99,264 @@ module _ (tables : Tables) (n : ℕ) (sight : Sight) (w : Where) (line : ℕ) (n
   abbrev store : Store
   store = seen_store spots w.numbers.arrays now
 
-  abbrev pub settled : AreSettled tables sight w line next now stands held site exprs
-  settled = are_settled tables sight w line next now stands held site under exprs operated
+  abbrev free : Unused
+  free = unused_at next
 
-  abbrev free : Free
-  free = free_at next 0
-
-  -- what the operators become, and the free numbers behind them
-  abbrev pub hoisted_all : Hoisted (List Expression)
-  hoisted_all = all_hoisted w.numbers line free settled.slates
-
-  abbrev Hoist : ℕ → List Expression → mean.Computed (List Field) → Course Whole → Type 0
-  Hoist most = HoistAll tables spots w.numbers.arrays site free (behind free hoisted_all) line most now
+  -- it has no slots of its own
+  abbrev alone : Own
+  alone = own_at next
 
   abbrev rows : List Row → Whole → Course Whole
   rows = rows_do (step tables n) (decide tables n)
 
-  -- ---- the references
+  -- what the meaning computes of terms
+  abbrev fields_by : Terms → mean.Computed (List Field)
+  fields_by terms =
+      provided (conform terms) RegionMismatch (λ _.
+      provided ((own_is && last_is) && refer store terms) OutsideStorage (λ _. fields_of store terms))
 
-  abbrev refs : List Reference
-  refs = own ++ (all_referred w.numbers settled.slates ++ last)
+  module _ (slates : Slates) where
+    -- what the operators become, and the free numbers behind them
+    abbrev hoisted_all : Hoisted (List Expression)
+    hoisted_all = all_hoisted w.numbers line (free_of free) slates
 
-  abbrev goes : Bool
-  goes = (own_is && last_is) && refer store settled.terms
+    abbrev last_free : Unused
+    last_free = beyond free (copies_of_all slates) hoisted_all
 
-  middle : AreReferred tables spots w line held.stored now sound
-      (all_referred w.numbers settled.slates) (refer store settled.terms)
-  middle =
-      are_referred tables spots w line held.stored now sound site settled.slates settled.terms
-      settled.are there
+    abbrev others : Whole → Course Whole
+    others = does tables n hoisted_all.code
 
-  gates : AreReferred tables spots w line held.stored now sound refs
-      (own_is && (refer store settled.terms && last_is))
-  gates =
-      both_referred tables spots w line held.stored now sound own
-      (all_referred w.numbers settled.slates ++ last) own_is
-      (refer store settled.terms && last_is) owned
-      (both_referred tables spots w line held.stored now sound
-      (all_referred w.numbers settled.slates) last (refer store settled.terms) last_is middle lasting)
+    abbrev refs : List Reference
+    refs = own ++ (all_referred w.numbers slates ++ last)
 
-  three_same : (a b c : Bool) → (a && (b && c)) ≡ ((a && c) && b)
-  three_same true true true = refl
-  three_same true true false = refl
-  three_same true false true = refl
-  three_same true false false = refl
-  three_same false b c = refl
+    abbrev checks : List Row
+    checks = all_conforming line slates ++ needs line refs
 
-  refs_are : list_all (holds tables now) refs ≡ goes
-  refs_are = gates.gate ∙ three_same own_is (refer store settled.terms) last_is
+    abbrev Pass : mean.Computed (List Field) → Course Whole → Type 0
+    Pass =
+        Phases tables spots w.numbers.arrays sites next last_free line (tests_of_all slates) now
+        hoisted_all.left
 
-  slates_held : goes ≡ true
-      → list_all (holds tables now) (all_referred w.numbers settled.slates) ≡ true
-  slates_held e =
-      middle.gate ∙ (both_true (own_is && last_is) (refer store settled.terms) e).1
+    -- ---- behind the brackets
 
-  -- ---- the checks
+    module _ (around : Bool) (mine : Own) (mine_free : AreOwn next.slots mine)
+        (since : mine.temps ≤ next.temps) (there : Whole) (filled : IsFilled next.slots now there)
+        (terms : Terms) (are : AreMeantAt around w spots there.slots sites slates terms)
+        (copied : AllCopied tables w mine next.copies slates)
+        (take : AllTakeOthers mine.slots slates)
+        (space : next.scalars + 0 + hoisted_all.scalars ≤ tables.scalars)
+        (temps : TempsAt tables.arrays next.temps hoisted_all.temps) where
+      taken : KeepsTaken tables spots w.numbers.arrays next now there
+      taken = taken_filled tables spots w.numbers.arrays next now there sound filled
 
-  abbrev checks : List Row
-  checks = all_conforming line settled.slates ++ needs line refs
+      sites_there : Every (IsSite there.slots) sites
+      sites_there =
+          sites_taken tables spots w.numbers.arrays next now there filled.below sites before are_sites
 
-  checks_do : rows checks now
-      ≡ guard RegionMismatch (conform settled.terms) line now (gate goes line now (code.goes_on now))
-  checks_do =
-      all_conformed tables spots w line held.stored now sound n site settled.slates settled.terms
-      settled.are there (needs line refs)
-      ∙ ap (guard RegionMismatch (conform settled.terms) line now)
-      (ap (λ rs. rows rs now) (sym (append-nil (needs line refs)))
-      ∙ needs_gate tables n now sound.settled line refs [] gates.there
-      ∙ ap (λ b. gate b line now (code.goes_on now)) refs_are)
+      abbrev Referred : List Reference → Bool → Type 0
+      Referred = AreReferred tables spots w line held.stored there taken.sound
 
-  -- ---- both
+      -- the statement's own references are the same
+      again : (given : List Reference) (is : Bool) → AreTakenBy next.slots given
+          → AreReferred tables spots w line held.stored now sound given is → Referred given is
+      again given is lt h = record {
+        there = there_taken tables spots w.numbers.arrays next now there filled.below given lt h.there;
+        gate = holding_taken tables spots w.numbers.arrays next now there filled.below given lt
+            ∙ h.gate;
+      }
 
-  abbrev others : Whole → Course Whole
-  others = does tables n hoisted_all.code
+      middle : Referred (all_referred w.numbers slates) (refer store terms)
+      middle =
+          subst (λ (s : Store). Referred (all_referred w.numbers slates) (refer s terms)) taken.seen
+          (each_referred tables spots w line held.stored there taken.sound sites slates terms are
+          sites_there mine next.copies copied)
 
-  by : (conforms holding : Bool) → conform settled.terms ≡ conforms → goes ≡ holding
-      → next.scalars + 0 + hoisted_all.scalars ≤ tables.scalars
-      → TempsAt tables.arrays next.temps hoisted_all.temps
-      → Hoist (tests_of_all settled.slates) hoisted_all.left
-      (provided conforms RegionMismatch (λ _. provided holding OutsideStorage (λ _.
-      fields_of store settled.terms)))
-      (code.then_do (guard RegionMismatch conforms line now (gate holding line now
-      (code.goes_on now))) others)
-  by true true f e space temps =
-      all_hoist tables n spots w line next stands room held.stored now.slots store site settled.slates
-      settled.terms settled.are there now
-      (record { sound = sound; slots_are = refl; seen_is = refl }) (slates_held e) f free
-      (omega arith) space temps
-  by true false f e space temps = OneStumbles (omega arith)
-  by false holding f e space temps = OneStumbles (omega arith)
+      gates : Referred refs (own_is && (refer store terms && last_is))
+      gates =
+          both_referred tables spots w line held.stored there taken.sound own
+          (all_referred w.numbers slates ++ last) own_is (refer store terms && last_is)
+          (again own own_is own_before owned)
+          (both_referred tables spots w line held.stored there taken.sound
+          (all_referred w.numbers slates) last (refer store terms) last_is middle
+          (again last last_is last_before lasting))
 
-  abbrev Phases : ℕ → Settled Slates → Type 0
-  Phases most it =
-      let phases = phases_of line own (all_referred w.numbers it.slate ++ last) it
-      (all_hoisted w.numbers line free it.slate) in
+      three_same : (a b c : Bool) → (a && (b && c)) ≡ ((a && c) && b)
+      three_same true true true = refl
+      three_same true true false = refl
+      three_same true false true = refl
+      three_same true false false = refl
+      three_same false b c = refl
+
+      abbrev goes : Bool
+      goes = (own_is && last_is) && refer store terms
+
+      refs_are : list_all (holds tables there) refs ≡ goes
+      refs_are = gates.gate ∙ three_same own_is (refer store terms) last_is
+
+      slates_held : goes ≡ true
+          → list_all (holds tables there) (all_referred w.numbers slates) ≡ true
+      slates_held e = middle.gate ∙ (both_true (own_is && last_is) (refer store terms) e).1
+
+      checks_do : rows checks there
+          ≡ guard RegionMismatch (conform terms) line there (gate goes line there (code.goes_on there))
+      checks_do =
+          each_conformed tables spots w line held.stored there taken.sound n sites slates terms are
+          sites_there (needs line refs)
+          ∙ ap (guard RegionMismatch (conform terms) line there)
+          (ap (λ rs. rows rs there) (sym (append-nil (needs line refs)))
+          ∙ needs_gate tables n there taken.sound.settled line refs [] gates.there
+          ∙ ap (λ b. gate b line there (code.goes_on there)) refs_are)
+
+      -- but for the statement's own slots
+      abbrev slots : List Region
+      slots = without_own mine.slots there.slots
+
+      same : (k : ℕ) → Misses mine.slots k → slice_get slots k ≡ slice_get there.slots k
+      same k m = without_same mine.slots there.slots k m
+
+      missed : Every (IsMissedSite mine.slots) sites
+      missed = sites_missed next.slots mine mine_free sites before
+
+      apart : AreApart mine slots
+      apart over region i = without_apart mine.slots there.slots over region i
+
+      here : HasState tables spots w.numbers.arrays mine slots apart store there
+      here = record {
+        sound = taken.sound;
+        slots_are = λ k misses. sym (same k misses);
+        seen_is = taken.seen;
+      }
+
+      are_same : AreMeantAt around w spots slots sites slates terms
+      are_same = each_meant_same w spots mine.slots there.slots slots same sites slates terms are take
+
+      sites_are_same : Every (IsSite slots) sites
+      sites_are_same = sites_same tables mine.slots there.slots slots same sites sites_there missed
+
+      held_same : goes ≡ true
+          → list_all (holds_in tables slots) (all_referred w.numbers slates) ≡ true
+      held_same e =
+          each_held_same tables mine.slots there.slots slots same w spots sites slates terms are missed
+          take
+          ∙ slates_held e
+
+      integers : (fields : List Field) → fields_of store terms ≡ mean.Gives fields
+          → Every GivesIntegers fields
+      integers fields given =
+          fields_integers w spots slots store
+          (scalars_here tables n spots w line next stands room held.stored mine slots apart store there
+          here)
+          (arrays_here tables n spots w line next stands room held.stored mine slots apart store there
+          here)
+          sites slates terms are_same sites_are_same fields given
+
+      passes : (c : mean.Computed (List Field)) (course : Course Whole)
+          → ((fields : List Field) → c ≡ mean.Gives fields → Every GivesIntegers fields)
+          → HoistAll tables spots w.numbers.arrays mine
+          (HaveValuesAt tables spots w.numbers.arrays mine sites) free last_free line (tests_of_all slates) there hoisted_all.left c course
+          → Pass c course
+      passes c course whole (OneStumbles few) = OneTraps few
+      passes c course whole (AllReach {after = after} {fields = fields} s h few) =
+          PassTo mine mine_free
+          (taken_then tables spots w.numbers.arrays next now there after taken
+          (taken_spared tables spots w.numbers.arrays next mine free there after mine_free
+          (omega arith) s)) h
+          (whole fields refl) few
+
+      by : (conforms holding : Bool) → conform terms ≡ conforms → goes ≡ holding
+          → Pass (provided conforms RegionMismatch (λ _. provided holding OutsideStorage (λ _.
+          fields_of store terms)))
+          (code.then_do (guard RegionMismatch conforms line there (gate holding line there
+          (code.goes_on there))) others)
+      by true true f e =
+          passes (fields_of store terms) (others there) integers
+          (each_hoist tables n spots w line next stands room held.stored mine slots apart store sites
+          slates terms are_same sites_are_same there here (held_same e) f free (omega arith) since copied
+          space temps)
+      by true false f e = OneTraps (omega arith)
+      by false holding f e = OneTraps (omega arith)
+
+      pub behind_pass : Pass (fields_by terms) (code.then_do (rows checks there) others)
+      behind_pass =
+          subst (λ (c : Course Whole). Pass (fields_by terms) (code.then_do c others)) (sym checks_do)
+          (by (conform terms) goes refl refl)
+
+    -- ---- all of them
+
+    all_pass : (around : Bool) (mine : Own) → AreOwn next.slots mine → mine.temps ≤ next.temps
+        → ((there : Whole) (terms : Terms) → AreMeantAt around w spots there.slots sites slates terms
+        → (around ≡ true → AllCopied tables w mine next.copies slates × AllTakeOthers mine.slots slates)
+        → AllCopied tables w mine next.copies slates × AllTakeOthers mine.slots slates)
+        → (c : mean.Computed Terms) (course : Course Whole)
+        → Settles tables around mine w spots sites line next now slates c course
+        → next.scalars + 0 + hoisted_all.scalars ≤ tables.scalars
+        → TempsAt tables.arrays next.temps hoisted_all.temps
+        → Pass (computed_then c fields_by) (code.then_do (code.then_do course (rows checks)) others)
+    all_pass around mine mine_free since has c course Unsettled space temps = OneTraps (omega arith)
+    all_pass around mine mine_free since has c course
+        (SettlesTo {there = there} {terms = terms} filled are owned) space temps =
+        let own_is = has there terms are owned in
+        behind_pass around mine mine_free since there filled terms are own_is.0 own_is.1 space temps
+
+  -- whatever the first phase is
+  pub phases_pass : (around : Bool) (mine : Own) (it : Settled Slates) (c : mean.Computed Terms)
+      → AreOwn next.slots mine → mine.temps ≤ next.temps
+      → ((there : Whole) (terms : Terms) → AreMeantAt around w spots there.slots sites it.slate terms
+      → (around ≡ true
+      → AllCopied tables w mine next.copies it.slate × AllTakeOthers mine.slots it.slate)
+      → AllCopied tables w mine next.copies it.slate × AllTakeOthers mine.slots it.slate)
+      → Settles tables around mine w spots sites line next now it.slate c (rows it.rows now)
+      → (let phases = phases_of line own (all_referred w.numbers it.slate ++ last) it
+      (all_hoisted w.numbers line (free_of free) it.slate) in
       HasRoom tables next phases.lowered
-      → HoistAll tables spots w.numbers.arrays site free
-      (behind free (all_hoisted w.numbers line free it.slate)) line most now
+      → Phases tables spots w.numbers.arrays sites next (last_free it.slate) line
+      (tests_of_all it.slate) now
+      phases.left (computed_then c fields_by) (does tables n phases.lowered.code now))
+  phases_pass around mine it c mine_free since has settles space =
+      subst (λ (course : Course Whole). Pass it.slate (computed_then c fields_by)
+      (code.then_do course (others it.slate)))
+      (sym (rows_append tables n it.rows (checks it.slate) now))
+      (all_pass it.slate around mine mine_free since has c (rows it.rows now) settles (omega (arith, space.scalars)) space.temps)
+
+  -- of expressions that are served
+  pub phases_come : (exprs : List Placed)
+      → AreOperated sight w next now sites exprs
+      → (let it = settled_each w line next exprs in
+      let phases = phased_with w line next own last exprs in
+      HasRoom tables next phases.lowered
+      → Phases tables spots w.numbers.arrays sites next (last_free it.slate) line
+      (tests_of_all it.slate) now
       phases.left (fields_in place store (own_is && last_is)
-      (map (placed_of tables sight w line next now stands held) exprs))
-      (does tables n phases.lowered.code now)
+      (map placed_of exprs))
+      (does tables n phases.lowered.code now))
+  phases_come exprs operated space =
+      let it = settled_each w line next exprs in
+      phases_pass false alone it (phase.settled_each place store (map placed_of exprs)) (λ k lt. tt)
+      (omega arith)
+      (λ there terms are owned. (
+        each_copied w spots there.slots tables alone sites it.slate terms are next.copies,
+        take_none it.slate,
+      ))
+      (settles tables n false alone sight w line next now stands room sound held sites exprs operated
+      space.slots (λ e. absurd (let no : ⊥ = cc in no))) space
 
-  phases_at : Phases (tests_of_all settled.slates) (slate.alone settled.slates)
-  phases_at space =
-      subst (λ (c : mean.Computed Terms).
-      Hoist (tests_of_all settled.slates) hoisted_all.left
-      (computed_then c (λ terms. provided (conform terms) RegionMismatch (λ _.
-      provided ((own_is && last_is) && refer store terms) OutsideStorage (λ _.
-      fields_of store terms))))
-      (code.then_do (rows checks now) others)) (sym settled.termed)
-      (subst (λ (c : Course Whole). Hoist (tests_of_all settled.slates) hoisted_all.left
-      (provided (conform settled.terms) RegionMismatch (λ _. provided goes OutsideStorage (λ _.
-      fields_of store settled.terms))) (code.then_do c others)) (sym checks_do)
-      (by (conform settled.terms) goes refl refl (omega (arith, space.scalars)) space.temps))
-
-  pub phases_hoist : Phases (tests_of_all settled.slates) (settled_each w line next exprs)
-  phases_hoist =
-      subst (λ (it : Settled Slates). Phases (tests_of_all settled.slates) it) (sym (settled.slated next)) phases_at
-
-  -- they make no tests
-  few : tests_of_all settled.slates ≡ 0
-  few =
-      ap (λ (it : Settled Slates). tests_of_all it.slate) (sym (settled.slated next))
-      ∙ each_still w place line under exprs next (each exprs operated)
-    where
-      each : (exprs : List Placed)
-          → AreOperated tables sight w line next now stands held site under exprs
-          → AllOperated w place line under exprs
-      each [] h = tt
-      each (placed ∷ rest) h = (h.1, each rest h.2)
-
-  pub phases_few : Phases 0 (settled_each w line next exprs)
-  phases_few = subst (λ (most : ℕ). Phases most (settled_each w line next exprs)) few phases_hoist
-
-  -- fields that are given are those of the terms
-  abbrev pub Fields : mean.Computed (List Field)
-  Fields =
-      fields_in place store (own_is && last_is)
-      (map (placed_of tables sight w line next now stands held) exprs)
-
-  pub fields_given : (fields : List Field) → Fields ≡ mean.Gives fields
-      → fields_of store settled.terms ≡ mean.Gives fields
-  fields_given fields e =
-      two (conform settled.terms) goes
-      (sym (ap (λ (c : mean.Computed Terms). computed_then c (λ terms.
-      provided (conform terms) RegionMismatch (λ _.
-      provided ((own_is && last_is) && refer store terms) OutsideStorage (λ _.
-      fields_of store terms)))) settled.termed) ∙ e)
-    where
-      two : (a b : Bool) → provided a RegionMismatch (λ _. provided b OutsideStorage (λ _.
-          fields_of store settled.terms)) ≡ mean.Gives fields
-          → fields_of store settled.terms ≡ mean.Gives fields
-      two true true e = e
-      two true false e = absurd (let no : ⊥ = cc in no)
-      two false b e = absurd (let no : ⊥ = cc in no)
-
-  -- they have integers of 64 bits
-  pub integer_fields : (fields : List Field) → Fields ≡ mean.Gives fields
-      → Every GivesIntegers fields
-  integer_fields fields given =
-      fields_integers w spots now.slots store
-      (scalars_here tables n spots w line next stands room held.stored now.slots store now
-      (record { sound = sound; slots_are = refl; seen_is = refl }))
-      (arrays_here tables n spots w line next stands room held.stored now.slots store now
-      (record { sound = sound; slots_are = refl; seen_is = refl })) site settled.slates settled.terms
-      settled.are there fields (fields_given fields given)
-
-  -- and the statement's own references hold
-  pub own_held : (fields : List Field) → Fields ≡ mean.Gives fields
-      → (own_is ≡ true) × (last_is ≡ true)
-  own_held fields e =
-      both_true own_is last_is
-      (both_true (own_is && last_is) (refer store settled.terms)
-      (two (conform settled.terms) goes
-      (sym (ap (λ (c : mean.Computed Terms). computed_then c (λ terms.
-      provided (conform terms) RegionMismatch (λ _.
-      provided ((own_is && last_is) && refer store terms) OutsideStorage (λ _.
-      fields_of store terms)))) settled.termed) ∙ e))).0
-    where
-      two : (a b : Bool) → provided a RegionMismatch (λ _. provided b OutsideStorage (λ _.
-          fields_of store settled.terms)) ≡ mean.Gives fields → b ≡ true
-      two true true e = refl
-      two true false e = absurd (let no : ⊥ = cc in no)
-      two false b e = absurd (let no : ⊥ = cc in no)
+  -- also where reads wrap round, whose copies are stored behind arrays and before temporaries
+  pub phases_around : (exprs : List Placed)
+      → AreOperatedWith true sight w next now sites exprs
+      → (let it = settled_each w line next exprs in
+      let phases = phased_with w line next own last exprs in
+      RowsAt tables.arrays next.copies it.copies → next.arrays ≤ next.copies
+      → next.copies + length it.copies ≤ next.temps → HasRoom tables next phases.lowered
+      → Phases tables spots w.numbers.arrays sites next (last_free it.slate) line
+      (tests_of_all it.slate) now
+      phases.left (fields_in place store (own_is && last_is)
+      (map placed_of exprs))
+      (does tables n phases.lowered.code now))
+  phases_around exprs operated stored above below space =
+      let it = settled_each w line next exprs in
+      let mine = own_of next it.slate in
+      phases_pass true mine it (phase.settled_each place store (map placed_of exprs))
+      (own_free tables spots w line next stands exprs) (omega arith)
+      (λ there terms are owned. owned refl)
+      (settles tables n true mine sight w line next now stands room sound held sites exprs operated
+      space.slots (λ e. own_copies tables spots w line next stands exprs stored above below)) space

@@ -56,7 +56,8 @@ use Rattle.array_runs.proofs.AssignLemmas.{all_read}
 use Rattle.array_runs.proofs.TargetLemmas.{covers_matching, matches_row, flat_member}
 use Rattle.array_runs.proofs.LikeLemmas.{like_array}
 use Rattle.operator_runs.specs.Meant.{InSlot}
-use Rattle.operator_runs.proofs.MeantLemmas.{current_in, mask_at}
+use Rattle.operator_runs.proofs.CurrentLemmas.{current_in}
+use Rattle.operator_runs.proofs.MeantLemmas.{mask_at}
 
 module _ (tables : Tables) (n : ℕ) (spots : List Spot) (w : Where) (line : ℕ) (next : Next)
     (start : Whole) (store : Store) (after : Whole)

@@ -135,7 +135,7 @@ both_is array cells Divides SomeDivides = refl
 both_is array cells Divides SomeLacks = refl
 both_is array cells Lacks rest = refl
 
-abbrev columns : List ℤ → List (List ℤ) → List Column
+abbrev pub columns : List ℤ → List (List ℤ) → List Column
 columns cells ts = map (λ t. record { at = t; cells = cells }) ts
 
 -- what it has put is written, and the cells stay
@@ -194,7 +194,7 @@ abbrev pub all_filled : ℕ → ℕ → Whole → mean.Computed (List Array) →
 all_filled line temp whole (mean.Gives arrays) = Goes [] (with_arrays whole temp arrays)
 all_filled line temp whole (mean.Traps kind) = Stops (Ends (Trap kind line))
 
-none_awaited : (step : Step Whole) → all_awaiting [] step ≡ step
+pub none_awaited : (step : Step Whole) → all_awaiting [] step ≡ step
 none_awaited (Goes bytes whole) = refl
 none_awaited (Stops stop) = refl
 
@@ -257,7 +257,7 @@ module _ (n line : ℕ) (mask : Option Words) (exprs : List Words) where
     among_member : (t : List ℤ) → Among ts t → IsMember region t
     among_member t k = (members_iff region t steps).0 (Contains-from_among ts t k)
 
-    abbrev filled : ℕ → Whole → (List Column → Whole → Step Whole) → mean.Computed Array → Step Whole
+    abbrev pub filled : ℕ → Whole → (List Column → Whole → Step Whole) → mean.Computed Array → Step Whole
     filled number whole next (mean.Gives array) =
         next (columns cells ts) (with_array_in whole number array)
     filled number whole next (mean.Traps kind) = Stops (Ends (Trap kind line))
@@ -322,7 +322,7 @@ module _ (n line : ℕ) (mask : Option Words) (exprs : List Words) where
           ∙ zero_written)
       by_sum values sum OneDivides = refl
 
-      unit_fills : (i : ℕ) → slice_get exprs i ≡ Some expr → MaskThere i mask
+      pub unit_fills : (i : ℕ) → slice_get exprs i ≡ Some expr → MaskThere i mask
           → unit_does line (columns cells ts) whole
           (all_told (unit_at n exprs (unit i number mask) whole) (columns cells ts)) next
           ≡ filled number whole next (array_over region is_in field)

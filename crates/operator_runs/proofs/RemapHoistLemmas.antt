@@ -1,7 +1,7 @@
 -- The rows of a remap read, told alone: temporaries get the values of its indices, a fold says whether
 -- one of their tuples is outside the storage, and the read's values come into a temporary.
 use Rattle.std.proofs.Common.{◌≡◌, refl, sym, ◌∙◌, ap, subst, arith, ℕ, suc, ◌+◌, ◌<◌, ◌≤◌, Bool, true, false}
-use Rattle.std.proofs.Common.{◌&&◌, not, List, [], ◌∷◌, ◌++◌, length, map, filter, ℤ, pos, Option, Some}
+use Rattle.std.proofs.Common.{◌&&◌, not, List, [], ◌∷◌, ◌++◌, length, map, filter, ℤ, pos, Option, Some, inr}
 use Rattle.std.specs.Prelude.{◌||◌, All, cond, fold, replicate, slice_get}
 use Rattle.std.proofs.Math.Path.{fun_ext}
 use Rattle.std.specs.List.{cons_option, filter_map, list_all}
@@ -56,7 +56,7 @@ use Rattle.normal_runs.proofs.PutLemmas.{start_point}
 use Rattle.zpl_lowering.specs.Where.{Stored, Slotted, Where}
 use Rattle.zpl_lowering.specs.Tables.{temp_row}
 use Rattle.zpl_lowering.specs.Reference.{over_reference}
-use Rattle.zpl_lowering.specs.Hoist.{Free, index_puts, mask_code, outside_code, remap_code, rooms, temps_from, three_of, trap_if}
+use Rattle.zpl_lowering.specs.Hoist.{index_puts, mask_code, outside_code, remap_code, rooms, temps_from, three_of, trap_if}
 use Rattle.lowering_runs.specs.Run.{decide, does, step, straight}
 use Rattle.lowering_runs.specs.Scalars.{IsSameValue, BothGive as BothGive_}
 use Rattle.lowering_runs.specs.Seen.{Spot, numbered}
@@ -75,13 +75,14 @@ use Rattle.array_runs.proofs.StoredLemmas.{IsFound, found_array, zip_at}
 use Rattle.print_runs.proofs.TempLemmas.{room_step}
 use Rattle.array_runs.proofs.IntegerLemmas.{unit_integer}
 use Rattle.operator_runs.specs.Meant.{InSlot, Under}
-use Rattle.operator_runs.specs.Hoists.{operands_of, IsReadWell, Spares, HasValues, HaveValues, Hoists, Reaches, Stumbles, HoistAll, AllReach, OneStumbles}
-use Rattle.operator_runs.proofs.StateLemmas.{HasState, slot_in_state, spared_state}
+use Rattle.operator_runs.specs.Hoists.{Own, Unused, operands_of, IsReadWell, Spares, HasValues, HaveValues, Hoists, Reaches, Stumbles, HoistAll, AllReach, OneStumbles}
+use Rattle.operator_runs.proofs.StateLemmas.{AreApart, holds_in, mask_held, HasState, slot_in_state, spared_state}
 use Rattle.operator_runs.proofs.JoinLemmas.{acc_group, with_total, IsJoining}
 use Rattle.operator_runs.proofs.FoldLemmas.{with_fold, fold_course, fold_does}
-use Rattle.operator_runs.proofs.SpareLemmas.{IsFreer, spares_all, spares_then, holds_on, spares_total, spares_fold, spares_temp}
+use Rattle.operator_runs.proofs.SpareLemmas.{IsFreer, spares_all, spares_then, spares_total, spares_fold, spares_temp}
 use Rattle.operator_runs.proofs.StandLemmas.{NamesBelow, acc_stands, mask_names}
-use Rattle.operator_runs.proofs.MeantLemmas.{current_in, mask_at}
+use Rattle.operator_runs.proofs.CurrentLemmas.{current_in}
+use Rattle.operator_runs.proofs.MeantLemmas.{mask_at}
 use Rattle.operator_runs.proofs.IntegerLemmas.{any_integer}
 use Rattle.operator_runs.proofs.TempLemmas.{array_is, can_put, can_take, moved_is, temp_value}
 use Rattle.operator_runs.proofs.PutsLemmas.{AllFill, AreRoomed, AreWritable, all_filled, puts_fill, puts_stand, with_arrays}
@@ -89,7 +90,7 @@ use Rattle.operator_runs.proofs.OutsideLemmas.{AllHere, AreRead, outside_value, 
 
 -- ---- lists
 
-every_map : {X : Type 0} (P Q : X → Type 0) (xs : List X) → ((x : X) → P x → Q x) → Every P xs
+pub every_map : {X : Type 0} (P Q : X → Type 0) (xs : List X) → ((x : X) → P x → Q x) → Every P xs
     → Every Q xs
 every_map P Q [] f h = tt
 every_map P Q (x ∷ xs) f h = (f x h.0, every_map P Q xs f h.1)
@@ -122,7 +123,7 @@ values_total is_in g (t ∷ ts) =
     ∙ ap (λ c. both_then (mean.Gives (number_in (choice (is_in t) (mean.Gives (g t))))) c
     (λ value values. mean.Gives (value ∷ values))) (values_total is_in g ts)
 
-total_array : (region : Region) (is_in : List ℤ → Bool) (g : List ℤ → ℤ)
+pub total_array : (region : Region) (is_in : List ℤ → Bool) (g : List ℤ → ℤ)
     → array_over region is_in (λ t. mean.Gives (g t))
     ≡ mean.Gives (array_of region (λ t. number_in (choice (is_in t) (mean.Gives (g t)))))
 total_array region is_in g =
@@ -280,30 +281,31 @@ three_temps temp (a ∷ b ∷ c ∷ d ∷ left) le = absurd (omega (arith, le))
 -- ---- the rows
 
 module _ (tables : Tables) (n : ℕ) (spots : List Spot) (w : Where) (line : ℕ)
-    (all : AreStored tables w.numbers.arrays) (slots : List Region) (store : Store) where
-  abbrev Spared : Free → Whole → Whole → Type 0
-  Spared = Spares tables spots w.numbers.arrays
+    (all : AreStored tables w.numbers.arrays) (own : Own) (slots : List Region)
+    (apart : AreApart own slots) (store : Store) where
+  abbrev Spared : Unused → Whole → Whole → Type 0
+  Spared = Spares tables spots w.numbers.arrays own
 
   abbrev State : Whole → Type 0
-  State = HasState tables spots w.numbers.arrays slots store
+  State = HasState tables spots w.numbers.arrays own slots apart store
 
   abbrev rows : List Row → Whole → Course Whole
   rows = rows_do (step tables n) (decide tables n)
 
-  module _ (over : Slotted) (region : Region) (j : InSlot slots over region) (mid : Free) where
-    steps : All HasStep region.dims
+  module _ (over : Slotted) (region : Region) (j : InSlot slots over region) (mid : Unused) where
+    pub steps : All HasStep region.dims
     steps = has_steps region.dims j.is.dims
 
-    same_free : IsFreer mid mid
-    same_free = record { scalars = omega arith; temps = omega arith }
+    pub same_free : IsFreer mid mid
+    same_free = record { scalars = omega arith; copies = omega arith; temps = omega arith }
 
-    there : (whole : Whole) → State whole → InSlot whole.slots over region
+    pub there : (whole : Whole) → State whole → InSlot whole.slots over region
     there whole here =
-        slot_in_state tables spots w.numbers.arrays slots store whole here over region j
+        slot_in_state tables spots w.numbers.arrays own slots apart store whole here over region j
 
-    next_state : (whole after : Whole) → State whole → Spared mid whole after → State after
+    pub next_state : (whole after : Whole) → State whole → Spared mid whole after → State after
     next_state whole after here s =
-        spared_state tables spots w.numbers.arrays slots store mid whole after here s
+        spared_state tables spots w.numbers.arrays own slots apart store mid whole after here s
 
     abbrev IsRow : ℕ → Type 0
     IsRow k = slice_get tables.arrays k ≡ Some (temp_row over.flood)
@@ -315,13 +317,13 @@ module _ (tables : Tables) (n : ℕ) (spots : List Spot) (w : Where) (line : ℕ
         never : false ≡ true → ⊥
         never e = cc
 
-    spared_array : (whole : Whole) → IsSound tables whole → (k : ℕ) → mid.temps ≤ k → IsRow k
+    pub spared_array : (whole : Whole) → IsSound tables whole → (k : ℕ) → mid.temps ≤ k → IsRow k
         → (f : List ℤ → ℤ) → Spared mid whole (with_array_in whole k (array_of region f))
     spared_array whole sound k from at f =
-        spares_temp tables spots w.numbers.arrays mid whole sound all k from (temp_row over.flood) at refl
+        spares_temp tables spots w.numbers.arrays own mid whole sound all k from (temp_row over.flood) at refl
         (array_of region f) (of_temp f)
 
-    array_there : (whole : Whole) → IsSound tables whole → (k : ℕ) → IsRow k → (array : Array)
+    pub array_there : (whole : Whole) → IsSound tables whole → (k : ℕ) → IsRow k → (array : Array)
         → slice_get (with_array_in whole k array).stores k ≡ Some array
     array_there whole sound k at array =
         let old = zip_at tables.arrays whole.stores k (temp_row over.flood) sound.filled.stores at in
@@ -337,7 +339,7 @@ module _ (tables : Tables) (n : ℕ) (spots : List Spot) (w : Where) (line : ℕ
     abbrev Rows : {X : Type 0} → ℕ → List X → Type 0
     Rows k xs = RowsFor tables over.flood k xs
 
-    one_room : (whole : Whole) → State whole → (k : ℕ) → IsRow k
+    pub one_room : (whole : Whole) → State whole → (k : ℕ) → IsRow k
         → step tables n (row.Plain (instr.Room k over.slot)) whole
         ≡ Goes [] (with_array_in whole k (zeros_at region))
     one_room whole here k at =
@@ -361,11 +363,11 @@ module _ (tables : Tables) (n : ℕ) (spots : List Spot) (w : Where) (line : ℕ
     roomed_spares : (temp : ℕ) (left : List Expression) (whole : Whole) → State whole
         → mid.temps ≤ temp → Rows temp left → Spared mid whole (all_roomed whole temp left)
     roomed_spares temp [] whole here from at =
-        spares_all tables spots w.numbers.arrays mid whole here.sound
+        spares_all tables spots w.numbers.arrays own mid whole here.sound
     roomed_spares temp (one ∷ left) whole here from at =
         let s = spared_array whole here.sound temp from at.0 (λ t. pos 0) in
         let next = with_array_in whole temp (zeros_at region) in
-        spares_then tables spots w.numbers.arrays mid mid whole next (all_roomed next (suc temp) left)
+        spares_then tables spots w.numbers.arrays own mid mid whole next (all_roomed next (suc temp) left)
         same_free s
         (roomed_spares (suc temp) left next (next_state whole next here s) (omega (arith, from)) at.1)
 
@@ -394,13 +396,13 @@ module _ (tables : Tables) (n : ℕ) (spots : List Spot) (w : Where) (line : ℕ
         → mid.temps ≤ temp → Rows temp arrays → AreOver region arrays
         → Spared mid whole (with_arrays whole temp arrays)
     arrays_spares temp [] whole here from at are =
-        spares_all tables spots w.numbers.arrays mid whole here.sound
+        spares_all tables spots w.numbers.arrays own mid whole here.sound
     arrays_spares temp (array ∷ arrays) whole here from at are =
         let next = with_array_in whole temp array in
         let s : Spared mid whole next =
         subst (λ (a : Array). Spared mid whole (with_array_in whole temp a)) (sym are.0.1)
         (spared_array whole here.sound temp from at.0 are.0.0) in
-        spares_then tables spots w.numbers.arrays mid mid whole next (with_arrays next (suc temp) arrays)
+        spares_then tables spots w.numbers.arrays own mid mid whole next (with_arrays next (suc temp) arrays)
         same_free s
         (arrays_spares (suc temp) arrays next (next_state whole next here s) (omega (arith, from)) at.1
         are.1)
@@ -551,13 +553,13 @@ module _ (tables : Tables) (n : ℕ) (spots : List Spot) (w : Where) (line : ℕ
   module _ (over : Slotted) (region : Region) (j : InSlot slots over region)
       (readable : IsReadableMask w region over.mask) (no_floods : no_flood region ≡ true)
       (place : ℕ) (stored : Stored) (in_numbers : slice_get w.numbers.arrays place ≡ Some stored)
-      (is : IsRegion stored.storage) (free mid last : Free) (now : Whole) (here : State now)
-      (le : IsFreer free mid) (ge : mid.scalars < last.scalars)
+      (is : IsRegion stored.storage) (free mid last : Unused) (now : Whole) (here : State now)
+      (le : IsFreer free mid) (ge : mid.scalars < last.scalars) (since : own.temps ≤ mid.temps)
       (rises : Rises 0 (numbered spots) mid.scalars) (lt : mid.scalars < tables.scalars)
       (left : List Expression) (ranked : length left ≡ stored.storage.rank)
       (more : mid.temps + (length left + 1) ≤ last.temps)
       (temps_at : TempsAt tables.arrays mid.temps (replicate (length left + 1) over.flood))
-      (held : list_all (holds tables now) (over_reference w.numbers over) ≡ true) where
+      (held : list_all (holds_in tables slots) (over_reference w.numbers over) ≡ true) where
     abbrev is_in : List ℤ → Bool
     is_in = is_kept_in store (record { region = region; mask = over.mask })
 
@@ -603,13 +605,13 @@ module _ (tables : Tables) (n : ℕ) (spots : List Spot) (w : Where) (line : ℕ
 
     abbrev Hoist : ℕ → mean.Computed Field → Course Whole → Type 0
     Hoist most c course =
-        Hoists tables spots w.numbers.arrays (Under over region) free last line most now
+        Hoists tables spots w.numbers.arrays own (Under over region) free last line most now
         (word.Element target) c course
 
     module _ (after : Whole) (s : Spared free now after) (fields : List Field)
-        (h : HaveValues tables spots w.numbers.arrays (Under over region) mid after fields left) where
+        (h : HaveValues tables spots w.numbers.arrays own (Under over region) mid after fields left) where
       alive : State after
-      alive = spared_state tables spots w.numbers.arrays slots store free now after here s
+      alive = spared_state tables spots w.numbers.arrays own slots apart store free now after here s
 
       good_state : (whole : Whole) → Spared mid after whole → State whole
       good_state whole good = next_state over region j mid after whole alive good
@@ -617,8 +619,8 @@ module _ (tables : Tables) (n : ℕ) (spots : List Spot) (w : Where) (line : ℕ
       held_in : (whole : Whole) → Spared mid after whole
           → list_all (holds tables whole) (over_reference w.numbers over) ≡ true
       held_in whole good =
-          holds_on tables spots w.numbers.arrays now whole (good.slots ∙ s.slots)
-          (over_reference w.numbers over) ∙ held
+          mask_held tables spots w.numbers.arrays own slots apart store w.numbers whole
+          (good_state whole good) over region j over.mask held
 
       masking : (whole : Whole) (good : Spared mid after whole)
           → IsMasking tables spots w line whole region.rank over
@@ -655,7 +657,7 @@ module _ (tables : Tables) (n : ℕ) (spots : List Spot) (w : Where) (line : ℕ
 
       fill : (k : ℕ) (left : List Expression) (fields : List Field) → mid.temps ≤ k
           → RowsFor tables over.flood k left
-          → HaveValues tables spots w.numbers.arrays (Under over region) mid after fields left
+          → HaveValues tables spots w.numbers.arrays own (Under over region) mid after fields left
           → AllFill n line mask (group_words group) region is_in (steps over region j mid) cells
           (Spared mid after) (masked cells) k left fields
       fill k [] [] from at h = tt
@@ -668,7 +670,7 @@ module _ (tables : Tables) (n : ℕ) (spots : List Spot) (w : Where) (line : ℕ
               (sym (value_of-words_of (operands_at whole t (start_point cells)) one))
               (h.0.values whole good cells t m);
           goes_on = λ whole good f.
-              spares_then tables spots w.numbers.arrays mid mid after whole
+              spares_then tables spots w.numbers.arrays own mid mid after whole
               (with_array_in whole k (array_of region f)) (same_free over region j mid) good
               (spared_array over region j mid whole good.sound k from at.0 f);
         },
@@ -676,7 +678,7 @@ module _ (tables : Tables) (n : ℕ) (spots : List Spot) (w : Where) (line : ℕ
       )
 
       left_reads : (left : List Expression) (fields : List Field)
-          → HaveValues tables spots w.numbers.arrays (Under over region) mid after fields left
+          → HaveValues tables spots w.numbers.arrays own (Under over region) mid after fields left
           → Every (λ (one : Expression). Every (Reads over region j mid roomed) (words_of one)) left
       left_reads [] [] h = tt
       left_reads [] (field ∷ fields) h = absurd h
@@ -698,7 +700,7 @@ module _ (tables : Tables) (n : ℕ) (spots : List Spot) (w : Where) (line : ℕ
       )
 
       fields_count : (left : List Expression) (fields : List Field)
-          → HaveValues tables spots w.numbers.arrays (Under over region) mid after fields left
+          → HaveValues tables spots w.numbers.arrays own (Under over region) mid after fields left
           → length fields ≡ length left
       fields_count [] [] h = refl
       fields_count [] (field ∷ fields) h = absurd h
@@ -734,7 +736,7 @@ module _ (tables : Tables) (n : ℕ) (spots : List Spot) (w : Where) (line : ℕ
 
           sp_filled : Spared mid after filled
           sp_filled =
-              spares_then tables spots w.numbers.arrays mid mid after roomed filled
+              spares_then tables spots w.numbers.arrays own mid mid after roomed filled
               (same_free over region j mid) sp_roomed
               (arrays_spares over region j mid temp arrays roomed at_roomed (omega arith) at are)
 
@@ -749,9 +751,9 @@ module _ (tables : Tables) (n : ℕ) (spots : List Spot) (w : Where) (line : ℕ
 
           sp_begun : Spared mid after begun
           sp_begun =
-              spares_then tables spots w.numbers.arrays mid mid after filled begun
+              spares_then tables spots w.numbers.arrays own mid mid after filled begun
               (same_free over region j mid) sp_filled
-              (spares_total tables spots w.numbers.arrays mid filled at_filled.sound rises k (omega arith)
+              (spares_total tables spots w.numbers.arrays own mid filled at_filled.sound rises k (omega arith)
               lt (unit_of Any) (unit_integer Any))
 
           held_begun : AreHeld begun temp arrays
@@ -861,9 +863,9 @@ module _ (tables : Tables) (n : ℕ) (spots : List Spot) (w : Where) (line : ℕ
 
           sp_told : Spared mid after told
           sp_told =
-              spares_then tables spots w.numbers.arrays mid mid after filled told
+              spares_then tables spots w.numbers.arrays own mid mid after filled told
               (same_free over region j mid) sp_filled
-              (spares_fold tables spots w.numbers.arrays mid filled at_filled.sound rises k (omega arith)
+              (spares_fold tables spots w.numbers.arrays own mid filled at_filled.sound rises k (omega arith)
               lt total total_integer Any)
 
           at_told : State told
@@ -910,10 +912,10 @@ module _ (tables : Tables) (n : ℕ) (spots : List Spot) (w : Where) (line : ℕ
           end_there : (later : Whole) → Spared last end later
               → slice_get later.stores target ≡ Some (array_of region read)
           end_there later l =
-              l.stores target (omega (arith, more))
+              l.stores target (omega (arith, more)) (inr (omega (arith, since)))
               ∙ array_there over region j mid empty at_empty.sound target rows_are.1 (array_of region read)
 
-          end_values : HasValues tables spots w.numbers.arrays (Under over region) last end
+          end_values : HasValues tables spots w.numbers.arrays own (Under over region) last end
               (remap_field source arrays) (word.Element target)
           end_values = record {
             values = λ later l cells t m.
@@ -932,10 +934,10 @@ module _ (tables : Tables) (n : ℕ) (spots : List Spot) (w : Where) (line : ℕ
 
           all_spared : Spared free now end
           all_spared =
-              spares_then tables spots w.numbers.arrays free mid now after end le s
-              (spares_then tables spots w.numbers.arrays mid mid after empty end
+              spares_then tables spots w.numbers.arrays own free mid now after end le s
+              (spares_then tables spots w.numbers.arrays own mid mid after empty end
               (same_free over region j mid)
-              (spares_then tables spots w.numbers.arrays mid mid after told empty
+              (spares_then tables spots w.numbers.arrays own mid mid after told empty
               (same_free over region j mid) sp_told sp_empty) sp_end)
 
           by_total : (most jumps : ℕ) → jumps ≤ most → (b : Bool) → targets ≡ b
@@ -1000,7 +1002,9 @@ module _ (tables : Tables) (n : ℕ) (spots : List Spot) (w : Where) (line : ℕ
           (by_arrays most jumps less (arrays_over region is_in fields) refl)
 
     pub remap_hoists : (most : ℕ) (c : mean.Computed (List Field)) (course : Course Whole)
-        → HoistAll tables spots w.numbers.arrays (Under over region) free mid line most now left c course
+        → HoistAll tables spots w.numbers.arrays own
+        (HaveValues tables spots w.numbers.arrays own (Under over region)) free mid line most now left c
+        course
         → Hoist (most + 1)
         (computed_then c (λ fields. computed_then (arrays_over region is_in fields) (λ arrays. provided
         (list_all (λ t. has_target (is_in t) source arrays t) (members region)) OutsideStorage

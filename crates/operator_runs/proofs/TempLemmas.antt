@@ -48,7 +48,7 @@ use Rattle.array_runs.proofs.ElementLemmas.{all_members}
 use Rattle.array_runs.proofs.FloodLemmas.{current_floods}
 use Rattle.print_runs.proofs.TempLemmas.{temp_matches}
 use Rattle.operator_runs.specs.Meant.{InSlot}
-use Rattle.operator_runs.proofs.MeantLemmas.{current_in}
+use Rattle.operator_runs.proofs.CurrentLemmas.{current_in}
 
 -- ---- the array of a field's values
 

@@ -1,6 +1,7 @@
 -- Tests whose values have operators over regions, where the code of a statement comes to them.
 use Rattle.std.proofs.Common.{◌≡◌, sym, subst, arith, ℕ, ◌≤◌, None}
 use Rattle.zpl_tree.specs.Syntax.{Expr}
+use Rattle.zpl_names.specs.Counts.{expr_nodes}
 use Rattle.zpl_meaning.specs.Computed.{Computed}
 use Rattle.std.proofs.Common.{ℤ}
 use Rattle.zpl_meaning.specs.Store.{Store}
@@ -34,8 +35,8 @@ pub tests_go : (tables : Tables) (n : ℕ) (sight : Sight) (w : Where) (next fro
     → HasRoom tables from (low.test_of w from expr at).before → (store : Store) (now : Whole)
     → IsLike tables sight.spots w next start store now
     → Heads (IsLike tables sight.spots w next start store)
-    ((mean.test_of (seen_place sight w start) expr at).value store) (line_of w at) 0
-    (decide tables n (low.test_of w from expr at).check)
+    ((mean.test_of (seen_place sight w start) expr at).value store) (line_of w at)
+    (expr_nodes expr) (decide tables n (low.test_of w from expr at).check)
     (does tables n (low.test_of w from expr at).before.code now)
 tests_go tables n sight w next from start at expr stands before operated room store now like =
     let Like = IsLike tables sight.spots w next start in
@@ -46,13 +47,15 @@ tests_go tables n sight w next from start at expr stands before operated room st
     place_kept start now next.slots like.kept.slots sight w stands.taken stands.edge in
     let anew = like_anew tables sight.spots w next from start store now like in
     let room_here : from.scalars ≤ tables.scalars = omega (arith, room.scalars) in
-    subst (λ (p : Place). Heads (Like store) ((mean.test_of p expr at).value store) (line_of w at) 0
-    decides course) same
+    subst (λ (p : Place). Heads (Like store) ((mean.test_of p expr at).value store) (line_of w at)
+    (expr_nodes expr) decides course) same
     (alike_heads (IsLike tables sight.spots w from now store) (Like store)
-    ((mean.test_of (seen_place sight w now) expr at).value store) (line_of w at) 0 decides course
+    ((mean.test_of (seen_place sight w now) expr at).value store) (line_of w at) (expr_nodes expr)
+    decides course
     (λ after l. like_then tables sight.spots w next from start store now store after before like l)
     (subst (λ (s : Store). Heads (IsLike tables sight.spots w from now s)
-    ((mean.test_of (seen_place sight w now) expr at).value s) (line_of w at) 0 decides course)
+    ((mean.test_of (seen_place sight w now) expr at).value s) (line_of w at) (expr_nodes expr) decides
+    course)
     (sym like.seen)
     (test_comes tables n sight w from now (stands_on sight.spots w next from before stands) room_here at
     expr (subst (λ (p : Place). IsOperated w p None expr) (sym same) operated)

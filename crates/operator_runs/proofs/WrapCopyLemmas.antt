@@ -85,7 +85,7 @@ range_in_copy d c lo hi x le k is =
         let b = outside_bounds c lo hi x le is in
         (omega (arith, ints, clamps, b.0, e), omega (arith, ints, clamps, b.1, e))
 
-boxed_is : (lo hi step align : ℤ) → IsBoxed (Range lo hi step align)
+pub boxed_is : (lo hi step align : ℤ) → IsBoxed (Range lo hi step align)
     → Range lo hi step align ≡ all_from lo hi
 boxed_is lo hi step align b =
     ap (λ s. Range lo hi s align) b.0 ∙ ap (λ a. Range lo hi (pos 1) a) b.1
@@ -151,7 +151,7 @@ outside_step c (Range lo hi step align) h = by (int_lt (pos 0) c) (int_lt c (pos
     by false true = h
     by false false = h
 
-outside_steps : (w : List ℤ) (dims : List Dim) → All HasStep dims
+pub outside_steps : (w : List ℤ) (dims : List Dim) → All HasStep dims
     → All HasStep (each dim_outside_of w dims)
 outside_steps [] dims h = h
 outside_steps (c ∷ w) [] h = All-nil HasStep
@@ -312,20 +312,20 @@ module _ (home : Region) (a : Array) (d : List ℤ) (is : IsRegion home) (b : Al
   zeros_kept [] = tt
   zeros_kept (c ∷ shift) = (inl refl, zeros_kept shift)
 
-  kept_long : (shift v : List ℤ) → AreKeptOrNot shift v → length v ≡ length shift
+  pub kept_long : (shift v : List ℤ) → AreKeptOrNot shift v → length v ≡ length shift
   kept_long [] [] k = refl
   kept_long [] (c ∷ v) k = absurd k
   kept_long (x ∷ shift) [] k = absurd k
   kept_long (x ∷ shift) (c ∷ v) k = ap suc (kept_long shift v k.1)
 
-  home_in_copy : (s : List ℤ) → IsMember home s → IsMember (copy_storage home d) s
+  pub home_in_copy : (s : List ℤ) → IsMember home s → IsMember (copy_storage home d) s
   home_in_copy s m =
       border_in_copy home d (zeros (copy_shift home d)) s b own_long some
       (zeros_kept (copy_shift home d))
       (subst (λ (dims : List Dim). AllZip IsCoordinate dims s)
       (sym (no_border home.rank (copy_shift home d) home.dims own_long)) m)
 
-  border_kept : (v : List ℤ) → Among (border_vectors (copy_shift home d)) v
+  pub border_kept : (v : List ℤ) → Among (border_vectors (copy_shift home d)) v
       → AreKeptOrNot (copy_shift home d) v
   border_kept v k =
       among_choice (copy_shift home d) v

@@ -1,5 +1,5 @@
 -- What the rows of operators over regions leave, and what is left of an expression behind them.
-use Rattle.std.specs.Prelude.{◌≡◌, ℕ, ◌+◌, ◌<◌, ◌≤◌, true, ℤ, List, [], ◌∷◌, slice_get}
+use Rattle.std.specs.Prelude.{◌≡◌, ◌⊎◌, ℕ, ◌+◌, ◌<◌, ◌≤◌, true, ℤ, List, [], ◌∷◌, length, slice_get}
 use Rattle.std.specs.List.{list_all}
 use Rattle.zpl_nums.specs.declared.ends.End.TheVariants.{Trap}
 use Rattle.zpl_nums.specs.declared.ends.TrapKind.{TrapKind}
@@ -19,12 +19,12 @@ use Rattle.flat_form.specs.Loop.{operands_at}
 use Rattle.flat_form.specs.Names.{word_reads, word_scalars}
 use Rattle.flat_form.specs.Right.{can_read}
 use Rattle.flat_form.specs.Whole.{Whole}
-use Rattle.zpl_lowering.specs.Where.{Stored}
+use Rattle.zpl_lowering.specs.Where.{Next, Stored}
 use Rattle.zpl_lowering.specs.Slate as slate
 use Rattle.zpl_lowering.specs.Slate.{Slate, Slates, NoSlate, ThenSlate}
-use Rattle.zpl_lowering.specs.Hoist.{Free}
+use Rattle.zpl_lowering.specs.Hoist.{Free, Hoisted}
 use Rattle.lowering_runs.specs.Seen.{Spot, seen_store}
-use Rattle.lowering_runs.specs.Stands.{IsSound}
+use Rattle.lowering_runs.specs.Stands.{IsSound, Misses}
 use Rattle.array_puts.specs.Put.{IsSame}
 use Rattle.operator_runs.specs.Meant.{Site, Alone, Under}
 
@@ -50,18 +50,54 @@ pub record IsReadWell (tables : Tables) (site : Site) (whole : Whole) (scalars :
   pub reads : list_all (can_read tables whole (region_of site)) (word_reads one) ≡ true
   pub names : Every (λ k. k < scalars) (word_scalars one)
 
-module _ (tables : Tables) (spots : List Spot) (arrays : List Stored) where
-  -- The store and all slots are as they were, and so are scalars and arrays below what was free.
-  pub record Spares (free : Free) (before after : Whole) : Type 0 where
+-- ---- what is free, and what reads that wrap round have of their own
+
+-- the numbers that are free in a statement's rows
+pub record Unused : Type 0 where
+  pub scalars : ℕ
+  pub copies : ℕ
+  pub temps : ℕ
+
+abbrev pub free_of : Unused → Free
+free_of free = record { scalars = free.scalars; temps = free.temps }
+
+-- those behind rows, and behind so many copies
+abbrev pub beyond : {A : Type 0} → Unused → ℕ → Hoisted A → Unused
+beyond free copies hoisted = record {
+  scalars = free.scalars + hoisted.scalars;
+  copies = free.copies + copies;
+  temps = free.temps + length hoisted.temps;
+}
+
+-- What a statement has of its own: the slots that its reads which wrap round fill, and the number of
+-- its first temporary.
+pub record Own : Type 0 where
+  pub slots : List ℕ
+  pub temps : ℕ
+
+-- where a statement begins, with nothing of its own
+abbrev pub unused_at : Next → Unused
+unused_at next =
+    record { scalars = next.scalars + 0; copies = next.copies; temps = next.temps }
+
+abbrev pub own_at : Next → Own
+own_at next = record { slots = []; temps = next.temps }
+
+module _ (tables : Tables) (spots : List Spot) (arrays : List Stored) (own : Own) where
+  -- The store is as it was, and so are all slots but the statement's own ones, scalars below what was
+  -- free, and of the arrays copies and the statement's temporaries.
+  pub record Spares (free : Unused) (before after : Whole) : Type 0 where
     pub sound : IsSound tables after
     pub seen : seen_store spots arrays after ≡ seen_store spots arrays before
-    pub slots : after.slots ≡ before.slots
+    pub slots : (k : ℕ) → Misses own.slots k
+        → slice_get after.slots k ≡ slice_get before.slots k
     pub scalars : (k : ℕ) → k < free.scalars
         → slice_get after.scalars k ≡ slice_get before.scalars k
-    pub stores : (k : ℕ) → k < free.temps → slice_get after.stores k ≡ slice_get before.stores k
+    pub stores : (k : ℕ) → k < free.temps → (k < free.copies) ⊎ (own.temps ≤ k)
+        → slice_get after.stores k ≡ slice_get before.stores k
 
   -- What is left has the values of a field, in the state and behind all further rows.
-  pub record HasValues (site : Site) (free : Free) (after : Whole) (field : Field)
+  pub record HasValues (site : Site) (free : Unused) (after : Whole) (field : Field)
       (left : Expression) : Type 0 where
     pub values : (later : Whole) → Spares free after later → (cells t : List ℤ) → IsAt site t
         → IsSame (field t) (tree_value (operands_of site later cells t) left)
@@ -70,7 +106,7 @@ module _ (tables : Tables) (spots : List Spot) (arrays : List Stored) where
 
   -- The rows come to a state in which what is left has the values of the field that is computed; or
   -- they end with the trap that is. They print nothing, and make few tests.
-  pub data Hoists (site : Site) (free behind : Free) (line most : ℕ) (now : Whole)
+  pub data Hoists (site : Site) (free behind : Unused) (line most : ℕ) (now : Whole)
       (left : Expression) : mean.Computed Field → Course Whole → Type 0 where
     Reaches : {after : Whole} {jumps : ℕ} {field : Field} → Spares free now after
         → HasValues site behind after field left → jumps ≤ most
@@ -81,23 +117,52 @@ module _ (tables : Tables) (spots : List Spot) (arrays : List Stored) where
         (record { close = Over (Ends (Trap kind line)); state = after; bytes = []; jumps = jumps })
 
   -- each of several
-  abbrev pub HaveValues : Site → Free → Whole → List Field → List Expression → Type 0
+  abbrev pub HaveValues : Site → Unused → Whole → List Field → List Expression → Type 0
   HaveValues site free after [] [] = Unit {0}
   HaveValues site free after [] (left ∷ rest) = ⊥
   HaveValues site free after (field ∷ fields) [] = ⊥
   HaveValues site free after (field ∷ fields) (left ∷ rest) =
       HasValues site free after field left × HaveValues site free after fields rest
 
-  -- the same of several expressions
-  pub data HoistAll (site : Site) (free behind : Free) (line most : ℕ) (now : Whole)
-      (left : List Expression) : mean.Computed (List Field) → Course Whole → Type 0 where
+  -- each of several at a site of its own
+  pub data HaveValuesAt : List Site → Unused → Whole → List Field → List Expression → Type 0 where
+    NoValues : {free : Unused} {after : Whole} → HaveValuesAt [] free after [] []
+    MoreValues : {site : Site} {sites : List Site} {free : Unused} {after : Whole} {field : Field}
+        {fields : List Field} {left : Expression} {rest : List Expression}
+        → HasValues site free after field left → HaveValuesAt sites free after fields rest
+        → HaveValuesAt (site ∷ sites) free after (field ∷ fields) (left ∷ rest)
+
+  -- The same of several expressions, of which what is left has the fields' values.
+  pub data HoistAll (Have : Unused → Whole → List Field → List Expression → Type 0)
+      (free behind : Unused) (line most : ℕ) (now : Whole) (left : List Expression)
+      : mean.Computed (List Field) → Course Whole → Type 0 where
     AllReach : {after : Whole} {jumps : ℕ} {fields : List Field} → Spares free now after
-        → HaveValues site behind after fields left → jumps ≤ most
-        → HoistAll site free behind line most now left (mean.Gives fields)
+        → Have behind after fields left → jumps ≤ most
+        → HoistAll Have free behind line most now left (mean.Gives fields)
         (record { close = GoesOn; state = after; bytes = []; jumps = jumps })
     OneStumbles : {after : Whole} {jumps : ℕ} {kind : TrapKind} → jumps ≤ most
-        → HoistAll site free behind line most now left (mean.Traps kind)
+        → HoistAll Have free behind line most now left (mean.Traps kind)
         (record { close = Over (Ends (Trap kind line)); state = after; bytes = []; jumps = jumps })
+
+-- how many reads that wrap round are in a slate: each has a copy
+abbrev mutual
+  pub copies_of : Slate → ℕ
+  copies_of (slate.Constant value) = 0
+  copies_of (slate.Variable place) = 0
+  copies_of (slate.Coordinate k) = 0
+  copies_of (slate.Element slot place shift) = 0
+  copies_of (slate.Wrapped slot place home shift copy first) = 1
+  copies_of (slate.Unary operator operand) = copies_of operand
+  copies_of (slate.Binary operator left right) = copies_of left + copies_of right
+  copies_of (slate.Folded operator over operand) = copies_of operand
+  copies_of (slate.PartFolded operator over source operand) = copies_of operand
+  copies_of (slate.Scanned operator along over operand) = copies_of operand
+  copies_of (slate.Flooded over source operand) = copies_of operand
+  copies_of (slate.Remapped over place indices) = copies_of_all indices
+
+  pub copies_of_all : Slates → ℕ
+  copies_of_all NoSlate = 0
+  copies_of_all (ThenSlate first rest) = copies_of first + copies_of_all rest
 
 -- the tests that the rows of a slate make: one for each remap read
 abbrev mutual

@@ -1,18 +1,25 @@
 -- What is asked of an expression with operators over regions before the run: of names, ranks and
 -- flood dimensions alone, whatever the current regions are.
-use Rattle.std.specs.Prelude.{◌-◌, ◌<◌, ℕ, Bool, true, false, ℤ, List, [], ◌∷◌, Option, Some, None}
+use Rattle.std.specs.Prelude.{◌≡◌, ◌-◌, ◌<◌, ℕ, Bool, true, false, ℤ, List, [], ◌∷◌, length, map, Option, Some, None, slice_get}
 use Rattle.zpl_nums.specs.Integer.{IsInteger}
-use Rattle.zpl_tree.specs.Syntax.{Expr, Number, Truth, Coord, Named, Shifted, Around, Remap, Call, Paren, Neg, Not, Abs, Pair, Reduce, Scan, Flood, NoBracket, Bracketed}
+use Rattle.zpl_region.specs.declared.regions.Region.{Region}
+use Rattle.zpl_region.specs.Region.{IsRegion}
+use Rattle.zpl_tree.specs.Syntax.{Expr, Number, Truth, Coord, Named, Shifted, Around, Remap, Call, Paren, Neg, Not, Abs, Pair, Reduce, Scan, Flood, Exprs, NoExpr, ThenExpr, Inner, NoBracket, Bracketed}
 use Rattle.zpl_names.specs.Kinds.{Rank}
-use Rattle.zpl_names.specs.Ranks.{operand_rank}
-use Rattle.zpl_meaning.specs.Store.{Thing, thing_of}
+use Rattle.zpl_names.specs.Ranks.{exprs_count, operand_rank}
+use Rattle.zpl_meaning.specs.Computed.{Gives}
+use Rattle.zpl_meaning.specs.Store.{ArrayAt, Store, Thing, thing_of}
 use Rattle.zpl_meaning.specs.Context.{Place}
-use Rattle.zpl_meaning.specs.Proper.{HasCurrent}
+use Rattle.zpl_meaning.specs.Proper.{HasCurrent, IsArrayRank}
+use Rattle.zpl_meaning.specs.Regions as mean
 use Rattle.zpl_meaning.specs.Regions.{vector_in}
 use Rattle.zpl_meaning.specs.Scalars.{IsScalarName}
-use Rattle.zpl_lowering.specs.Where.{Slotted, Where, slotted_at}
-use Rattle.array_runs.specs.Floods.{IsElementAs, IsReadableMaskAs}
-use Rattle.operator_runs.specs.Meant.{IsAlong, IsPlainMask}
+use Rattle.zpl_meaning.specs.Settled.{source_in}
+use Rattle.zpl_lowering.specs.Where.{Next, Slotted, Stored, Where, is_flood, slotted_at}
+use Rattle.zpl_lowering.specs.Slate.{opened_source, source_of, source_rank, under_source}
+use Rattle.array_runs.specs.Floods.{CoverFloods, IsElementAs, IsReadableMaskAs, slot_floods}
+use Rattle.prefix_runs.specs.Opens.{IsOpenedAs, Opens}
+use Rattle.operator_runs.specs.Meant.{IsAlong, IsAround}
 
 -- no dimension is a flood dimension
 abbrev pub HaveNoFlood : List Bool → Type 0
@@ -36,36 +43,132 @@ pub record IsFoldedUnder (w : Where) (place : Place) (rank : Rank) : Type 0 wher
   pub masked : IsReadableMaskAs w (slotted_at w.currents rank) (slotted_at w.currents rank).mask
   pub plain : HaveNoFlood (slotted_at w.currents rank).flood
 
--- A scan goes over the region under which it stands, which has no flood dimension; its mask is one
--- that keeps the tuples at which it is true, if there is one.
+-- A scan goes over the region under which it stands, which has no flood dimension; its mask may be
+-- read there.
 abbrev pub IsScannedIn : Where → Option Slotted → Option ℤ → Type 0
 IsScannedIn w None along = ⊥
 IsScannedIn w (Some over) along =
-    IsReadableMaskAs w over over.mask × IsPlainMask over.mask × IsAlong along × HaveNoFlood over.flood
+    IsReadableMaskAs w over over.mask × IsAlong along × HaveNoFlood over.flood
 
--- Numbers, names, reads with a shift, coordinates, operators, full folds, and scans of such expressions.
+-- A remap read is of an array with as many dimensions as there are indices, under a region without
+-- flood dimension, whose mask may be read there.
+pub record IsRemapped (w : Where) (over : Slotted) (thing : Option Thing) (count : ℕ) : Type 0 where
+  pub target : ℕ
+  pub home : Region
+  pub named : thing ≡ Some (ArrayAt target home)
+  pub stored : Stored
+  pub found : slice_get w.numbers.arrays target ≡ Some stored
+  pub is : IsRegion stored.storage
+  pub counted : count ≡ stored.storage.rank
+  pub masked : IsReadableMaskAs w over over.mask
+  pub plain : HaveNoFlood over.flood
+
+abbrev pub IsRemappedIn : Where → Option Slotted → Option Thing → ℕ → Type 0
+IsRemappedIn w None thing count = ⊥
+IsRemappedIn w (Some over) thing count = IsRemapped w over thing count
+
+-- A read that wraps round is of an array, under a region of its home box's rank, which has no flood
+-- dimension where the box has none.
+pub record IsWrapped (w : Where) (over : Slotted) (d : List ℤ) (thing : Option Thing) : Type 0 where
+  pub target : ℕ
+  pub home : Region
+  pub named : thing ≡ Some (ArrayAt target home)
+  pub stored : Stored
+  pub found : slice_get w.numbers.arrays target ≡ Some stored
+  pub is : IsAround home d stored
+  pub ranked : length over.flood ≡ home.rank
+  pub covers : CoverFloods (map is_flood home.dims) (slot_floods over)
+
+-- such reads are among expressions, or they aren't
+abbrev pub IsWrappedIn : Bool → Where → Option Slotted → List ℤ → Option Thing → Type 0
+IsWrappedIn false w under d thing = ⊥
+IsWrappedIn true w None d thing = ⊥
+IsWrappedIn true w (Some over) d thing = IsWrapped w over d thing
+
+-- ---- the brackets of operators
+
+-- It may be opened, and its region has the rank of that under which the operator stands, whose mask
+-- may be read there.
+pub record OpensSource (w : Where) (place : Place) (over : Slotted) (source : Inner) (operand : Expr)
+    : Type 0 where
+  pub rank : ℕ
+  pub ranked : source_rank w source operand ≡ Some rank
+  pub is_rank : IsArrayRank (Some rank)
+  pub opens : Opens place rank source
+  pub current : HasCurrent place.currents (Some rank)
+  pub same : slotted_at w.currents (Some rank) ≡ over
+  pub masked : IsReadableMaskAs w over over.mask
+
+abbrev pub OpensSourceIn : Where → Place → Option Slotted → Inner → Expr → Type 0
+OpensSourceIn w place None source operand = ⊥
+OpensSourceIn w place (Some over) source operand = OpensSource w place over source operand
+
+-- its region has no flood dimension, whichever slot that has
+abbrev pub IsPlainSource : Where → Inner → Expr → Type 0
+IsPlainSource w source operand =
+    (next : Next) (line : ℕ) → HaveNoFlood (opened_source w next line source operand).flood
+
+-- Something is asked of the operand behind the bracket: whichever slot its region has, and whatever
+-- region it means at some store, which has the slot's flood dimensions.
+abbrev pub IsUnderSource : Where → Place → Inner → Expr → (Where → Place → Slotted → Type 0) → Type 0
+IsUnderSource w place source operand IsServed =
+    (next : Next) (line : ℕ) (store : Store) (region : Region)
+    → source_in place store source operand ≡ Gives region
+    → IsOpenedAs (opened_source w next line source operand).flood region
+    → IsServed
+    (under_source w (source_rank w source operand)
+    (source_of (opened_source w next line source operand)))
+    (mean.under_source place (source_rank w source operand) region)
+    (source_of (opened_source w next line source operand))
+
+-- ---- expressions
+
+-- Numbers, names, reads with a shift, coordinates, operators; and full and partial folds, scans,
+-- floods and remap reads of such expressions. Reads that wrap round are among them, or they aren't.
+abbrev mutual
+  pub IsOperatedWith : Bool → Where → Place → Option Slotted → Expr → Type 0
+  IsOperatedWith around w place under (Number at value) = IsInteger value
+  IsOperatedWith around w place under (Truth at value) = Unit {0}
+  IsOperatedWith around w place under (Coord at k) = IsCoordinateIn under k
+  IsOperatedWith around w place under (Named at name) =
+      IsNameIn w under [] (thing_of w.environment name.text)
+  IsOperatedWith around w place under (Shifted at name shift) =
+      IsNameIn w under (vector_in w.setup.known shift) (thing_of w.environment name.text)
+  IsOperatedWith around w place under (Paren at inside) = IsOperatedWith around w place under inside
+  IsOperatedWith around w place under (Neg at operand) = IsOperatedWith around w place under operand
+  IsOperatedWith around w place under (Not at operand) = IsOperatedWith around w place under operand
+  IsOperatedWith around w place under (Abs at operand) = IsOperatedWith around w place under operand
+  IsOperatedWith around w place under (Pair at op left right) =
+      IsOperatedWith around w place under left × IsOperatedWith around w place under right
+  IsOperatedWith around w place under (Reduce at operator NoBracket operand) =
+      IsFoldedUnder w place (operand_rank place.scope place.prefix operand)
+      × IsOperatedWith around w place
+      (Some (slotted_at w.currents (operand_rank place.scope place.prefix operand))) operand
+  IsOperatedWith around w place under (Reduce at operator (Bracketed source) operand) =
+      OpensSourceIn w place under source operand × IsPlainSource w source operand
+      × IsUnderSource w place source operand
+      (λ inner there over. IsOperatedWith around inner there (Some over) operand)
+  IsOperatedWith around w place under (Around at name shift) =
+      IsWrappedIn around w under (vector_in w.setup.known shift) (thing_of w.environment name.text)
+  IsOperatedWith around w place under (Remap at name indices) =
+      IsRemappedIn w under (thing_of w.environment name.text) (exprs_count indices)
+      × AreIndicesWith around w place under indices
+  IsOperatedWith around w place under (Call at name actuals) = ⊥
+  IsOperatedWith around w place under (Scan at operator along operand) =
+      IsScannedIn w under along × IsOperatedWith around w place under operand
+  IsOperatedWith around w place under (Flood at source operand) =
+      OpensSourceIn w place under source operand
+      × IsUnderSource w place source operand
+      (λ inner there over. IsOperatedWith around inner there (Some over) operand)
+
+  pub AreIndicesWith : Bool → Where → Place → Option Slotted → Exprs → Type 0
+  AreIndicesWith around w place under NoExpr = Unit {0}
+  AreIndicesWith around w place under (ThenExpr first rest) =
+      IsOperatedWith around w place under first × AreIndicesWith around w place under rest
+
+-- without reads that wrap round
 abbrev pub IsOperated : Where → Place → Option Slotted → Expr → Type 0
-IsOperated w place under (Number at value) = IsInteger value
-IsOperated w place under (Truth at value) = Unit {0}
-IsOperated w place under (Coord at k) = IsCoordinateIn under k
-IsOperated w place under (Named at name) =
-    IsNameIn w under [] (thing_of w.environment name.text)
-IsOperated w place under (Shifted at name shift) =
-    IsNameIn w under (vector_in w.setup.known shift) (thing_of w.environment name.text)
-IsOperated w place under (Paren at inside) = IsOperated w place under inside
-IsOperated w place under (Neg at operand) = IsOperated w place under operand
-IsOperated w place under (Not at operand) = IsOperated w place under operand
-IsOperated w place under (Abs at operand) = IsOperated w place under operand
-IsOperated w place under (Pair at op left right) =
-    IsOperated w place under left × IsOperated w place under right
-IsOperated w place under (Reduce at operator NoBracket operand) =
-    IsFoldedUnder w place (operand_rank place.scope place.prefix operand)
-    × IsOperated w place
-    (Some (slotted_at w.currents (operand_rank place.scope place.prefix operand))) operand
-IsOperated w place under (Reduce at operator (Bracketed source) operand) = ⊥
-IsOperated w place under (Around at name shift) = ⊥
-IsOperated w place under (Remap at name indices) = ⊥
-IsOperated w place under (Call at name actuals) = ⊥
-IsOperated w place under (Scan at operator along operand) =
-    IsScannedIn w under along × IsOperated w place under operand
-IsOperated w place under (Flood at source operand) = ⊥
+IsOperated = IsOperatedWith false
+
+abbrev pub AreIndices : Where → Place → Option Slotted → Exprs → Type 0
+AreIndices = AreIndicesWith false

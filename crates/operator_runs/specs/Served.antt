@@ -1,8 +1,9 @@
 -- What is asked of statements whose expressions have operators over regions, at their places.
-use Rattle.std.specs.Prelude.{◌≡◌, ◌⊎◌, ℕ, List, [], ◌∷◌, Option, Some, None, slice_get}
+use Rattle.std.specs.Prelude.{◌≡◌, ◌⊎◌, ℕ, zero, suc, List, [], ◌∷◌, Option, Some, None, slice_get}
 use Rattle.zpl_nums.specs.declared.operators.Op.{Op}
 use Rattle.zpl_region.specs.declared.regions.Region.{Region}
 use Rattle.zpl_tree.specs.Syntax.{Name, Expr, Item, Str, Value, Form, Assign, Invoke, Block, If, While, Repeat, For, Border, Write, Return}
+use Rattle.zpl_names.specs.Kinds.{Rank}
 use Rattle.zpl_names.specs.Sites.{Assigned, Printed, handed}
 use Rattle.zpl_meaning.specs.Store.{ArrayAt, thing_of}
 use Rattle.zpl_meaning.specs.Context.{Place, Setup, reach_of, rank_in}
@@ -12,6 +13,7 @@ use Rattle.zpl_lowering.specs.Where.{Where, slotted_at}
 use Rattle.lowering_runs.specs.Suits.{ScalarTest}
 use Rattle.array_runs.specs.Floods.{IsReadableMaskAs, IsWritableAs}
 use Rattle.prefix_runs.specs.Plain.{PlainLeaf}
+use Rattle.print_runs.specs.Printed.{HasNoFlood}
 use Rattle.operator_runs.specs.Operated.{IsOperated}
 
 -- a scalar is assigned
@@ -40,15 +42,24 @@ pub record IsArrayOperated (name : Name) (op : Option Op) (value : Expr) (w : Wh
       (assigned_expr name op value))
       ⊎ IsOperated w place None (assigned_expr name op value)
 
--- texts and scalars are printed
-abbrev pub ArePrintedScalars : List Item → Where → Place → Type 0
-ArePrintedScalars [] w place = Unit {0}
-ArePrintedScalars (Str bytes ∷ items) w place = ArePrintedScalars items w place
-ArePrintedScalars (Value expr ∷ items) w place =
-    (rank_in place Printed expr ≡ Some 0) × IsOperated w place None expr
-    × ArePrintedScalars items w place
+-- A printed expression of a rank: a scalar; or an array over the current region of the rank, which has
+-- no flood dimension.
+abbrev pub IsPrintedOperated : Rank → Expr → Where → Place → Type 0
+IsPrintedOperated (Some (suc rank)) expr w place =
+    HasCurrent place.currents (Some (suc rank))
+    × HasNoFlood (slotted_at w.currents (Some (suc rank))).flood
+    × IsOperated w place (Some (slotted_at w.currents (Some (suc rank)))) expr
+IsPrintedOperated (Some zero) expr w place = IsOperated w place None expr
+IsPrintedOperated None expr w place = ⊥
 
--- a scalar or an array is assigned, or scalars are printed
+-- texts, scalars and arrays are printed
+abbrev pub ArePrintedOperated : List Item → Where → Place → Type 0
+ArePrintedOperated [] w place = Unit {0}
+ArePrintedOperated (Str bytes ∷ items) w place = ArePrintedOperated items w place
+ArePrintedOperated (Value expr ∷ items) w place =
+    IsPrintedOperated (rank_in place Printed expr) expr w place × ArePrintedOperated items w place
+
+-- a scalar or an array is assigned, or texts, scalars and arrays are printed
 abbrev pub OperatedLeaf : ℕ → Form → Where → Place → Type 0
 OperatedLeaf at (Assign name op value) w place =
     IsScalarOperated name op value w place ⊎ IsArrayOperated name op value w place
@@ -59,7 +70,7 @@ OperatedLeaf at (While test body) w place = ⊥
 OperatedLeaf at (Repeat body until test) w place = ⊥
 OperatedLeaf at (For head body) w place = ⊥
 OperatedLeaf at (Border kind names) w place = ⊥
-OperatedLeaf at (Write ends items) w place = ArePrintedScalars items w place
+OperatedLeaf at (Write ends items) w place = ArePrintedOperated items w place
 OperatedLeaf at (Return value) w place = ⊥
 
 -- these, or any statement of scalars and arrays without operators over regions
@@ -67,10 +78,10 @@ abbrev pub AnyLeaf : Setup → (List ℕ → Type 0) → ℕ → Form → Where 
 AnyLeaf setup IsCallable at form w place =
     PlainLeaf setup IsCallable at form w place ⊎ OperatedLeaf at form w place
 
--- a test whose value has operators over regions
-abbrev pub OperatedTest : Expr → Where → Place → Type 0
-OperatedTest test w place = IsOperated w place None test
+-- a value of rank 0, with operators over regions: of a test, a bound of `for`, or a parameter
+abbrev pub OperatedValue : Expr → Where → Place → Type 0
+OperatedValue value w place = IsOperated w place None value
 
--- such a test, or one of scalars
+-- a test that has such a value, or is of scalars
 abbrev pub AnyTest : Expr → Where → Place → Type 0
-AnyTest test w place = ScalarTest test w place ⊎ OperatedTest test w place
+AnyTest test w place = ScalarTest test w place ⊎ OperatedValue test w place

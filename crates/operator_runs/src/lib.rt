@@ -7,6 +7,7 @@
 mod laws;
 
 pub use laws::{
-    arrays_by_operators_go_alike, prints_by_operators_go_alike, scalars_by_operators_go_alike,
-    statements_by_operators_go_alike, tests_by_operators_go_alike,
+    arrays_by_operators_go_alike, prints_by_operators_go_alike, returns_by_operators_go_alike,
+    scalars_by_operators_go_alike, statements_by_operators_go_alike, tests_by_operators_go_alike,
+    values_by_operators_go_alike,
 };
