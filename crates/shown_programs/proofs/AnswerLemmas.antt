@@ -3,10 +3,10 @@
 use Rattle.std.proofs.Common.{◌≡◌, ℕ, List, [], ◌∷◌, ◌++◌, length, map, Option, None, refl}
 use Rattle.std.proofs.Common.{sym, ap, ◌∙◌, subst, append-nil, ℤ}
 use Rattle.std.specs.Prelude.{Contains}
-use Rattle.zpl_tree.specs.Syntax.{Prefix, Stmt, Prefixed, Stmts, NoStmt, ThenStmt, Form, Assign, Invoke, Block, If, While, Repeat, For, Border, Write, Return, Program}
+use Rattle.zpl_tree.specs.Syntax.{Expr, Prefix, Stmt, Prefixed, Stmts, NoStmt, ThenStmt, Form, Assign, Invoke, Block, If, While, Repeat, For, Border, Write, Return, Program}
 use Rattle.zpl_tree.specs.Grammar.{IsProgram}
 use Rattle.zpl_names.specs.Shapes.{Shapes}
-use Rattle.zpl_names.specs.Sites.{Reach, Result}
+use Rattle.zpl_names.specs.Sites.{Reach, Result, whole_rank}
 use Rattle.zpl_names.specs.Accepted.{IsFaultless}
 use Rattle.zpl_binding.specs.Settings.{Setting}
 use Rattle.zpl_meaning.specs.Store.{Environment, Store, Thing}
@@ -15,11 +15,11 @@ use Rattle.zpl_meaning.specs.Calls as mean_calls
 use Rattle.zpl_meaning.specs.Calls.{Handed}
 use Rattle.zpl_meaning.specs.Variables.{with_new_scalar}
 use Rattle.zpl_meaning.specs.Proper.{IsProperStmt}
-use Rattle.zpl_meaning.specs.Visited as visits
 use Rattle.zpl_meaning.specs.Visited.{IsVisited, list_of}
-use Rattle.zpl_meaning.proofs.VisitLemmas.{Laws}
+use Rattle.zpl_meaning.proofs.ProperLemmas.{reach_at}
+use Rattle.zpl_meaning.proofs.VisitLemmas.{Laws, Inside, InStmt}
 use Rattle.meaning_ranks.specs.Ranked.{IsRankedStmt}
-use Rattle.meaning_ranks.proofs.PlaceLemmas.{IsAt, behind}
+use Rattle.meaning_ranks.proofs.PlaceLemmas.{IsAt}
 use Rattle.node_form.specs.declared.tables.Tables.{Tables}
 use Rattle.flat_form.specs.Whole.{Whole}
 use Rattle.zpl_lowering.specs.Where.{Stored, Where, Next}
@@ -29,16 +29,16 @@ use Rattle.lowering_runs.specs.Stands.{AreKnown, IsKnown, IsLike, Keeps, Rises, 
 use Rattle.lowering_runs.specs.Frames.{seen_given}
 use Rattle.lowering_runs.specs.Suits.{SuitsStmtBy}
 use Rattle.lowering_runs.proofs.FrameLemmas.{map_append, names_below, numbered_append, thing_below}
-use Rattle.lowering_runs.proofs.StatementLemmas.{contains_first, contains_later, role_scalar}
-use Rattle.operator_runs.specs.Served.{AnyTest}
+use Rattle.lowering_runs.proofs.StatementLemmas.{contains_first, contains_later}
+use Rattle.operator_runs.specs.Served.{OperatedValue}
 use Rattle.prefix_runs.specs.Under.{IsUnder}
 use Rattle.served_places.specs.Told.{IsSeenFrom, place_of}
-use Rattle.call_runs.specs.Ending.{AreAnswering, IsAnsweringBody, IsReturning}
+use Rattle.call_runs.specs.Ending.{AreAnswering, IsAnsweringBody, IsBlockAnswering, IsReturned, IsReturning}
 use Rattle.call_runs.specs.Taken.{AllGiven}
-use Rattle.shown_programs.specs.Text.{AreAnsweringTexts, IsAnsweringText, IsReturnText}
+use Rattle.shown_programs.specs.Text.{AreAnsweringTexts, IsAnsweringForm, IsAnsweringText, IsOperatedText, IsReturnForm, IsReturnText}
 use Rattle.shown_programs.proofs.BoundedLemmas.{IsBoundedAt}
 use Rattle.shown_programs.proofs.CallLemmas.{setup, IsKnownAt}
-use Rattle.shown_programs.proofs.PlaceLemmas.{AreGivenStmts, IsGivenStmt, IsPlaced, placed_part, stmt_suits}
+use Rattle.shown_programs.proofs.PlaceLemmas.{AreGivenStmts, IsGivenForm, IsGivenStmt, IsPlaced, placed_inside, placed_part, placed_proper, placed_ranked, placed_under, stmt_suits, value_suits}
 
 -- ---- the scalar that takes an answer: code has none
 
@@ -139,22 +139,68 @@ module _ (program : Program) (settings : List Setting) (laws : Laws program)
       → Text (reach_of (place_of w environment answer currents edge)) form
       → Leaf at form w (place_of w environment answer currents edge)) where
     abbrev Served : Stmt → Where → Place → Type 0
-    Served stmt w place = SuitsStmtBy IsUnder AnyTest Leaf stmt w place
+    Served stmt w place = SuitsStmtBy IsUnder OperatedValue OperatedValue Leaf stmt w place
 
-    return_suits : (stmt : Stmt) (place : Place) → IsProperStmt place stmt → IsReturnText stmt
-        → IsReturning stmt place
-    return_suits (Prefixed at [] (Return value)) place p t =
-        role_scalar place (Result None) value t p
-    return_suits (Prefixed at [] (Assign name op value)) place p t = absurd t
-    return_suits (Prefixed at [] (Invoke name actuals)) place p t = absurd t
-    return_suits (Prefixed at [] (Block body)) place p t = absurd t
-    return_suits (Prefixed at [] (If arms otherwise)) place p t = absurd t
-    return_suits (Prefixed at [] (While test body)) place p t = absurd t
-    return_suits (Prefixed at [] (Repeat body until test)) place p t = absurd t
-    return_suits (Prefixed at [] (For head body)) place p t = absurd t
-    return_suits (Prefixed at [] (Border kind names)) place p t = absurd t
-    return_suits (Prefixed at [] (Write line items)) place p t = absurd t
-    return_suits (Prefixed at (prefix ∷ prefixes) form) place p t = absurd t
+    -- ---- the `return`
+
+    module _ (at : ℕ) (prefixes : List Prefix) (spots : List Spot) (w : Where)
+        (environment : Environment) (answer : ℕ) (currents : Currents) (edge : Option Edge)
+        (shapes : Shapes) where
+      abbrev place : Place
+      place = place_of w environment answer currents edge
+
+      abbrev Placed : Form → Type 0
+      Placed form =
+          IsPlaced program settings laws grammar clean at prefixes form spots w environment answer
+          currents edge shapes
+
+      value_returned : (value : Expr) → (h : Placed (Return value)) → IsOperatedText value
+          → Inside program h.here.text h.here.around
+          (reach_at place shapes h.here.shattered h.here.result) at prefixes (Return value)
+          → OperatedValue value w place
+      value_returned value h t (InStmt k) =
+          let reach = reach_at place shapes h.here.shattered h.here.result in
+          value_suits program settings laws grammar clean proper ranked h.here.text h.here.around spots w
+          environment answer currents edge shapes h.known h.seen h.here.shattered h.here.result
+          (Result None) value (whole_rank reach (Result h.here.result) value) t h.given
+          (placed_proper program settings laws grammar clean proper ranked at prefixes (Return value)
+          spots w environment answer currents edge shapes h)
+          (placed_ranked program settings laws grammar clean proper ranked at prefixes (Return value)
+          spots w environment answer currents edge shapes h) k.1.1
+
+      form_returned : (form : Form) → Placed form → IsReturnForm form
+          → IsReturned OperatedValue form w place
+      form_returned (Return value) h t =
+          value_returned value h t
+          (placed_inside program settings laws grammar clean proper ranked at prefixes (Return value)
+          spots w environment answer currents edge shapes h)
+      form_returned (Assign name op value) h t = absurd t
+      form_returned (Invoke name actuals) h t = absurd t
+      form_returned (Block body) h t = absurd t
+      form_returned (If arms otherwise) h t = absurd t
+      form_returned (While test body) h t = absurd t
+      form_returned (Repeat body until test) h t = absurd t
+      form_returned (For head body) h t = absurd t
+      form_returned (Border kind names) h t = absurd t
+      form_returned (Write line items) h t = absurd t
+
+    return_suits : (stmt : Stmt) (spots : List Spot) (w : Where) (environment : Environment)
+        (answer : ℕ) (currents : Currents) (edge : Option Edge) (shapes : Shapes)
+        → At (place_of w environment answer currents edge) shapes stmt
+        → IsVisited own (place_of w environment answer currents edge) stmt
+        → Here w shapes → IsSeenFrom spots w environment currents
+        → IsBoundedAt (place_of w environment answer currents edge) → IsReturnText stmt
+        → IsGivenStmt own.known stmt
+        → IsReturning OperatedValue stmt w (place_of w environment answer currents edge)
+    return_suits (Prefixed at prefixes form) spots w environment answer currents edge shapes here visited
+        known seen bounded text given =
+        placed_under program settings laws grammar clean proper ranked at prefixes form
+        (λ inner there. IsReturned OperatedValue form inner there) spots w environment answer currents
+        edge shapes here visited known seen bounded text.0 given
+        (λ inner deep last deeper h same.
+        form_returned at prefixes spots inner environment answer deep last deeper form h text.1)
+
+    -- ---- the statements before it
 
     all_suit : (stmts : Stmts) (spots : List Spot) (w : Where) (environment : Environment)
         (answer : ℕ) (currents : Currents) (edge : Option Edge) (shapes : Shapes)
@@ -165,13 +211,14 @@ module _ (program : Program) (settings : List Setting) (laws : Laws program)
         → IsBoundedAt (place_of w environment answer currents edge)
         → AreAnsweringTexts Text (reach_of (place_of w environment answer currents edge)) stmts
         → AreGivenStmts own.known stmts
-        → AreAnswering Served stmts w (place_of w environment answer currents edge)
+        → AreAnswering OperatedValue Served stmts w (place_of w environment answer currents edge)
     all_suit NoStmt spots w environment answer currents edge shapes parts known seen bounded text given =
         absurd text
     all_suit (ThenStmt first NoStmt) spots w environment answer currents edge shapes parts known seen
         bounded text given =
-        let place = place_of w environment answer currents edge in
-        return_suits first place (proper place first (parts first (contains_first first [])).1) text
+        let one = parts first (contains_first first []) in
+        return_suits first spots w environment answer currents edge shapes one.0 one.1 known seen bounded
+        text given.0
     all_suit (ThenStmt first (ThenStmt second rest)) spots w environment answer currents edge shapes
         parts known seen bounded text given =
         let others = list_of (ThenStmt second rest) in
@@ -183,6 +230,37 @@ module _ (program : Program) (settings : List Setting) (laws : Laws program)
               given.1,
         )
 
+    block_suits : (form : Form) (at : ℕ) (prefixes : List Prefix) (spots : List Spot) (w : Where)
+        (environment : Environment) (answer : ℕ) (currents : Currents) (edge : Option Edge)
+        (shapes : Shapes)
+        → IsPlaced program settings laws grammar clean at prefixes form spots w environment answer
+        currents edge shapes
+        → IsAnsweringForm Text (reach_of (place_of w environment answer currents edge)) form
+        → IsGivenForm own.known form
+        → IsBlockAnswering OperatedValue Served form w (place_of w environment answer currents edge)
+    block_suits (Block body) at prefixes spots w environment answer currents edge shapes h text given =
+        all_suit body spots w environment answer currents edge shapes
+        (placed_part program settings laws grammar clean proper ranked at prefixes (Block body) spots w
+        environment answer currents edge shapes h) h.known h.seen h.bounded text given
+    block_suits (Return value) at prefixes spots w environment answer currents edge shapes h text given =
+        absurd text
+    block_suits (Assign name op value) at prefixes spots w environment answer currents edge shapes h text
+        given = absurd text
+    block_suits (Invoke name actuals) at prefixes spots w environment answer currents edge shapes h text
+        given = absurd text
+    block_suits (If arms otherwise) at prefixes spots w environment answer currents edge shapes h text
+        given = absurd text
+    block_suits (While test body) at prefixes spots w environment answer currents edge shapes h text
+        given = absurd text
+    block_suits (Repeat body until test) at prefixes spots w environment answer currents edge shapes h text
+        given = absurd text
+    block_suits (For head body) at prefixes spots w environment answer currents edge shapes h text
+        given = absurd text
+    block_suits (Border kind names) at prefixes spots w environment answer currents edge shapes h text
+        given = absurd text
+    block_suits (Write line items) at prefixes spots w environment answer currents edge shapes h text
+        given = absurd text
+
     pub answering_suits : (body : Stmt) (spots : List Spot) (w : Where) (environment : Environment)
         (answer : ℕ) (currents : Currents) (edge : Option Edge) (shapes : Shapes)
         → At (place_of w environment answer currents edge) shapes body
@@ -191,44 +269,12 @@ module _ (program : Program) (settings : List Setting) (laws : Laws program)
         → IsBoundedAt (place_of w environment answer currents edge)
         → IsAnsweringText Text (reach_of (place_of w environment answer currents edge)) body
         → IsGivenStmt own.known body
-        → IsAnsweringBody Served body w (place_of w environment answer currents edge)
-    answering_suits (Prefixed at [] (Block body)) spots w environment answer currents edge shapes here
+        → IsAnsweringBody OperatedValue Served body w (place_of w environment answer currents edge)
+    answering_suits (Prefixed at prefixes form) spots w environment answer currents edge shapes here
         visited known seen bounded text given =
-        let place = place_of w environment answer currents edge in
-        all_suit body spots w environment answer currents edge shapes
-        (placed_part program settings laws grammar clean proper ranked at [] (Block body) spots w
-        environment answer currents edge shapes (record {
-          start = place;
-          outer = shapes;
-          here = here;
-          visited = visited;
-          under = visits.Itself;
-          shapes_are =
-              sym (ap (λ (r : Reach). r.shapes)
-              (behind program settings laws grammar clean place place shapes at [] (Block body) here
-              visits.Itself).same);
-          known = known;
-          seen = seen;
-          bounded = bounded;
-        }))
-        known seen bounded text given.1
-    answering_suits (Prefixed at [] (Return value)) spots w environment answer currents edge shapes here
-        visited known seen bounded text given = absurd text
-    answering_suits (Prefixed at [] (Assign name op value)) spots w environment answer currents edge
-        shapes here visited known seen bounded text given = absurd text
-    answering_suits (Prefixed at [] (Invoke name actuals)) spots w environment answer currents edge
-        shapes here visited known seen bounded text given = absurd text
-    answering_suits (Prefixed at [] (If arms otherwise)) spots w environment answer currents edge shapes
-        here visited known seen bounded text given = absurd text
-    answering_suits (Prefixed at [] (While test body)) spots w environment answer currents edge shapes
-        here visited known seen bounded text given = absurd text
-    answering_suits (Prefixed at [] (Repeat body until test)) spots w environment answer currents edge
-        shapes here visited known seen bounded text given = absurd text
-    answering_suits (Prefixed at [] (For head body)) spots w environment answer currents edge shapes
-        here visited known seen bounded text given = absurd text
-    answering_suits (Prefixed at [] (Border kind names)) spots w environment answer currents edge shapes
-        here visited known seen bounded text given = absurd text
-    answering_suits (Prefixed at [] (Write line items)) spots w environment answer currents edge shapes
-        here visited known seen bounded text given = absurd text
-    answering_suits (Prefixed at (prefix ∷ prefixes) form) spots w environment answer currents edge
-        shapes here visited known seen bounded text given = absurd text
+        placed_under program settings laws grammar clean proper ranked at prefixes form
+        (λ inner there. IsBlockAnswering OperatedValue Served form inner there) spots w environment answer
+        currents edge shapes here visited known seen bounded text.0 given
+        (λ inner deep last deeper h same.
+        block_suits form at prefixes spots inner environment answer deep last deeper h
+        (subst (λ (r : Reach). IsAnsweringForm Text r form) same text.1) given.1)

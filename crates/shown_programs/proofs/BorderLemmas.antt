@@ -25,13 +25,12 @@ use Rattle.meaning_ranks.specs.Ranked.{AreArraysOf, IsRankedStmt}
 use Rattle.zpl_lowering.specs.Where.{Where, slotted_at}
 use Rattle.lowering_runs.specs.Seen.{Spot, seen_thing}
 use Rattle.served_places.specs.Told.{place_of}
-use Rattle.served_places.proofs.ToldLemmas.{has_slot, writable}
+use Rattle.served_places.proofs.ToldLemmas.{has_slot, or_false, writable}
 use Rattle.border_runs.specs.Bordered.{IsBordered, AreBordered, IsSomeBordered, IsBorder, IsBorderServed, BorderLeaf}
 use Rattle.shown_programs.specs.Text.{IsBorderForm}
 use Rattle.shown_programs.proofs.BoundedLemmas.{IsEdgeAt}
 use Rattle.shown_programs.proofs.CallLemmas.{setup}
 use Rattle.shown_programs.proofs.PlaceLemmas.{IsPlaced, placed_proper, placed_ranked, placed_inside}
-use Rattle.shown_programs.proofs.PrintedLemmas.{neither}
 
 module _ (program : Program) (settings : List Setting) (laws : Laws program)
     (grammar : IsProgram program) (clean : IsFaultless program) where
@@ -86,7 +85,7 @@ module _ (program : Program) (settings : List Setting) (laws : Laws program)
           → AreBordered w (slotted_at w.currents (Some k)) names
       names_suit k has [] arrays flat r = tt
       names_suit k has (name ∷ names) arrays flat r =
-          let parts = neither (is_flood_written reach name)
+          let parts = or_false (is_flood_written reach name)
           (list_any (is_flood_written reach) names) flat in (
             name_suits k has name arrays.0 parts.0 (r.0, tt),
             names_suit k has names arrays.1 parts.1 r.1,
@@ -99,7 +98,7 @@ module _ (program : Program) (settings : List Setting) (laws : Laws program)
           (Border kind all) spots w environment answer currents edge shapes h in
           let r = placed_ranked program settings laws grammar clean proper ranked at prefixes
           (Border kind all) spots w environment answer currents edge shapes h in
-          let flat = (neither (has_flood (shape_at reach w.prefix))
+          let flat = (or_false (has_flood (shape_at reach w.prefix))
           (list_any (is_flood_written reach) all)
           (no_place (has_flood (shape_at reach w.prefix)
           || list_any (is_flood_written reach) all) at i.0.clean.under.floods)).1 in

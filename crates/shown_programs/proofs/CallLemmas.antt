@@ -18,11 +18,13 @@ use Rattle.meaning_ranks.proofs.PlaceLemmas.{IsAt}
 use Rattle.zpl_lowering.specs.Where.{Where}
 use Rattle.zpl_lowering.specs.Statement.{Given}
 use Rattle.lowering_runs.specs.Goes.{World}
-use Rattle.lowering_runs.proofs.SuitLemmas.{FormGoes}
+use Rattle.lowering_runs.proofs.SuitLemmas.{LeafGoes}
 use Rattle.call_runs.specs.Taken.{CallsGo}
 use Rattle.call_runs.specs.Answered.{CallsAnswer}
 use Rattle.call_runs.specs.Leaf as leaf
 use Rattle.call_runs.proofs.LeafLemmas as leaf_lemmas
+use Rattle.operator_runs.specs.Served.{OperatedValue}
+use Rattle.operator_runs.proofs.ValueLemmas.{operated_values}
 use Rattle.served_places.specs.Told.{IsTold}
 use Rattle.served_places.specs.Given.{KnowsGiven}
 use Rattle.lowering_fits.specs.Reach.{FitNames, AreGlobals}
@@ -80,9 +82,10 @@ module _ (program : Program) (settings : List Setting) (laws : Laws program)
 
     -- as further forms
     abbrev pub CallLeaf : ℕ → Form → Where → Place → Type 0
-    CallLeaf = leaf.CallLeaf (IsCalledBy false) (IsCalledBy true)
+    CallLeaf = leaf.CallLeaf (IsCalledBy false) (IsCalledBy true) OperatedValue
 
     pub call_leaves : (world : World) → AreCalls world → (at : ℕ) (form : Form)
-        → FormGoes world CallLeaf at form
+        → LeafGoes world CallLeaf at form
     call_leaves world calls =
-        leaf_lemmas.call_leaves (IsCalledBy false) (IsCalledBy true) world calls.go calls.answer
+        leaf_lemmas.call_leaves (IsCalledBy false) (IsCalledBy true) OperatedValue world calls.go
+        calls.answer (operated_values world)

@@ -1,12 +1,13 @@
 -- A program with arrays, prefixes, a border statement, and a call that hands an array on; one with a
--- call that copies an array and answers; one with a shattered loop, and full folds; and one with full
--- folds in tests.
+-- call that copies an array and answers; one with a shattered loop, and full folds; one with full
+-- folds in tests; one with full folds in a bound, in what a call takes, and in what is returned; and
+-- one with a flood, a partial fold, a remap read and a scan.
 use Rattle.std.proofs.Common.{inl, inr, ℕ, true, false, List, [], ◌∷◌, Some, None, pos, codes, refl}
 use Rattle.zpl_nums.specs.declared.ends.Border.TheVariants.{Wrap}
 use Rattle.zpl_nums.specs.declared.folds.Fold.TheVariants as fold
 use Rattle.zpl_nums.specs.declared.operators.Op.TheVariants as op
 use Rattle.zpl_nums.proofs.IntegerLemmas.{IsInteger-truth}
-use Rattle.zpl_tree.specs.Syntax.{Name, Number, Named, Paren, Pair, Reduce, Value, Prefixed, NoStmt, ThenStmt, Assign, Block, Invoke, While, Write, Return, Call, NoExpr, ThenExpr, Abs, If, Tested, NoArm, ThenArm, NoElse, NoBracket, Bracketed, Rexpr, Dims, NamedRegion, NoPost, Span, NoDim, ThenDim, Integer, Vars, Regions, Directions, Defined, Border, Program}
+use Rattle.zpl_tree.specs.Syntax.{Name, Number, Coord, Named, Paren, Pair, Reduce, Remap, Scan, Flood, Value, Prefixed, NoStmt, ThenStmt, Assign, Block, For, Invoke, While, Write, Return, Call, NoExpr, ThenExpr, Abs, If, Tested, NoArm, ThenArm, NoElse, NoBracket, Bracketed, Rexpr, Dims, NamedRegion, NoPost, Blank, One, Span, NoDim, ThenDim, Integer, Vars, Regions, Directions, Defined, Border, Program}
 use Rattle.zpl_names.specs.Reached.{longest_chain}
 use Rattle.shown_programs.specs.Text.{IsShownProgram}
 
@@ -99,7 +100,7 @@ is_shown = record {
       (
         (
           tt,
-          inr (inr (inr (inr (inr (
+          inr (inr (inr (
             tt,
             record {
               routine = _;
@@ -107,14 +108,14 @@ is_shown = record {
               shown = (
                 (tt, tt),
                 (
-                  (tt, inl (inr (refl, IsInteger-truth true))),
-                  ((tt, inl (inr (refl, (tt, tt)))), tt),
+                  (tt, inr (inr (inl (IsInteger-truth true)))),
+                  ((tt, inr (inr (inl (tt, tt)))), tt),
                 ),
               );
             },
-          ))))),
+          ))),
         ),
-        (((tt, tt), inr (inr (inl tt))), ((tt, inr (inl (inr (refl, tt), tt))), tt)),
+        (((tt, tt), inl tt), ((tt, inr (inr (inl (tt, tt)))), tt)),
       ),
     );
   };
@@ -197,16 +198,19 @@ asks_is_shown = record {
       (
         (
           tt,
-          inr (inr (inr (inr (inr (
+          inr (inr (inr (
             (tt, tt),
             record {
               routine = _;
               named = refl;
-              shown = (((tt, tt), inl (inr (refl, (tt, tt)))), (tt, IsInteger-truth true));
+              shown = (
+                tt,
+                (((tt, tt), inr (inr (inl (tt, tt)))), (tt, (tt, IsInteger-truth true))),
+              );
             },
-          ))))),
+          ))),
         ),
-        ((tt, inl (refl, tt, tt)), tt),
+        ((tt, inr (inr (inl (tt, tt)))), tt),
       ),
     );
   };
@@ -214,7 +218,7 @@ asks_is_shown = record {
 
 -- region R = [1..2]; var A : [R] integer; n : integer;
 -- procedure t(); [R] begin
---   while A < 1 do A += 1; end; n := +<< A; A := A * (+<< (A * n)); writeln(n, max<< A);
+--   while A < 1 do A += 1; end; n := +<< A; A := A * (+<< (A * n)); writeln(n, A, max<< A);
 -- end;
 abbrev folds : Program
 folds = record {
@@ -256,7 +260,8 @@ folds = record {
             (Named 156 (name (codes "n") 156)))))))))
             (ThenStmt (Prefixed 161 [] (Write true
             (Value (Named 169 (name (codes "n") 169))
-            ∷ Value (Reduce 172 fold.Max NoBracket (Named 178 (name (codes "A") 178)))
+            ∷ Value (Named 172 (name (codes "A") 172))
+            ∷ Value (Reduce 175 fold.Max NoBracket (Named 181 (name (codes "A") 181)))
             ∷ []))) NoStmt)))));
       })
       ∷ [];
@@ -275,16 +280,16 @@ folds_is_shown = record {
       (
         (
           tt,
-          inl (inr (inr (inr (inl (
+          inl (inr (inl (
             refl,
             ((tt, IsInteger-truth true), (tt, (IsInteger-truth true, tt))),
-          ))))),
+          ))),
         ),
         (
-          (tt, inr (inr (inr (inr (inl tt))))),
+          (tt, inr (inr (inl tt))),
           (
-            (tt, inr (inr (inr (inr (inl (tt, (tt, tt))))))),
-            ((tt, inr (inr (inr (inr (inl (refl, tt, (refl, tt, tt))))))), tt),
+            (tt, inr (inr (inl (tt, (tt, tt))))),
+            ((tt, inr (inr (inl (tt, (tt, (tt, tt)))))), tt),
           ),
         ),
       ),
@@ -354,8 +359,8 @@ tests_is_shown = record {
           inr (
             refl,
             (
-              inr ((tt, tt), IsInteger-truth true),
-              ((tt, inl (inr (refl, IsInteger-truth true))), tt),
+              ((tt, tt), IsInteger-truth true),
+              ((tt, inr (inr (inl (IsInteger-truth true)))), tt),
             ),
           ),
         ),
@@ -366,7 +371,7 @@ tests_is_shown = record {
               refl,
               (
                 (
-                  (inr (tt, IsInteger-truth true), ((tt, inl (inr (refl, tt))), tt)),
+                  ((tt, IsInteger-truth true), ((tt, inr (inr (inl tt))), tt)),
                   tt,
                 ),
                 tt,
@@ -374,6 +379,202 @@ tests_is_shown = record {
             ),
           ),
           tt,
+        ),
+      ),
+    );
+  };
+}
+
+-- region R = [1..2]; var A : [R] integer; m, n : integer;
+-- procedure q(k : integer) : integer; begin [R] return k + +<< A; end;
+-- procedure t(); [R] begin for n := 1 to +<< A do m := q(max<< A); end; end;
+abbrev answers : Program
+answers = record {
+  name = name (codes "t") 8;
+  decls = Regions (record {
+    name = name (codes "R") 20;
+    body = Dims (ThenDim (Span (Number 25 (pos 1)) (Number 28 (pos 2))) NoDim);
+    posts = NoPost;
+  } ∷ [])
+      ∷ Vars (record {
+        names = name (codes "A") 37 ∷ [];
+        shape = Bracketed (Rexpr [] (NamedRegion (name (codes "R") 42)) NoPost);
+        base = Integer;
+      }
+      ∷ record {
+        names = name (codes "m") 54 ∷ name (codes "n") 57 ∷ [];
+        shape = NoBracket;
+        base = Integer;
+      }
+      ∷ [])
+      ∷ Defined (record {
+        name = name (codes "q") 80;
+        params = record {
+          by_ref = false;
+          names = name (codes "k") 82 ∷ [];
+          shape = NoBracket;
+          base = Integer;
+        } ∷ [];
+        result = Some Integer;
+        locals = [];
+        body = Prefixed 105 [] (Block
+            (ThenStmt (Prefixed 111
+            (record {
+              at = 111;
+              region = Rexpr [] (NamedRegion (name (codes "R") 112)) NoPost;
+              mask = None;
+            } ∷ [])
+            (Return (Pair 124 op.Add (Named 122 (name (codes "k") 122))
+            (Reduce 126 fold.Sum NoBracket (Named 130 (name (codes "A") 130)))))) NoStmt));
+      })
+      ∷ Defined (record {
+        name = name (codes "t") 150;
+        params = [];
+        result = None;
+        locals = [];
+        body = Prefixed 155
+            (record {
+              at = 155;
+              region = Rexpr [] (NamedRegion (name (codes "R") 156)) NoPost;
+              mask = None;
+            } ∷ [])
+            (Block
+            (ThenStmt (Prefixed 165 [] (For (record {
+              name = name (codes "n") 169;
+              first = Number 174 (pos 1);
+              down = false;
+              last = Reduce 179 fold.Sum NoBracket (Named 183 (name (codes "A") 183));
+              step = None;
+            })
+            (ThenStmt (Prefixed 188 [] (Assign (name (codes "m") 188) None (Call 193
+            (name (codes "q") 193)
+            (ThenExpr (Reduce 195 fold.Max NoBracket (Named 201 (name (codes "A") 201)))
+            NoExpr)))) NoStmt))) NoStmt));
+      })
+      ∷ [];
+  source = [];
+}
+
+answers_is_shown : IsShownProgram answers []
+unfolding longest_chain
+answers_is_shown = record {
+  values = λ text. IsInteger-truth false;
+  entry = record {
+    routine = _;
+    named = refl;
+    shown = (
+      (tt, tt),
+      (
+        (
+          tt,
+          (
+            (IsInteger-truth true, tt, IsInteger-truth true),
+            (
+              (
+                tt,
+                inr (inr (inr (
+                  (tt, tt),
+                  record { routine = _; named = refl; shown = (tt, ((tt, tt), (tt, tt))) },
+                ))),
+              ),
+              tt,
+            ),
+          ),
+        ),
+        tt,
+      ),
+    );
+  };
+}
+
+-- region R = [1..2, 1..2]; C = [1..2, 1]; var A, B : [R] integer; D : [C] integer;
+-- procedure t(); [R] begin
+--   B := A + >>[ , 1] A; [C] D := +<<[R] A; A := B#[Index2, Index1]; writeln(max||A);
+-- end;
+abbrev operators : Program
+operators = record {
+  name = name (codes "t") 8;
+  decls = Regions (record {
+    name = name (codes "R") 20;
+    body = Dims
+        (ThenDim (Span (Number 25 (pos 1)) (Number 28 (pos 2)))
+        (ThenDim (Span (Number 31 (pos 1)) (Number 34 (pos 2))) NoDim));
+    posts = NoPost;
+  }
+      ∷ record {
+        name = name (codes "C") 38;
+        body = Dims
+            (ThenDim (Span (Number 43 (pos 1)) (Number 46 (pos 2)))
+            (ThenDim (One (Number 49 (pos 1))) NoDim));
+        posts = NoPost;
+      }
+      ∷ [])
+      ∷ Vars (record {
+        names = name (codes "A") 57 ∷ name (codes "B") 60 ∷ [];
+        shape = Bracketed (Rexpr [] (NamedRegion (name (codes "R") 65)) NoPost);
+        base = Integer;
+      }
+      ∷ record {
+        names = name (codes "D") 77 ∷ [];
+        shape = Bracketed (Rexpr [] (NamedRegion (name (codes "C") 82)) NoPost);
+        base = Integer;
+      }
+      ∷ [])
+      ∷ Defined (record {
+        name = name (codes "t") 104;
+        params = [];
+        result = None;
+        locals = [];
+        body = Prefixed 109
+            (record {
+              at = 109;
+              region = Rexpr [] (NamedRegion (name (codes "R") 110)) NoPost;
+              mask = None;
+            } ∷ [])
+            (Block
+            (ThenStmt (Prefixed 121 [] (Assign (name (codes "B") 121) None
+            (Pair 128 op.Add (Named 126 (name (codes "A") 126))
+            (Flood 130 (Dims (ThenDim (Blank 133) (ThenDim (One (Number 135 (pos 1))) NoDim)))
+            (Named 138 (name (codes "A") 138))))))
+            (ThenStmt (Prefixed 145
+            (record {
+              at = 141;
+              region = Rexpr [] (NamedRegion (name (codes "C") 142)) NoPost;
+              mask = None;
+            } ∷ [])
+            (Assign (name (codes "D") 145) None (Reduce 150 fold.Sum
+            (Bracketed (Rexpr [] (NamedRegion (name (codes "R") 154)) NoPost))
+            (Named 157 (name (codes "A") 157)))))
+            (ThenStmt (Prefixed 160 [] (Assign (name (codes "A") 160) None
+            (Remap 165 (name (codes "B") 165)
+            (ThenExpr (Coord 168 2) (ThenExpr (Coord 176 1) NoExpr)))))
+            (ThenStmt (Prefixed 185 [] (Write true
+            (Value (Scan 193 fold.Max None (Named 198 (name (codes "A") 198))) ∷ []))) NoStmt)))));
+      })
+      ∷ [];
+  source = [];
+}
+
+operators_is_shown : IsShownProgram operators []
+unfolding longest_chain
+operators_is_shown = record {
+  values = λ text. IsInteger-truth false;
+  entry = record {
+    routine = _;
+    named = refl;
+    shown = (
+      (tt, tt),
+      (
+        (tt, inr (inr (inl (tt, ((tt, (IsInteger-truth true, tt)), tt))))),
+        (
+          ((tt, tt), inr (inr (inl (tt, tt)))),
+          (
+            (tt, inr (inr (inl (tt, (tt, tt))))),
+            (
+              (tt, inr (inr (inl (tt, tt)))),
+              tt,
+            ),
+          ),
         ),
       ),
     );

@@ -2,14 +2,18 @@
 -- names stand for what is of their kinds, and slots, masks and arrays are as the text says.
 use Rattle.std.proofs.Common.{◌≡◌, ℕ, zero, suc, ◌-◌, false, ℤ, List, []}
 use Rattle.std.proofs.Common.{◌∷◌, map, take, drop, length, Option, Some, None, refl, sym, ap}
-use Rattle.std.proofs.Common.{◌∙◌, subst, arith, inl, inr}
-use Rattle.std.specs.Prelude.{slice_get, option_map, replicate}
+use Rattle.std.proofs.Common.{◌∙◌, subst, arith, inl, inr, rules}
+use Rattle.std.specs.Prelude.{slice_get, option_map, replicate, pos, ◌≤ℤ◌}
 use Rattle.std.specs.Option.{IsSomeAnd}
+use Rattle.std.specs.List.{AllByRecursion}
+use Rattle.std.proofs.lemmas.List.Elements.{All-from_recursion}
 use Rattle.std.specs.Str.{bytes_eq}
 use Rattle.zpl_region.specs.declared.dims.Dim.{Dim}
 use Rattle.zpl_region.specs.declared.dims.Dim.TheVariants as dim
 use Rattle.zpl_region.specs.declared.regions.Region.{Region}
-use Rattle.zpl_region.specs.Region.{components, padding}
+use Rattle.zpl_region.specs.Dim.{HasStep}
+use Rattle.zpl_region.specs.Region.{IsRegion, components, padding}
+use Rattle.zpl_region.proofs.TestLemmas.{is_within_limit_iff}
 use Rattle.zpl_tree.specs.Syntax.{Name, Dir, Program}
 use Rattle.zpl_tree.specs.Grammar.{IsProgram}
 use Rattle.zpl_names.specs.Kinds.{Shape}
@@ -45,7 +49,7 @@ use Rattle.served_places.specs.Given.{KnowsGiven}
 use Rattle.served_places.proofs.SlotLemmas.{declared_given}
 use Rattle.lowering_fits.specs.Reach.{IsGivenBox, IsStoredAs, FitNames}
 use Rattle.lowering_fits.specs.Lowerings.{AllRanks, region_rank}
-use Rattle.lowering_fits.specs.Storages.{IsStorage, AllKept}
+use Rattle.lowering_fits.specs.Storages.{AllBoxed, IsStorage, AllKept}
 use Rattle.lowering_fits.proofs.VectorLemmas.{VectorBy}
 use Rattle.lowering_fits.proofs.KnownLemmas.{IsThreeBy}
 use Rattle.lowering_fits.proofs.KeptLemmas.{Grows}
@@ -102,6 +106,19 @@ kept_at (one ∷ arrays) zero stored are e =
     let same : one ≡ stored = cc in subst (λ (s : Stored). IsStorage s.storage) same are.0
 kept_at (one ∷ arrays) (suc place) stored are e = kept_at arrays place stored are.1 e
 
+-- a storage is a region
+boxed_steps : (dims : List Dim) → AllBoxed dims → AllByRecursion HasStep dims
+boxed_steps [] h = tt
+boxed_steps (dim.Flood ∷ dims) h = (tt, boxed_steps dims h.1)
+boxed_steps (dim.Range lo hi step align ∷ dims) h =
+    (subst (λ (s : ℤ). pos 1 ≤ℤ s) (sym h.0.0) (search rules), boxed_steps dims h.1)
+
+storage_region : (storage : Region) → IsStorage storage → IsRegion storage
+storage_region storage is =
+    let steps = boxed_steps storage.dims is.boxed in
+    is_region storage is.is_rank.0 is.is_rank.1 (steps, is.padded)
+    ((is_within_limit_iff storage (All-from_recursion HasStep storage.dims steps)).1 is.limit)
+
 stored_told : (shape : Option Shape) (stored : Stored) → IsStoredAs shape stored
     → IsStorage stored.storage → IsStoredOf shape (Some stored)
 stored_told None stored like is = let no : ⊥ = none like.rank in absurd no
@@ -109,9 +126,13 @@ stored_told None stored like is = let no : ⊥ = none like.rank in absurd no
     none : option_map length (let n : Option Shape = None in n) ≡ Some stored.storage.rank → ⊥
     none e = cc
 stored_told (Some shape) stored like is =
-    let rank : length shape ≡ stored.storage.rank = some like.rank in
-    floods_are 3 shape stored.storage.dims is.three (like.floods shape refl)
-    (subst (λ (k : ℕ). drop k stored.storage.dims ≡ replicate (3 - k) padding) (sym rank) is.padded)
+    let rank : length shape ≡ stored.storage.rank = some like.rank in (
+      floods_are 3 shape stored.storage.dims is.three (like.floods shape refl)
+          (subst (λ (k : ℕ). drop k stored.storage.dims ≡ replicate (3 - k) padding) (sym rank)
+          is.padded),
+      sym rank,
+      storage_region stored.storage is,
+    )
   where
     some : {a b : ℕ} → Some a ≡ Some b → a ≡ b
     some e = cc

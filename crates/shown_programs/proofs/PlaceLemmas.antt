@@ -1,20 +1,16 @@
 -- Statements of whole programs suit the places where they are run: by what the text says of prefixes,
 -- and by what is known of forms that have no statements in them.
-use Rattle.std.proofs.Common.{◌≡◌, inl, inr, ℕ, Bool, true, false, List, [], ◌∷◌, ◌++◌}
-use Rattle.std.proofs.Common.{map, length, Option, Some, None, option_to_list, refl, sym, ap, ◌∙◌, subst}
-use Rattle.std.proofs.Common.{pos}
+use Rattle.std.proofs.Common.{◌≡◌, inl, inr, ℕ, Bool, false, List, [], ◌∷◌, ◌++◌}
+use Rattle.std.proofs.Common.{map, Option, Some, None, option_to_list, refl, sym, ap, ◌∙◌, subst}
 use Rattle.std.specs.Prelude.{Contains}
 use Rattle.std.specs.List.{AllByRecursion}
 use Rattle.std.proofs.lemmas.List.Elements.{Contains-append_left, Contains-append_right}
-use Rattle.zpl_region.specs.declared.dims.Dim.{Dim}
-use Rattle.zpl_region.specs.declared.dims.Dim.TheVariants as dim
-use Rattle.zpl_tree.specs.Syntax.{Expr, Base, Inner, Rexpr, Dims, Mask as MaskText, Prefix, Stmt, Prefixed, Stmts, NoStmt, ThenStmt, Form, Assign, Invoke, Block, If, While, Repeat, For, Border, Write, Return, Tested, Arms, NoArm, ThenArm, Otherwise, NoElse, Else, Program}
+use Rattle.zpl_tree.specs.Syntax.{Expr, ForHead, Base, Mask as MaskText, Prefix, Stmt, Prefixed, Stmts, NoStmt, ThenStmt, Form, Assign, Invoke, Block, If, While, Repeat, For, Border, Write, Return, Tested, Arms, NoArm, ThenArm, Otherwise, NoElse, Else, Program}
 use Rattle.zpl_tree.specs.Grammar.{IsPrefix, IsProgram}
-use Rattle.zpl_names.specs.Kinds.{Rank, Shape}
-use Rattle.zpl_names.specs.Scope.{Scope}
+use Rattle.zpl_names.specs.Kinds.{Rank}
 use Rattle.zpl_names.specs.Ranks.{mask_rank}
-use Rattle.zpl_names.specs.Shapes.{Current, Absent, Unknown, Over as Shaped, Shapes, current_at, inner_shape, shape_within, prefix_rank, shapes_under}
-use Rattle.zpl_names.specs.Sites.{Reach, Site, AtMask, Limit, Test as TestRole, region_sites, prefix_sites, prefixes_sites, under_prefixes, arms_rank, arms_sites, expr_sites, inside, is_shattered, otherwise_sites, stmts_sites, test_rank, whole_rank, whole_sites}
+use Rattle.zpl_names.specs.Shapes.{Shapes, current_at, inner_shape, prefix_rank, shapes_under}
+use Rattle.zpl_names.specs.Sites.{Reach, Role, Site, AtMask, Limit, Test as TestRole, region_sites, prefix_sites, prefixes_sites, under_prefixes, arms_rank, arms_sites, expr_sites, inside, is_shattered, otherwise_sites, step_sites, stmts_sites, test_rank, whole_rank, whole_sites}
 use Rattle.zpl_names.specs.Sites.{under_prefix as reach_under}
 use Rattle.zpl_names.specs.Faults.{flood_clashes}
 use Rattle.zpl_names.specs.Accepted.{IsFaultless}
@@ -22,7 +18,7 @@ use Rattle.zpl_binding.specs.Regions.{Known}
 use Rattle.zpl_binding.proofs.LimitLemmas.{HasLimited}
 use Rattle.zpl_binding.specs.Settings.{Setting}
 use Rattle.zpl_meaning.specs.Store.{Environment}
-use Rattle.zpl_meaning.specs.Context.{Over, Currents, Edge, Setup, Place, reach_of}
+use Rattle.zpl_meaning.specs.Context.{Currents, Edge, Setup, Place, reach_of}
 use Rattle.zpl_meaning.specs.Proper.{IsProperForm, IsProperUnder, IsProper, IsProperScalar, IsProperStmt, AreProperTests}
 use Rattle.zpl_meaning.specs.Regions as mean
 use Rattle.zpl_meaning.specs.Visited as visits
@@ -33,87 +29,26 @@ use Rattle.zpl_meaning.proofs.ProperLemmas.{IsClean, Clean, Fits as FitsPlace, r
 use Rattle.zpl_meaning.proofs.StatementLemmas.{fits_under}
 use Rattle.zpl_meaning.proofs.VisitLemmas.{Laws, IsHere, clean_of, Inside, InStmt}
 use Rattle.meaning_ranks.specs.Ranked.{AreRankedTests, IsOfRank, IsRanked, IsRankedForm, IsRankedTested, IsRankedUnder, IsRankedStmt}
-use Rattle.meaning_ranks.specs.Shaped.{AreFloods}
-use Rattle.meaning_ranks.proofs.CurrentLemmas.{AreTold, region_told, region_first}
-use Rattle.meaning_ranks.proofs.CurrentLemmas as currents
+use Rattle.meaning_ranks.proofs.CurrentLemmas.{region_told, region_first}
 use Rattle.meaning_ranks.proofs.PlaceLemmas.{IsAt, behind, inside_at, part_at}
-use Rattle.zpl_lowering.specs.Where.{Slotted, SlotCurrents, Where}
+use Rattle.zpl_lowering.specs.Where.{Where}
 use Rattle.zpl_lowering.specs.Statement as low
 use Rattle.lowering_runs.specs.Seen.{Spot}
-use Rattle.lowering_runs.specs.Suits.{SuitsStmtBy, SuitAllBy, SuitsFormBy, SuitArmsBy, SuitsElseBy}
-use Rattle.lowering_runs.proofs.StatementLemmas.{role_scalar, false_choice, contains_first, contains_later}
-use Rattle.operator_runs.specs.Served.{AnyTest}
-use Rattle.prefix_runs.specs.Opens.{AreGivenPosts}
+use Rattle.lowering_runs.specs.Suits.{IsServedHeadBy, SuitsStmtBy, SuitAllBy, SuitsFormBy, SuitArmsBy, SuitsElseBy}
+use Rattle.lowering_runs.proofs.StatementLemmas.{false_choice, contains_first, contains_later}
+use Rattle.operator_runs.specs.Served.{OperatedValue}
 use Rattle.prefix_runs.specs.Under.{opened_at, over_of, mean_under, IsUnder}
-use Rattle.served_places.specs.Told.{IsSlotTold, AreSlotsTold, IsSeenFrom, AreFree, place_of}
-use Rattle.served_places.specs.Given.{IsSound}
+use Rattle.served_places.specs.Told.{IsSeenFrom, AreFree, place_of}
 use Rattle.served_places.proofs.GivenLemmas.{prefix_opens}
 use Rattle.served_places.proofs.PrefixLemmas.{under_told}
 use Rattle.served_places.proofs.CleanLemmas.{one_with, two_with, three_with}
-use Rattle.shown_programs.specs.Text.{HasSmallInner, HaveSmallPrefixes, behind_prefixes, IsTestText, IsShownStmt, AreShown, IsShownForm, AreShownArms, IsShownElse}
+use Rattle.shown_programs.specs.Operators.{IsOperatedExpr}
+use Rattle.shown_programs.specs.Text.{HaveSmallPrefixes, behind_prefixes, IsOperatedText, IsShownStmt, AreShown, IsShownForm, AreShownArms, IsShownElse}
 use Rattle.shown_programs.proofs.BoundedLemmas.{IsBoundedAt, bounded_under, known_limited}
 use Rattle.shown_programs.proofs.CallLemmas.{setup, IsKnownAt}
-use Rattle.shown_programs.proofs.OperatedLemmas.{operated_alone}
-
--- ---- regions of the shapes that slots have
-
-abbrev shape_dims : Shape → List Dim
-shape_dims [] = []
-shape_dims (true ∷ shape) = dim.Flood ∷ shape_dims shape
-shape_dims (false ∷ shape) = dim.Range (pos 0) (pos 0) (pos 1) (pos 0) ∷ shape_dims shape
-
-shape_floods : (shape : Shape) → AreFloods shape (shape_dims shape)
-shape_floods [] = tt
-shape_floods (true ∷ shape) = (refl, shape_floods shape)
-shape_floods (false ∷ shape) = (refl, shape_floods shape)
-
-abbrev some_over : Current → Option Over
-some_over Absent = None
-some_over Unknown = None
-some_over (Shaped shape masked) =
-    Some (record {
-      region = record { rank = length shape; dims = shape_dims shape };
-      mask = None;
-    })
-
-over_told : (rank : ℕ) (current : Current) (o : Option Slotted) → IsSlotTold rank current o
-    → currents.IsTold rank current (some_over current)
-over_told rank Absent o h = refl
-over_told rank Unknown o h = h
-over_told rank (Shaped shape masked) None h = absurd h
-over_told rank (Shaped shape masked) (Some slotted) h =
-    (h.0, λ e. refl, record { rank = refl; floods = shape_floods shape })
-
-abbrev currents_of : Shapes → Currents
-currents_of shapes =
-    record {
-      one = some_over shapes.one;
-      two = some_over shapes.two;
-      three = some_over shapes.three;
-    }
-
-are_told : (shapes : Shapes) (slots : SlotCurrents) → AreSlotsTold shapes slots
-    → AreTold shapes (currents_of shapes)
-are_told shapes slots h = record {
-  one = over_told 1 shapes.one slots.one h.one;
-  two = over_told 2 shapes.two slots.two h.two;
-  three = over_told 3 shapes.three slots.three h.three;
-}
-
--- the shape of a bracket
-record IsShapeOf (scope : Scope) (current : Current) (n : ℕ) (region : Inner) : Type 0 where
-  shape : Shape
-  is : shape_within scope current region ≡ Some shape
-  many : length shape ≡ n
-
-shape_of : (scope : Scope) (current : Current) (n : ℕ) (region : Inner)
-    → currents.HasLength n (shape_within scope current region) → IsShapeOf scope current n region
-shape_of scope current n region = by (shape_within scope current region) refl
-  where
-    by : (o : Option Shape) → shape_within scope current region ≡ o → currents.HasLength n o
-        → IsShapeOf scope current n region
-    by None e h = absurd h
-    by (Some shape) e h = record { shape = shape; is = e; many = h }
+use Rattle.shown_programs.proofs.ShapeLemmas.{are_told, currents_of, shape_of}
+use Rattle.shown_programs.proofs.OperandLemmas.{serves_alone}
+use Rattle.shown_programs.proofs.SourceLemmas.{AllGivenSources, AreGivenInner, AreGivenItems, AreGivenSources, operated_text, sound_inner}
 
 -- ---- sites without a clash
 
@@ -151,14 +86,15 @@ ranked_choice : (b : Bool) (place : Place) (form : Form) → b ≡ false → IsR
 ranked_choice b place form e h = subst (λ (c : Bool). IsRankedTested c place form) e h
 
 -- vectors that stand in brackets have no fault
-abbrev pub AreGivenInner : Known → Inner → Type 0
-AreGivenInner known (Rexpr pre base post) = AreGivenPosts known post
-AreGivenInner known (Dims dims) = Unit {0}
-
 abbrev pub AreGivenPrefixes : Known → List Prefix → Type 0
 AreGivenPrefixes known [] = Unit {0}
 AreGivenPrefixes known (prefix ∷ rest) =
     AreGivenInner known prefix.region × AreGivenPrefixes known rest
+
+abbrev pub IsGivenHead : Known → ForHead → Type 0
+IsGivenHead known head =
+    AreGivenSources known head.first × AreGivenSources known head.last
+    × AreGivenSources known (step_expr head.step)
 
 abbrev mutual
   pub IsGivenStmt : Known → Stmt → Type 0
@@ -172,28 +108,23 @@ abbrev mutual
   pub IsGivenForm : Known → Form → Type 0
   IsGivenForm known (Block body) = AreGivenStmts known body
   IsGivenForm known (If arms otherwise) = AreGivenArms known arms × IsGivenElse known otherwise
-  IsGivenForm known (While test body) = AreGivenStmts known body
-  IsGivenForm known (Repeat body until test) = AreGivenStmts known body
-  IsGivenForm known (For head body) = AreGivenStmts known body
-  IsGivenForm known (Assign name op value) = Unit {0}
-  IsGivenForm known (Invoke name actuals) = Unit {0}
+  IsGivenForm known (While test body) = AreGivenSources known test × AreGivenStmts known body
+  IsGivenForm known (Repeat body until test) = AreGivenSources known test × AreGivenStmts known body
+  IsGivenForm known (For head body) = IsGivenHead known head × AreGivenStmts known body
+  IsGivenForm known (Assign name op value) = AreGivenSources known value
+  IsGivenForm known (Invoke name actuals) = AllGivenSources known actuals
   IsGivenForm known (Border kind names) = Unit {0}
-  IsGivenForm known (Write line items) = Unit {0}
-  IsGivenForm known (Return value) = Unit {0}
+  IsGivenForm known (Write line items) = AreGivenItems known items
+  IsGivenForm known (Return value) = AreGivenSources known value
 
   pub AreGivenArms : Known → Arms → Type 0
   AreGivenArms known NoArm = Unit {0}
   AreGivenArms known (ThenArm (Tested at test body) rest) =
-      AreGivenStmts known body × AreGivenArms known rest
+      (AreGivenSources known test × AreGivenStmts known body) × AreGivenArms known rest
 
   pub IsGivenElse : Known → Otherwise → Type 0
   IsGivenElse known NoElse = Unit {0}
   IsGivenElse known (Else body) = AreGivenStmts known body
-
-sound_inner : (known : Known) (region : Inner) → AreGivenInner known region → HasSmallInner region
-    → IsSound known region
-sound_inner known (Rexpr pre base post) h s = h
-sound_inner known (Dims dims) h s = s
 
 module _ (program : Program) (settings : List Setting) (laws : Laws program)
     (grammar : IsProgram program) (clean : IsFaultless program) where
@@ -221,6 +152,7 @@ module _ (program : Program) (settings : List Setting) (laws : Laws program)
     pub known : Here w shapes
     pub seen : IsSeenFrom spots w environment currents
     pub bounded : IsBoundedAt (place_of w environment answer currents edge)
+    pub given : IsGivenForm own_setup.known form
 
   module _ (proper : (place : Place) (stmt : Stmt) → IsVisited own_setup place stmt
       → IsProperStmt place stmt)
@@ -360,6 +292,53 @@ module _ (program : Program) (settings : List Setting) (laws : Laws program)
               (place_of w environment answer currents edge) shapes shattered result) prefix m) ≡ [])
               same h.0.under.floods
 
+    -- what is asked behind the prefixes of a statement
+    pub placed_under : (at : ℕ) (prefixes : List Prefix) (form : Form)
+        (IsServed : Where → Place → Type 0) (spots : List Spot) (w : Where)
+        (environment : Environment) (answer : ℕ) (currents : Currents) (edge : Option Edge)
+        (shapes : Shapes)
+        → At (place_of w environment answer currents edge) shapes (Prefixed at prefixes form)
+        → IsVisited own_setup (place_of w environment answer currents edge)
+        (Prefixed at prefixes form)
+        → Here w shapes → IsSeenFrom spots w environment currents
+        → IsBoundedAt (place_of w environment answer currents edge) → HaveSmallPrefixes prefixes
+        → IsGivenStmt own_setup.known (Prefixed at prefixes form)
+        → ((inner : Where) (deep : Currents) (last : Option Edge) (deeper : Shapes)
+        → IsPlaced at prefixes form spots inner environment answer deep last deeper
+        → behind_prefixes (reach_of (place_of w environment answer currents edge)) prefixes
+        ≡ reach_of (place_of inner environment answer deep last)
+        → IsServed inner (place_of inner environment answer deep last))
+        → IsUnder (low.is_border form) prefixes IsServed w (place_of w environment answer currents edge)
+    placed_under at prefixes form IsServed spots w environment answer currents edge shapes here visited
+        known seen bounded small given served =
+        let place = place_of w environment answer currents edge in
+        let stmt = Prefixed at prefixes form in
+        under_suits environment answer spots here.shattered here.result form IsServed
+        (low.is_border form) prefixes w currents edge shapes
+        (clean_of program here.text here.around _ here.sites.0) here.tree.0 here.fits
+        (proper place stmt visited) (ranked place stmt visited) small
+        (subst (λ (s : Setup). AreGivenPrefixes s.known prefixes) (sym known.owned) given.0) known seen
+        bounded
+        (λ inner deep last deeper under is known' seen' bounded'.
+        served inner deep last deeper
+        (record {
+          start = place;
+          outer = shapes;
+          here = here;
+          visited = visited;
+          under = under;
+          shapes_are =
+              sym (ap (λ (r : Reach). r.shapes)
+              (behind program settings laws grammar clean place
+              (place_of inner environment answer deep last) shapes at prefixes form here under).same)
+              ∙ is;
+          known = known';
+          seen = seen';
+          bounded = bounded';
+          given = given.1;
+        })
+        (reach_behind prefixes place (place_of inner environment answer deep last) under))
+
     -- ---- tests
 
     module _ (text : List ℕ) (around : Shapes) (spots : List Spot) (w : Where)
@@ -372,36 +351,87 @@ module _ (program : Program) (settings : List Setting) (laws : Laws program)
       abbrev test_reach : Reach
       test_reach = reach_at tested shapes shattered result
 
-      test_suits : (test : Expr) → IsTestText test → IsProperScalar tested TestRole test
-          → IsRanked tested TestRole test
-          → Each (IsHere program text around) (whole_sites test_reach TestRole test)
-          → AnyTest test w tested
-      test_suits test (inl scalar) p r sites = inl (role_scalar tested TestRole test scalar p)
-      test_suits test (inr folded) p r sites =
-          inr (operated_alone spots w environment answer currents edge shapes seen known.told shattered
-          result test (whole_rank test_reach TestRole test) folded (
-            subst (λ (k : Rank). IsOfRank tested k test) p.0 r,
-            subst (λ (k : Rank). IsProper tested k test) p.0 p.1,
+      -- a value, with what was computed before the run
+      pub operated_here : (value : Expr) → IsOperatedText value
+          → AreGivenSources own_setup.known value → IsOperatedExpr w.setup.known value
+      operated_here value text given =
+          operated_text w.setup.known value text
+          (subst (λ (s : Setup). AreGivenSources s.known value) (sym known.owned) given)
+
+      -- one of rank 0
+      pub value_suits : (role : Role) (value : Expr) (rank : Rank) → IsOperatedText value
+          → AreGivenSources own_setup.known value → IsProperScalar tested role value
+          → IsRanked tested role value
+          → Each (IsHere program text around) (expr_sites test_reach rank value)
+          → OperatedValue value w tested
+      value_suits role value rank operated given p r sites =
+          serves_alone spots environment answer edge shattered result w currents shapes
+          (record { seen = seen; told = known.told; given = known.given }) value rank
+          (operated_here value operated given) (
+            subst (λ (k : Rank). IsOfRank tested k value) p.0 r,
+            subst (λ (k : Rank). IsProper tested k value) p.0 p.1,
           )
-          (each_free program text around
-          (expr_sites test_reach (whole_rank test_reach TestRole test) test) sites.1))
+          (clean_of program text around (expr_sites test_reach rank value) sites)
+
+      test_suits : (test : Expr) → IsOperatedText test → AreGivenSources own_setup.known test
+          → IsProperScalar tested TestRole test → IsRanked tested TestRole test
+          → Each (IsHere program text around) (whole_sites test_reach TestRole test)
+          → OperatedValue test w tested
+      test_suits test t given p r sites =
+          value_suits TestRole test (whole_rank test_reach TestRole test) t given p r sites.1
+
+      -- the bounds and the step of a `for`
+      step_suits : (step : Option Expr) → IsOperatedText (step_expr step)
+          → AreGivenSources own_setup.known (step_expr step)
+          → IsProperScalar tested Limit (step_expr step) → IsRanked tested Limit (step_expr step)
+          → Each (IsHere program text around) (step_sites test_reach step)
+          → OperatedValue (step_expr step) w tested
+      step_suits None operated given p r sites = operated
+      step_suits (Some step) operated given p r sites =
+          value_suits Limit step (whole_rank test_reach Limit step) operated given p r sites.1
+
+      head_suits : (at : ℕ) (prefixes : List Prefix) (head : ForHead) (body : Stmts)
+          → Inside program text around test_reach at prefixes (For head body)
+          → (IsOperatedText head.first × IsOperatedText head.last
+          × IsOperatedText (step_expr head.step))
+          → IsGivenHead own_setup.known head → IsProperForm tested (For head body)
+          → IsRankedForm tested (For head body) → IsServedHeadBy OperatedValue head w tested
+      head_suits at prefixes head body (InStmt sites) t given p r =
+          let Sited = IsHere program text around in
+          let first = whole_sites test_reach Limit head.first in
+          let last = whole_sites test_reach Limit head.last in
+          let step = step_sites test_reach head.step in
+          let inner = stmts_sites (inside test_reach (Some 0)) body in
+          let heads = each_left Sited ((first ++ last) ++ step) inner sites.1 in
+          let bounds = each_left Sited (first ++ last) step heads in
+          let one = each_left Sited first last bounds in
+          let other = each_right Sited first last bounds in (
+            value_suits Limit head.first (whole_rank test_reach Limit head.first) t.0 given.0 p.1 r.0
+                one.1,
+            value_suits Limit head.last (whole_rank test_reach Limit head.last) t.1 given.1 p.2 r.1
+                other.1,
+            step_suits head.step t.2 given.2 p.3 r.2
+                (each_right Sited (first ++ last) step heads),
+            p.0,
+          )
 
       -- the test of a `while` or a `repeat`
       while_suits : (at : ℕ) (prefixes : List Prefix) (test : Expr) (body : Stmts)
-          → Inside program text around test_reach at prefixes (While test body) → IsTestText test
-          → IsProperScalar tested TestRole test → IsRanked tested TestRole test
-          → AnyTest test w tested
-      while_suits at prefixes test body (InStmt sites) t p r =
-          test_suits test t p r
+          → Inside program text around test_reach at prefixes (While test body) → IsOperatedText test
+          → AreGivenSources own_setup.known test → IsProperScalar tested TestRole test
+          → IsRanked tested TestRole test → OperatedValue test w tested
+      while_suits at prefixes test body (InStmt sites) t given p r =
+          test_suits test t given p r
           (each_left (IsHere program text around) (whole_sites test_reach TestRole test)
           (stmts_sites (inside test_reach (test_rank test_reach test)) body) sites.1)
 
       repeat_suits : (at : ℕ) (prefixes : List Prefix) (body : Stmts) (until : ℕ) (test : Expr)
           → Inside program text around test_reach at prefixes (Repeat body until test)
-          → IsTestText test → IsProperScalar tested TestRole test → IsRanked tested TestRole test
-          → AnyTest test w tested
-      repeat_suits at prefixes body until test (InStmt sites) t p r =
-          test_suits test t p r
+          → IsOperatedText test → AreGivenSources own_setup.known test
+          → IsProperScalar tested TestRole test → IsRanked tested TestRole test
+          → OperatedValue test w tested
+      repeat_suits at prefixes body until test (InStmt sites) t given p r =
+          test_suits test t given p r
           (each_right (IsHere program text around)
           (stmts_sites (inside test_reach (test_rank test_reach test)) body)
           (whole_sites test_reach TestRole test) sites.1)
@@ -437,37 +467,15 @@ module _ (program : Program) (settings : List Setting) (laws : Laws program)
             → IsBoundedAt (place_of w environment answer currents edge)
             → IsShownStmt Text (reach_of (place_of w environment answer currents edge)) stmt
             → IsGivenStmt own_setup.known stmt
-            → SuitsStmtBy IsUnder AnyTest Leaf stmt w (place_of w environment answer currents edge)
+            → SuitsStmtBy IsUnder OperatedValue OperatedValue Leaf stmt w (place_of w environment answer currents edge)
         stmt_suits (Prefixed at prefixes form) spots w environment answer currents edge shapes here
             visited known seen bounded text given =
-            let place = place_of w environment answer currents edge in
-            let stmt = Prefixed at prefixes form in
-            under_suits environment answer spots here.shattered here.result form
-            (λ inner there. SuitsFormBy IsUnder AnyTest Leaf at form inner there) (low.is_border form) prefixes w
-            currents edge shapes (clean_of program here.text here.around _ here.sites.0) here.tree.0
-            here.fits (proper place stmt visited) (ranked place stmt visited) text.0
-            (subst (λ (s : Setup). AreGivenPrefixes s.known prefixes) (sym known.owned) given.0) known
-            seen bounded
-            (λ w' currents' edge' deeper under is known' seen' bounded'.
-            let inner = place_of w' environment answer currents' edge' in
-            form_suits form at prefixes spots w' environment answer currents' edge' deeper
-            (record {
-              start = place;
-              outer = shapes;
-              here = here;
-              visited = visited;
-              under = under;
-              shapes_are =
-                  sym (ap (λ (r : Reach). r.shapes)
-                  (behind program settings laws grammar clean place inner shapes at prefixes form here
-                  under).same)
-                  ∙ is;
-              known = known';
-              seen = seen';
-              bounded = bounded';
-            })
-            (subst (λ (r : Reach). IsShownForm Text r form) (reach_behind prefixes place inner under)
-            text.1) given.1)
+            placed_under at prefixes form
+            (λ inner there. SuitsFormBy IsUnder OperatedValue OperatedValue Leaf at form inner there) spots w
+            environment answer currents edge shapes here visited known seen bounded text.0 given
+            (λ inner deep last deeper h same.
+            form_suits form at prefixes spots inner environment answer deep last deeper h
+            (subst (λ (r : Reach). IsShownForm Text r form) same text.1) given.1)
 
         form_suits : (form : Form) (at : ℕ) (prefixes : List Prefix) (spots : List Spot) (w : Where)
             (environment : Environment) (answer : ℕ) (currents : Currents) (edge : Option Edge)
@@ -475,7 +483,7 @@ module _ (program : Program) (settings : List Setting) (laws : Laws program)
             → IsPlaced at prefixes form spots w environment answer currents edge shapes
             → IsShownForm Text (reach_of (place_of w environment answer currents edge)) form
             → IsGivenForm own_setup.known form
-            → SuitsFormBy IsUnder AnyTest Leaf at form w (place_of w environment answer currents edge)
+            → SuitsFormBy IsUnder OperatedValue OperatedValue Leaf at form w (place_of w environment answer currents edge)
         form_suits (Assign name op value) at prefixes spots w environment answer currents edge shapes h
             text given =
             leaf_suits at prefixes (Assign name op value) spots w environment answer currents edge shapes
@@ -538,10 +546,10 @@ module _ (program : Program) (settings : List Setting) (laws : Laws program)
                 while_suits h.here.text h.here.around spots w environment answer currents edge shapes
                     h.known h.seen h.here.shattered h.here.result at prefixes test body
                     (placed_inside at prefixes form spots w environment answer currents edge shapes h)
-                    text.1.0 p r,
+                    text.1.0 given.0 p r,
                 all_suit body spots w environment answer currents edge shapes
                     (placed_part at prefixes form spots w environment answer currents edge shapes h)
-                    h.known h.seen h.bounded text.1.1 given,
+                    h.known h.seen h.bounded text.1.1 given.1,
               ),
             )
         form_suits (Repeat body until test) at prefixes spots w environment answer currents edge shapes
@@ -562,26 +570,25 @@ module _ (program : Program) (settings : List Setting) (laws : Laws program)
                 repeat_suits h.here.text h.here.around spots w environment answer currents edge shapes
                     h.known h.seen h.here.shattered h.here.result at prefixes body until test
                     (placed_inside at prefixes form spots w environment answer currents edge shapes h)
-                    text.1.0 p r,
+                    text.1.0 given.0 p r,
                 all_suit body spots w environment answer currents edge shapes
                     (placed_part at prefixes form spots w environment answer currents edge shapes h)
-                    h.known h.seen h.bounded text.1.1 given,
+                    h.known h.seen h.bounded text.1.1 given.1,
               ),
             )
         form_suits (For head body) at prefixes spots w environment answer currents edge shapes h text
             given =
             let place = place_of w environment answer currents edge in
-            let form = For head body in
-            let f = placed_proper at prefixes form spots w environment answer currents edge shapes h in (
-              (
-                role_scalar place Limit head.first text.0.0 f.1,
-                role_scalar place Limit head.last text.0.1 f.2,
-                role_scalar place Limit (step_expr head.step) text.0.2 f.3,
-                f.0,
-              ),
+            let form = For head body in (
+              head_suits h.here.text h.here.around spots w environment answer currents edge shapes
+                  h.known h.seen h.here.shattered h.here.result at prefixes head body
+                  (placed_inside at prefixes form spots w environment answer currents edge shapes h)
+                  text.0 given.0
+                  (placed_proper at prefixes form spots w environment answer currents edge shapes h)
+                  (placed_ranked at prefixes form spots w environment answer currents edge shapes h),
               all_suit body spots w environment answer currents edge shapes
                   (placed_part at prefixes form spots w environment answer currents edge shapes h)
-                  h.known h.seen h.bounded text.1 given,
+                  h.known h.seen h.bounded text.1 given.1,
             )
         form_suits (Border kind names) at prefixes spots w environment answer currents edge shapes h text
             given =
@@ -602,7 +609,7 @@ module _ (program : Program) (settings : List Setting) (laws : Laws program)
             → IsBoundedAt (place_of w environment answer currents edge)
             → AreShown Text (reach_of (place_of w environment answer currents edge)) stmts
             → AreGivenStmts own_setup.known stmts
-            → SuitAllBy IsUnder AnyTest Leaf stmts w (place_of w environment answer currents edge)
+            → SuitAllBy IsUnder OperatedValue OperatedValue Leaf stmts w (place_of w environment answer currents edge)
         all_suit NoStmt spots w environment answer currents edge shapes parts known seen bounded text given =
             tt
         all_suit (ThenStmt first rest) spots w environment answer currents edge shapes parts known seen
@@ -629,7 +636,7 @@ module _ (program : Program) (settings : List Setting) (laws : Laws program)
             → IsBoundedAt (place_of w environment answer currents edge)
             → AreShownArms Text (reach_of (place_of w environment answer currents edge)) arms
             → AreGivenArms own_setup.known arms
-            → SuitArmsBy IsUnder AnyTest Leaf arms w (place_of w environment answer currents edge)
+            → SuitArmsBy IsUnder OperatedValue OperatedValue Leaf arms w (place_of w environment answer currents edge)
         arms_suit NoArm own_text around shattered result within spots w environment answer currents edge
             shapes parts tests ranks sites known seen bounded text given = tt
         arms_suit (ThenArm (Tested own test body) rest) own_text around shattered result within spots w
@@ -641,13 +648,13 @@ module _ (program : Program) (settings : List Setting) (laws : Laws program)
             let others = arms_sites reach within rest in (
               (
                 test_suits own_text around spots w environment answer currents edge shapes known seen
-                    shattered result test text.0.0 tests.0 ranks.0
+                    shattered result test text.0.0 given.0.0 tests.0 ranks.0
                     (each_left Sited (whole_sites reach TestRole test) (stmts_sites within body)
                     (each_left Sited own_sites others sites)),
                 all_suit body spots w environment answer currents edge shapes
                     (λ part c. parts part
                     (Contains-append_left (list_of body) (arms_parts rest) part c)) known seen
-                    bounded text.0.1 given.0,
+                    bounded text.0.1 given.0.1,
               ),
               arms_suit rest own_text around shattered result within spots w environment answer currents
                   edge shapes
@@ -664,7 +671,7 @@ module _ (program : Program) (settings : List Setting) (laws : Laws program)
             → IsBoundedAt (place_of w environment answer currents edge)
             → IsShownElse Text (reach_of (place_of w environment answer currents edge)) otherwise
             → IsGivenElse own_setup.known otherwise
-            → SuitsElseBy IsUnder AnyTest Leaf otherwise w (place_of w environment answer currents edge)
+            → SuitsElseBy IsUnder OperatedValue OperatedValue Leaf otherwise w (place_of w environment answer currents edge)
         else_suits NoElse spots w environment answer currents edge shapes parts known seen bounded text
             given = tt
         else_suits (Else body) spots w environment answer currents edge shapes parts known seen bounded

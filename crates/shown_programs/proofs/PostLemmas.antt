@@ -1,12 +1,14 @@
 -- With accepted settings, the vectors that stand in the brackets of statements have no fault.
-use Rattle.std.proofs.Common.{ℕ, ℤ, List, [], ◌∷◌, ◌++◌, map, Option, Some, option_to_list}
+use Rattle.std.proofs.Common.{◌⊎◌, inl, inr, ℕ, ℤ, List, [], ◌∷◌, ◌++◌, map, Option, Some, None, option_to_list}
 use Rattle.std.specs.Prelude.{Contains}
-use Rattle.zpl_tree.specs.Syntax.{Base, Inner, Rexpr, Dims, Exprs, NamedDir, Vector, Posts, NoPost, ThenPost, Prefix, Stmt, Prefixed, Stmts, NoStmt, ThenStmt, Form, Assign, Invoke, Block, If, While, Repeat, For, Border, Write, Return, Tested, Arms, NoArm, ThenArm, Otherwise, NoElse, Else, Program}
+use Rattle.std.specs.List.{flat_map}
+use Rattle.zpl_nums.specs.declared.operators.Op.{Op}
+use Rattle.zpl_tree.specs.Syntax.{Name, Base, Inner, Rexpr, Dims, Expr, Number, Truth, Coord, Named, Shifted, Around, Remap, Call, Paren, Neg, Not, Abs, Pair, Reduce, Scan, Flood, Exprs, NoExpr, ThenExpr, NoBracket, Bracketed, Item, Str, Value, NamedDir, Vector, Posts, NoPost, ThenPost, Prefix, Stmt, Prefixed, Stmts, NoStmt, ThenStmt, Form, Assign, Invoke, Block, If, While, Repeat, For, Border, Write, Return, Tested, Arms, NoArm, ThenArm, Otherwise, NoElse, Else, Program}
 use Rattle.zpl_names.specs.Kinds.{Rank}
-use Rattle.zpl_names.specs.Ranks.{mask_rank}
+use Rattle.zpl_names.specs.Ranks.{inner_rank, mask_rank, own_rank}
 use Rattle.zpl_names.specs.Shapes.{unknown_shapes}
 use Rattle.zpl_names.specs.Declared.{Routine, scope_of}
-use Rattle.zpl_names.specs.Sites.{Reach, Site, AtMask, AtStmt, Limit, Test as TestRole, in_body, inside, region_sites, prefix_sites, prefixes_sites, under_prefix, under_prefixes, whole_sites, step_sites, test_rank, arms_rank, stmt_sites, stmts_sites, form_sites, arms_sites, arm_sites, otherwise_sites, body_sites, outermost_sites, routine_sites}
+use Rattle.zpl_names.specs.Sites.{Reach, Role, Site, AtMask, AtStmt, Actual, Assigned, Limit, Operand, Printed, Result, Test as TestRole, actuals_sites, expr_sites, exprs_sites, item_sites, over_source, value_sites, whole_rank, in_body, inside, region_sites, prefix_sites, prefixes_sites, under_prefix, under_prefixes, whole_sites, step_sites, test_rank, arms_rank, stmt_sites, stmts_sites, form_sites, arms_sites, arm_sites, otherwise_sites, body_sites, outermost_sites, routine_sites}
 use Rattle.zpl_binding.specs.Bound.{vectors_in}
 use Rattle.zpl_binding.specs.Outcome.{outcome_of}
 use Rattle.zpl_binding.specs.Regions.{Known}
@@ -16,7 +18,9 @@ use Rattle.zpl_meaning.proofs.DepthLemmas.{Each, each_left, each_right, each_fro
 use Rattle.meaning_runs.specs.Computed.{HasVectors, IsComputedAt}
 use Rattle.prefix_runs.specs.Opens.{AreGivenPosts}
 use Rattle.shown_programs.proofs.KnownLemmas.{given_is}
-use Rattle.shown_programs.proofs.PlaceLemmas.{AreGivenInner, AreGivenPrefixes, IsGivenStmt, AreGivenStmts, IsGivenForm, AreGivenArms, IsGivenElse}
+use Rattle.zpl_meaning.specs.Statement.{step_expr}
+use Rattle.shown_programs.proofs.SourceLemmas.{AllGivenSources, AreGivenInner, AreGivenItems, AreGivenSources}
+use Rattle.shown_programs.proofs.PlaceLemmas.{AreGivenPrefixes, IsGivenStmt, AreGivenStmts, IsGivenForm, AreGivenArms, IsGivenElse}
 
 module _ (program : Program) (known : Known)
     (directions : (text : List ℕ) (default : List ℤ)
@@ -40,6 +44,171 @@ module _ (program : Program) (known : Known)
       → Each Told (region_sites reach hint region) → AreGivenInner known region
   inner_given (Rexpr pre base post) reach hint h = posts_given post h.0.2
   inner_given (Dims dims) reach hint h = tt
+
+  -- ---- values
+
+  other_given : (actual : Expr) (rest : Exprs) (reach : Reach)
+      → Each Told (expr_sites reach (whole_rank reach Actual actual) actual
+      ++ actuals_sites reach rest)
+      → (Each Told (expr_sites reach (whole_rank reach Actual actual) actual)
+      ⊎ AreGivenSources known actual)
+      × Each Told (actuals_sites reach rest)
+  other_given actual rest reach h =
+      let own = expr_sites reach (whole_rank reach Actual actual) actual in (
+        inl (each_left Told own (actuals_sites reach rest) h),
+        each_right Told own (actuals_sites reach rest) h,
+      )
+
+  -- an actual has its sites, or is a name alone
+  actual_given : (actual : Expr) (rest : Exprs) (reach : Reach)
+      → Each Told (actuals_sites reach (ThenExpr actual rest))
+      → (Each Told (expr_sites reach (whole_rank reach Actual actual) actual)
+      ⊎ AreGivenSources known actual)
+      × Each Told (actuals_sites reach rest)
+  actual_given (Named at name) rest reach h = (inr tt, h.1)
+  actual_given (Number at value) rest reach h = other_given (Number at value) rest reach h.1
+  actual_given (Truth at value) rest reach h = other_given (Truth at value) rest reach h.1
+  actual_given (Coord at k) rest reach h = other_given (Coord at k) rest reach h.1
+  actual_given (Shifted at name shift) rest reach h =
+      other_given (Shifted at name shift) rest reach h.1
+  actual_given (Around at name shift) rest reach h =
+      other_given (Around at name shift) rest reach h.1
+  actual_given (Remap at name indices) rest reach h =
+      other_given (Remap at name indices) rest reach h.1
+  actual_given (Call at name actuals) rest reach h =
+      other_given (Call at name actuals) rest reach h.1
+  actual_given (Paren at inner) rest reach h = other_given (Paren at inner) rest reach h.1
+  actual_given (Neg at operand) rest reach h = other_given (Neg at operand) rest reach h.1
+  actual_given (Not at operand) rest reach h = other_given (Not at operand) rest reach h.1
+  actual_given (Abs at operand) rest reach h = other_given (Abs at operand) rest reach h.1
+  actual_given (Pair at op left right) rest reach h =
+      other_given (Pair at op left right) rest reach h.1
+  actual_given (Reduce at operator over operand) rest reach h =
+      other_given (Reduce at operator over operand) rest reach h.1
+  actual_given (Scan at operator along operand) rest reach h =
+      other_given (Scan at operator along operand) rest reach h.1
+  actual_given (Flood at source operand) rest reach h =
+      other_given (Flood at source operand) rest reach h.1
+
+  either_given : (sites : List Site) (actual : Expr)
+      → (Each Told sites ⊎ AreGivenSources known actual)
+      → (Each Told sites → AreGivenSources known actual) → AreGivenSources known actual
+  either_given sites actual (inl h) f = f h
+  either_given sites actual (inr h) f = h
+
+  mutual
+    expr_given : (expr : Expr) (reach : Reach) (rank : Rank) → Each Told (expr_sites reach rank expr)
+        → AreGivenSources known expr
+    expr_given (Number at value) reach rank h = tt
+    expr_given (Truth at value) reach rank h = tt
+    expr_given (Coord at k) reach rank h = tt
+    expr_given (Named at name) reach rank h = tt
+    expr_given (Shifted at name shift) reach rank h = tt
+    expr_given (Around at name shift) reach rank h = tt
+    expr_given (Remap at name indices) reach rank h = indices_given indices reach rank h.1
+    expr_given (Call at name actuals) reach rank h = actuals_given actuals reach h.1
+    expr_given (Paren at inner) reach rank h = expr_given inner reach rank h.1
+    expr_given (Neg at operand) reach rank h = expr_given operand reach rank h.1
+    expr_given (Not at operand) reach rank h = expr_given operand reach rank h.1
+    expr_given (Abs at operand) reach rank h = expr_given operand reach rank h.1
+    expr_given (Pair at op left right) reach rank h =
+        let one = expr_sites reach rank left in
+        let other = expr_sites reach rank right in (
+          expr_given left reach rank (each_left Told one other h.1),
+          expr_given right reach rank (each_right Told one other h.1),
+        )
+    expr_given (Reduce at operator NoBracket operand) reach rank h =
+        expr_given operand reach (whole_rank reach Operand operand) h.1.1
+    expr_given (Reduce at operator (Bracketed source) operand) reach rank h =
+        let hint = own_rank reach.scope reach.prefix operand in
+        let over = inner_rank reach.scope hint reach.prefix source in
+        let bracket = region_sites reach hint source in
+        let behind = expr_sites (over_source reach over source) over operand in (
+          inner_given source reach hint (each_left Told bracket behind h.1),
+          expr_given operand (over_source reach over source) over
+              (each_right Told bracket behind h.1),
+        )
+    expr_given (Scan at operator along operand) reach rank h = expr_given operand reach rank h.1
+    expr_given (Flood at source operand) reach rank h =
+        let hint = own_rank reach.scope reach.prefix operand in
+        let over = inner_rank reach.scope hint reach.prefix source in
+        let bracket = region_sites reach hint source in
+        let behind = expr_sites (over_source reach over source) over operand in (
+          inner_given source reach hint (each_left Told bracket behind h.1),
+          expr_given operand (over_source reach over source) over
+              (each_right Told bracket behind h.1),
+        )
+
+    indices_given : (indices : Exprs) (reach : Reach) (rank : Rank)
+        → Each Told (exprs_sites reach rank indices) → AllGivenSources known indices
+    indices_given NoExpr reach rank h = tt
+    indices_given (ThenExpr first rest) reach rank h =
+        let one = expr_sites reach rank first in
+        let others = exprs_sites reach rank rest in (
+          expr_given first reach rank (each_left Told one others h),
+          indices_given rest reach rank (each_right Told one others h),
+        )
+
+    actuals_given : (actuals : Exprs) (reach : Reach) → Each Told (actuals_sites reach actuals)
+        → AllGivenSources known actuals
+    actuals_given NoExpr reach h = tt
+    actuals_given (ThenExpr first rest) reach h =
+        let parts = actual_given first rest reach h in
+        let rank = whole_rank reach Actual first in (
+          either_given (expr_sites reach rank first) first parts.0 (expr_given first reach rank),
+          actuals_given rest reach parts.1,
+        )
+
+  whole_given : (reach : Reach) (role : Role) (expr : Expr) → Each Told (whole_sites reach role expr)
+      → AreGivenSources known expr
+  whole_given reach role expr h = expr_given expr reach (whole_rank reach role expr) h.1
+
+  value_given : (name : Name) (op : Option Op) (value : Expr) (reach : Reach)
+      → Each Told (value_sites reach name op value) → AreGivenSources known value
+  value_given name (Some op) value reach h = whole_given reach (Assigned name (Some op)) value h
+  value_given name None (Call at callee actuals) reach h = actuals_given actuals reach h.1.1
+  value_given name None (Number at value) reach h = tt
+  value_given name None (Truth at value) reach h = tt
+  value_given name None (Coord at k) reach h = tt
+  value_given name None (Named at it) reach h = tt
+  value_given name None (Shifted at it shift) reach h = tt
+  value_given name None (Around at it shift) reach h = tt
+  value_given name None (Remap at it indices) reach h =
+      whole_given reach (Assigned name None) (Remap at it indices) h
+  value_given name None (Paren at inner) reach h =
+      whole_given reach (Assigned name None) (Paren at inner) h
+  value_given name None (Neg at operand) reach h =
+      whole_given reach (Assigned name None) (Neg at operand) h
+  value_given name None (Not at operand) reach h =
+      whole_given reach (Assigned name None) (Not at operand) h
+  value_given name None (Abs at operand) reach h =
+      whole_given reach (Assigned name None) (Abs at operand) h
+  value_given name None (Pair at op left right) reach h =
+      whole_given reach (Assigned name None) (Pair at op left right) h
+  value_given name None (Reduce at operator over operand) reach h =
+      whole_given reach (Assigned name None) (Reduce at operator over operand) h
+  value_given name None (Scan at operator along operand) reach h =
+      whole_given reach (Assigned name None) (Scan at operator along operand) h
+  value_given name None (Flood at source operand) reach h =
+      whole_given reach (Assigned name None) (Flood at source operand) h
+
+  items_given : (items : List Item) (reach : Reach) → Each Told (flat_map (item_sites reach) items)
+      → AreGivenItems known items
+  items_given [] reach h = tt
+  items_given (Str bytes ∷ items) reach h = items_given items reach h
+  items_given (Value value ∷ items) reach h =
+      let one = whole_sites reach Printed value in
+      let others = flat_map (item_sites reach) items in (
+        whole_given reach Printed value (each_left Told one others h),
+        items_given items reach (each_right Told one others h),
+      )
+
+  step_given : (step : Option Expr) (reach : Reach) → Each Told (step_sites reach step)
+      → AreGivenSources known (step_expr step)
+  step_given None reach h = tt
+  step_given (Some step) reach h = whole_given reach Limit step h
+
+  -- ---- statements
 
   prefixes_given : (prefixes : List Prefix) (reach : Reach)
       → Each Told (prefixes_sites reach prefixes) → AreGivenPrefixes known prefixes
@@ -78,8 +247,8 @@ module _ (program : Program) (known : Known)
 
     form_given : (form : Form) (reach : Reach) → Each Told (form_sites reach form)
         → IsGivenForm known form
-    form_given (Assign name op value) reach h = tt
-    form_given (Invoke name actuals) reach h = tt
+    form_given (Assign name op value) reach h = value_given name op value reach h
+    form_given (Invoke name actuals) reach h = actuals_given actuals reach h.1
     form_given (Block body) reach h = all_given body (inside reach (Some 0)) h
     form_given (If arms otherwise) reach h =
         let within = inside reach (arms_rank reach arms) in (
@@ -90,20 +259,34 @@ module _ (program : Program) (known : Known)
         )
     form_given (While test body) reach h =
         let within = inside reach (test_rank reach test) in
-        all_given body within
-        (each_right Told (whole_sites reach TestRole test) (stmts_sites within body) h)
+        let own = whole_sites reach TestRole test in (
+          whole_given reach TestRole test (each_left Told own (stmts_sites within body) h),
+          all_given body within (each_right Told own (stmts_sites within body) h),
+        )
     form_given (Repeat body until test) reach h =
         let within = inside reach (test_rank reach test) in
-        all_given body within
-        (each_left Told (stmts_sites within body) (whole_sites reach TestRole test) h)
+        let own = whole_sites reach TestRole test in (
+          whole_given reach TestRole test (each_right Told (stmts_sites within body) own h),
+          all_given body within (each_left Told (stmts_sites within body) own h),
+        )
     form_given (For head body) reach h =
-        let before = whole_sites reach Limit head.first ++ whole_sites reach Limit head.last
-        ++ step_sites reach head.step in
-        all_given body (inside reach (Some 0))
-        (each_right Told before (stmts_sites (inside reach (Some 0)) body) h)
+        let first = whole_sites reach Limit head.first in
+        let last = whole_sites reach Limit head.last in
+        let step = step_sites reach head.step in
+        let inner = stmts_sites (inside reach (Some 0)) body in
+        let heads = each_left Told ((first ++ last) ++ step) inner h in
+        let bounds = each_left Told (first ++ last) step heads in (
+          (
+            whole_given reach Limit head.first (each_left Told first last bounds),
+            whole_given reach Limit head.last (each_right Told first last bounds),
+            step_given head.step reach (each_right Told (first ++ last) step heads),
+          ),
+          all_given body (inside reach (Some 0))
+              (each_right Told ((first ++ last) ++ step) inner h),
+        )
     form_given (Border kind names) reach h = tt
-    form_given (Write line items) reach h = tt
-    form_given (Return value) reach h = tt
+    form_given (Write line items) reach h = items_given items reach h
+    form_given (Return value) reach h = whole_given reach (Result reach.result) value h
 
     arms_given : (arms : Arms) (reach within : Reach) → Each Told (arms_sites reach within arms)
         → AreGivenArms known arms
@@ -111,8 +294,12 @@ module _ (program : Program) (known : Known)
     arms_given (ThenArm (Tested at test body) rest) reach within h =
         let own = each_left Told (arm_sites reach within (Tested at test body))
         (arms_sites reach within rest) h in (
-          all_given body within
-              (each_right Told (whole_sites reach TestRole test) (stmts_sites within body) own),
+          (
+            whole_given reach TestRole test
+                (each_left Told (whole_sites reach TestRole test) (stmts_sites within body) own),
+            all_given body within
+                (each_right Told (whole_sites reach TestRole test) (stmts_sites within body) own),
+          ),
           arms_given rest reach within
               (each_right Told (arm_sites reach within (Tested at test body))
               (arms_sites reach within rest) h),

@@ -1,6 +1,6 @@
 -- The code of a procedure goes as a call of it does, down any chain of calls, where forms that have no
 -- statements in them do.
-use Rattle.std.proofs.Common.{◌≡◌, inl, inr, ℕ, zero, suc, ◌+◌, ◌≤◌, ◌<◌, Bool, true, false, pos, List, [], ◌∷◌, ◌++◌}
+use Rattle.std.proofs.Common.{◌≡◌, ℕ, zero, suc, ◌+◌, ◌≤◌, ◌<◌, Bool, true, false, pos, List, [], ◌∷◌, ◌++◌}
 use Rattle.std.proofs.Common.{length, map, Option, Some, None, refl, sym, ap, ◌∙◌, subst, arith}
 use Rattle.std.proofs.Common.{append-nil, append_assoc, length-append}
 use Rattle.std.specs.Prelude.{IsSome, flat_map}
@@ -48,14 +48,16 @@ use Rattle.call_runs.proofs.EndLemmas.{body_returns}
 use Rattle.lowering_runs.specs.Goes.{World, TestsGo}
 use Rattle.lowering_runs.specs.Called.{calling_at, called_at, world_at}
 use Rattle.lowering_runs.proofs.AgreeLemmas.{stored_agrees}
-use Rattle.lowering_runs.proofs.ControlLemmas.{scalar_tests}
+use Rattle.lowering_runs.proofs.ControlLemmas.{}
 use Rattle.lowering_runs.proofs.FitLemmas.{all_taken_on, currents_kept, keeps_all, held_on}
 use Rattle.lowering_runs.proofs.FrameLemmas.{map_append, numbered_append, names_below, known_both, known_more, misses_more}
 use Rattle.lowering_runs.proofs.NumberLemmas.{rises_on}
-use Rattle.lowering_runs.proofs.SuitLemmas.{FormGoes}
+use Rattle.lowering_runs.proofs.SuitLemmas.{LeafGoes}
 use Rattle.lowering_runs.proofs.ValueLemmas.{thing_seen}
-use Rattle.operator_runs.specs.Served.{AnyTest}
+use Rattle.operator_runs.specs.Served.{OperatedValue}
 use Rattle.operator_runs.proofs.TestLemmas.{tests_go}
+use Rattle.operator_runs.proofs.ValueLemmas.{operated_values}
+use Rattle.operator_runs.proofs.ReturnLemmas.{return_goes}
 use Rattle.prefix_runs.specs.Under.{IsUnder}
 use Rattle.prefix_runs.proofs.PlainLemmas.{suited_agrees_by}
 use Rattle.lowering_runs.specs.Suits.{SuitsStmtBy}
@@ -83,10 +85,8 @@ use Rattle.shown_programs.proofs.PlaceLemmas.{IsPlaced, IsGivenStmt, stmt_suits}
 
 -- ---- tests
 
-any_tests : (world : World) → TestsGo world AnyTest
-any_tests world sight w next from start at test stands before (inl scalar) room store now like =
-    scalar_tests world sight w next from start at test stands before scalar room store now like
-any_tests world sight w next from start at test stands before (inr operated) room store now like =
+operated_tests : (world : World) → TestsGo world OperatedValue
+operated_tests world sight w next from start at test stands before operated room store now like =
     tests_go world.tables world.turns sight w next from start at test stands before operated room
     store now like
 
@@ -189,7 +189,7 @@ module _ (program : Program) (settings : List Setting) (laws : Laws program)
         → Leaf IsCallable at form w (place_of w environment answer currents edge)
     pub go : (depth : ℕ) (IsCallable : Bool → List ℕ → Type 0)
         → AreCalls program settings laws grammar clean IsCallable (world_at tables n own depth)
-        → (at : ℕ) (form : Form) → FormGoes (world_at tables n own depth) (Leaf IsCallable) at form
+        → (at : ℕ) (form : Form) → LeafGoes (world_at tables n own depth) (Leaf IsCallable) at form
 
   module _ (tables : Tables) (n : ℕ) (accepted : AreAccepted)
       (Leaf : (Bool → List ℕ → Type 0) → ℕ → Form → Where → Place → Type 0)
@@ -438,8 +438,8 @@ module _ (program : Program) (settings : List Setting) (laws : Laws program)
         body_goes shown =
             body_ends Like (λ here framed next mid. IsLike tables here (inner framed) next mid)
             (λ framed here next mid at room.
-            suited_agrees_by (world depth) AnyTest (Leaf IsCallable)
-            (any_tests (world depth)) (leaves.go depth IsCallable calls)
+            suited_agrees_by (world depth) OperatedValue OperatedValue (Leaf IsCallable)
+            (operated_tests (world depth)) (operated_values (world depth)) (leaves.go depth IsCallable calls)
             routine.procedure.body (sight here) (inner framed) next mid at.there
             (stmt_suits program settings laws grammar clean accepted.proper accepted.ranked
             (Leaf IsCallable) (Text IsCallable) (leaves.suits IsCallable) routine.procedure.body here
@@ -457,10 +457,10 @@ module _ (program : Program) (settings : List Setting) (laws : Laws program)
             body_ends (HasAnswered tables base w low_next start target)
             (λ here framed next mid. HasReturned tables (sight here) (inner framed) next mid)
             (λ framed here next mid at room.
-            body_returns (world depth)
-            (λ stmt w place. SuitsStmtBy IsUnder AnyTest (Leaf IsCallable) stmt w place)
-            (suited_agrees_by (world depth) AnyTest (Leaf IsCallable)
-            (any_tests (world depth)) (leaves.go depth IsCallable calls))
+            body_returns (world depth) OperatedValue (return_goes (world depth))
+            (λ stmt w place. SuitsStmtBy IsUnder OperatedValue OperatedValue (Leaf IsCallable) stmt w place)
+            (suited_agrees_by (world depth) OperatedValue OperatedValue (Leaf IsCallable)
+            (operated_tests (world depth)) (operated_values (world depth)) (leaves.go depth IsCallable calls))
             routine.procedure.body (sight here) (inner framed) next mid at.there
             (answering_suits program settings laws grammar clean accepted.proper accepted.ranked
             (Leaf IsCallable) (Text IsCallable) (leaves.suits IsCallable) routine.procedure.body here

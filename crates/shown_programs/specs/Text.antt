@@ -5,21 +5,18 @@ use Rattle.zpl_nums.specs.declared.operators.Op.{Op}
 use Rattle.zpl_nums.specs.Integer.{IsInteger}
 use Rattle.zpl_tree.specs.Syntax.{NoBracket, Bracketed, Inner, Rexpr, Dims, Expr, Number, Truth, Coord, Named, Shifted, Around, Remap, Call, Paren, Neg, Not, Abs, Pair, Reduce, Scan, Flood, Exprs, NoExpr, ThenExpr, Item, Str, Value, Prefix, Stmt, Prefixed, Stmts, NoStmt, ThenStmt, Form, Assign, Invoke, Block, If, While, Repeat, For, Border, Write, Return, Arm, Tested, Arms, NoArm, ThenArm, Otherwise, NoElse, Else, Program}
 use Rattle.zpl_names.specs.Kinds.{Formal, ScalarFormal, ArrayFormal}
-use Rattle.zpl_names.specs.Ranks.{is_above_zero}
-use Rattle.zpl_names.specs.Scope.{kind_of, is_array, is_scalar}
+use Rattle.zpl_names.specs.Scope.{kind_of}
 use Rattle.zpl_names.specs.Shapes.{prefix_rank, unknown_shapes}
-use Rattle.zpl_names.specs.Sites.{Reach, in_body, Assigned, Printed, whole_rank, is_shattered}
+use Rattle.zpl_names.specs.Sites.{Reach, in_body, is_shattered}
 use Rattle.zpl_names.specs.Declared.{Routine, routine_named, scope_of}
 use Rattle.zpl_names.specs.Reached.{longest_chain}
 use Rattle.zpl_binding.specs.Outcome.{value_or, outcome_of}
 use Rattle.zpl_binding.specs.Settings.{Setting}
 use Rattle.zpl_binding.specs.Declarations.{known_of}
-use Rattle.zpl_meaning.specs.Points.{Part, Reads, Writes, assigned_expr, form_parts}
+use Rattle.zpl_meaning.specs.Points.{Part, Reads, Writes, form_parts}
 use Rattle.zpl_meaning.specs.Calls.{formals_in}
 use Rattle.zpl_meaning.specs.Statement.{step_expr}
 use Rattle.row_runs.specs.Straight.{Every}
-use Rattle.lowering_runs.specs.Scalars.{IsScalarExpr}
-use Rattle.lowering_runs.specs.ScalarText.{AreScalarTexts}
 use Rattle.served_places.specs.Told.{IsPlainExpr}
 use Rattle.served_places.specs.Given.{HaveSmallDims}
 
@@ -42,9 +39,38 @@ abbrev pub behind_prefixes : Reach → List Prefix → Reach
 behind_prefixes reach [] = reach
 behind_prefixes reach (prefix ∷ rest) = behind_prefixes (behind_prefix reach prefix) rest
 
--- the value of a scalar is returned
+-- ---- values with operators over regions
+
+-- A value with full and partial folds, scans, floods and remap reads, also in one another's operands.
+-- Numbers are of 64 bits, also in brackets.
+abbrev mutual
+  pub IsOperatedText : Expr → Type 0
+  IsOperatedText (Number at value) = IsInteger value
+  IsOperatedText (Truth at value) = Unit {0}
+  IsOperatedText (Coord at k) = Unit {0}
+  IsOperatedText (Named at name) = Unit {0}
+  IsOperatedText (Shifted at name shift) = Unit {0}
+  IsOperatedText (Paren at inside) = IsOperatedText inside
+  IsOperatedText (Neg at operand) = IsOperatedText operand
+  IsOperatedText (Not at operand) = IsOperatedText operand
+  IsOperatedText (Abs at operand) = IsOperatedText operand
+  IsOperatedText (Pair at op left right) = IsOperatedText left × IsOperatedText right
+  IsOperatedText (Reduce at operator NoBracket operand) = IsOperatedText operand
+  IsOperatedText (Reduce at operator (Bracketed source) operand) =
+      HasSmallInner source × IsOperatedText operand
+  IsOperatedText (Flood at source operand) = HasSmallInner source × IsOperatedText operand
+  IsOperatedText (Scan at operator along operand) = IsOperatedText operand
+  IsOperatedText (Remap at name indices) = AreOperatedIndices indices
+  IsOperatedText (Around at name shift) = ⊥
+  IsOperatedText (Call at name actuals) = ⊥
+
+  pub AreOperatedIndices : Exprs → Type 0
+  AreOperatedIndices NoExpr = Unit {0}
+  AreOperatedIndices (ThenExpr first rest) = IsOperatedText first × AreOperatedIndices rest
+
+-- a value is returned, which may have operators over regions
 abbrev pub IsReturnForm : Form → Type 0
-IsReturnForm (Return value) = IsScalarExpr value
+IsReturnForm (Return value) = IsOperatedText value
 IsReturnForm (Assign name op value) = ⊥
 IsReturnForm (Invoke name actuals) = ⊥
 IsReturnForm (Block body) = ⊥
@@ -55,36 +81,9 @@ IsReturnForm (For head body) = ⊥
 IsReturnForm (Border kind names) = ⊥
 IsReturnForm (Write line items) = ⊥
 
+-- behind any prefixes
 abbrev pub IsReturnText : Stmt → Type 0
-IsReturnText (Prefixed at [] form) = IsReturnForm form
-IsReturnText (Prefixed at (prefix ∷ prefixes) form) = ⊥
-
--- ---- values with full folds
-
--- A value with full folds, also in one another's operands, and with no other operators over regions.
--- Numbers are of 64 bits.
-abbrev pub IsFoldedExpr : Expr → Type 0
-IsFoldedExpr (Number at value) = IsInteger value
-IsFoldedExpr (Truth at value) = Unit {0}
-IsFoldedExpr (Coord at k) = Unit {0}
-IsFoldedExpr (Named at name) = Unit {0}
-IsFoldedExpr (Shifted at name shift) = Unit {0}
-IsFoldedExpr (Paren at inside) = IsFoldedExpr inside
-IsFoldedExpr (Neg at operand) = IsFoldedExpr operand
-IsFoldedExpr (Not at operand) = IsFoldedExpr operand
-IsFoldedExpr (Abs at operand) = IsFoldedExpr operand
-IsFoldedExpr (Pair at op left right) = IsFoldedExpr left × IsFoldedExpr right
-IsFoldedExpr (Reduce at operator NoBracket operand) = IsFoldedExpr operand
-IsFoldedExpr (Reduce at operator (Bracketed source) operand) = ⊥
-IsFoldedExpr (Around at name shift) = ⊥
-IsFoldedExpr (Remap at name indices) = ⊥
-IsFoldedExpr (Call at name actuals) = ⊥
-IsFoldedExpr (Scan at operator along operand) = ⊥
-IsFoldedExpr (Flood at source operand) = ⊥
-
--- the test of an `if`, a `while` or a `repeat` that isn't shattered: of scalars, or with full folds
-abbrev pub IsTestText : Expr → Type 0
-IsTestText test = IsScalarExpr test ⊎ IsFoldedExpr test
+IsReturnText (Prefixed at prefixes form) = HaveSmallPrefixes prefixes × IsReturnForm form
 
 -- ---- statements, for any forms that have no statements in them, or are shattered
 
@@ -109,13 +108,13 @@ module _ (IsLeaf : Reach → Form → Type 0) where
     IsShownForm reach (While test body) =
         IsLeaf reach (While test body)
         ⊎ ((is_shattered reach (While test body) ≡ false)
-        × (IsTestText test × AreShown reach body))
+        × (IsOperatedText test × AreShown reach body))
     IsShownForm reach (Repeat body until test) =
         IsLeaf reach (Repeat body until test)
         ⊎ ((is_shattered reach (Repeat body until test) ≡ false)
-        × (IsTestText test × AreShown reach body))
+        × (IsOperatedText test × AreShown reach body))
     IsShownForm reach (For head body) =
-        (IsScalarExpr head.first × IsScalarExpr head.last × IsScalarExpr (step_expr head.step))
+        (IsOperatedText head.first × IsOperatedText head.last × IsOperatedText (step_expr head.step))
         × AreShown reach body
     IsShownForm reach (Border kind names) = IsLeaf reach (Border kind names)
     IsShownForm reach (Write line items) = IsLeaf reach (Write line items)
@@ -126,13 +125,13 @@ module _ (IsLeaf : Reach → Form → Type 0) where
     AreShownArms reach (ThenArm first rest) = IsShownArm reach first × AreShownArms reach rest
 
     pub IsShownArm : Reach → Arm → Type 0
-    IsShownArm reach (Tested at test body) = IsTestText test × AreShown reach body
+    IsShownArm reach (Tested at test body) = IsOperatedText test × AreShown reach body
 
     pub IsShownElse : Reach → Otherwise → Type 0
     IsShownElse reach NoElse = Unit {0}
     IsShownElse reach (Else body) = AreShown reach body
 
-  -- bodies of procedures that answer: statements of these forms, and then a `return` of a scalar
+  -- bodies of procedures that answer: statements of these forms, and then a `return`
   abbrev pub AreAnsweringTexts : Reach → Stmts → Type 0
   AreAnsweringTexts reach NoStmt = ⊥
   AreAnsweringTexts reach (ThenStmt first NoStmt) = IsReturnText first
@@ -151,35 +150,19 @@ module _ (IsLeaf : Reach → Form → Type 0) where
   IsAnsweringForm reach (Write line items) = ⊥
   IsAnsweringForm reach (Return value) = ⊥
 
+  -- in a block behind any prefixes
   abbrev pub IsAnsweringText : Reach → Stmt → Type 0
-  IsAnsweringText reach (Prefixed at [] form) = IsAnsweringForm reach form
-  IsAnsweringText reach (Prefixed at (prefix ∷ prefixes) form) = ⊥
+  IsAnsweringText reach (Prefixed at prefixes form) =
+      HaveSmallPrefixes prefixes × IsAnsweringForm (behind_prefixes reach prefixes) form
 
 -- ---- the forms that are proved
 
--- a scalar is assigned, or an array without operators over regions; texts and scalars are printed
-abbrev pub IsPlainForm : Reach → Form → Type 0
-IsPlainForm reach (Assign name op value) =
-    ((is_scalar (kind_of reach.scope name) ≡ true)
-    × (whole_rank reach (Assigned name op) (assigned_expr name op value) ≡ Some 0)
-    × IsScalarExpr (assigned_expr name op value))
-    ⊎ ((is_array (kind_of reach.scope name) ≡ true) × IsPlainExpr value)
-IsPlainForm reach (Write line items) = AreScalarTexts reach items
-IsPlainForm reach (Invoke name actuals) = ⊥
-IsPlainForm reach (Block body) = ⊥
-IsPlainForm reach (If arms otherwise) = ⊥
-IsPlainForm reach (While test body) = ⊥
-IsPlainForm reach (Repeat body until test) = ⊥
-IsPlainForm reach (For head body) = ⊥
-IsPlainForm reach (Border kind names) = ⊥
-IsPlainForm reach (Return value) = ⊥
-
--- what parameters take: a value of a scalar has no operators over regions
+-- what parameters take: a value of a scalar may have operators over regions
 abbrev pub AreCallTexts : List Formal → Exprs → Type 0
 AreCallTexts [] actuals = Unit {0}
 AreCallTexts (formal ∷ formals) NoExpr = Unit {0}
 AreCallTexts (ScalarFormal false base ∷ formals) (ThenExpr actual rest) =
-    IsScalarExpr actual × AreCallTexts formals rest
+    IsOperatedText actual × AreCallTexts formals rest
 AreCallTexts (ScalarFormal true base ∷ formals) (ThenExpr actual rest) =
     AreCallTexts formals rest
 AreCallTexts (ArrayFormal by_ref base shape ∷ formals) (ThenExpr actual rest) =
@@ -206,8 +189,8 @@ IsAskedText IsCallable reach None (Scan at operator along operand) = ⊥
 IsAskedText IsCallable reach None (Flood at source operand) = ⊥
 IsAskedText IsCallable reach (Some op) value = ⊥
 
--- A procedure is called that may be, with values of scalars, references, and copies of arrays: as a
--- statement, or for its answer.
+-- A procedure is called that may be, with values of scalars, which may have operators over regions,
+-- references, and copies of arrays: as a statement, or for its answer.
 abbrev pub IsCallForm : (Bool → List ℕ → Type 0) → Reach → Form → Type 0
 IsCallForm IsCallable reach (Invoke name actuals) =
     AreCallTexts (formals_in (kind_of reach.scope name)) actuals × IsCallable false name.text
@@ -220,30 +203,6 @@ IsCallForm IsCallable reach (Repeat body until test) = ⊥
 IsCallForm IsCallable reach (For head body) = ⊥
 IsCallForm IsCallable reach (Border kind names) = ⊥
 IsCallForm IsCallable reach (Return value) = ⊥
-
--- a scalar is printed, or an array without operators over regions
-abbrev pub IsPrintedText : Reach → Expr → Type 0
-IsPrintedText reach expr =
-    ((whole_rank reach Printed expr ≡ Some 0) × IsScalarExpr expr)
-    ⊎ ((is_above_zero (whole_rank reach Printed expr) ≡ true) × IsPlainExpr expr)
-
-abbrev pub ArePrintedTexts : Reach → List Item → Type 0
-ArePrintedTexts reach [] = Unit {0}
-ArePrintedTexts reach (Str bytes ∷ items) = ArePrintedTexts reach items
-ArePrintedTexts reach (Value expr ∷ items) =
-    IsPrintedText reach expr × ArePrintedTexts reach items
-
-abbrev pub IsPrintForm : Reach → Form → Type 0
-IsPrintForm reach (Write line items) = ArePrintedTexts reach items
-IsPrintForm reach (Assign name op value) = ⊥
-IsPrintForm reach (Invoke name actuals) = ⊥
-IsPrintForm reach (Block body) = ⊥
-IsPrintForm reach (If arms otherwise) = ⊥
-IsPrintForm reach (While test body) = ⊥
-IsPrintForm reach (Repeat body until test) = ⊥
-IsPrintForm reach (For head body) = ⊥
-IsPrintForm reach (Border kind names) = ⊥
-IsPrintForm reach (Return value) = ⊥
 
 abbrev pub IsBorderForm : Reach → Form → Type 0
 IsBorderForm reach (Border kind names) = Unit {0}
@@ -267,35 +226,32 @@ abbrev pub IsShatteredForm : Reach → Form → Type 0
 IsShatteredForm reach form =
     (is_shattered reach form ≡ true) × Every IsPlainPart (form_parts form)
 
--- texts and scalars are printed, with values that have full folds
-abbrev pub AreFoldedTexts : Reach → List Item → Type 0
-AreFoldedTexts reach [] = Unit {0}
-AreFoldedTexts reach (Str bytes ∷ items) = AreFoldedTexts reach items
-AreFoldedTexts reach (Value expr ∷ items) =
-    (whole_rank reach Printed expr ≡ Some 0) × IsFoldedExpr expr × AreFoldedTexts reach items
+-- texts, scalars and arrays are printed, with values that have operators over regions
+abbrev pub AreOperatedTexts : List Item → Type 0
+AreOperatedTexts [] = Unit {0}
+AreOperatedTexts (Str bytes ∷ items) = AreOperatedTexts items
+AreOperatedTexts (Value expr ∷ items) = IsOperatedText expr × AreOperatedTexts items
 
--- a scalar or an array is assigned such a value, or scalars are printed
-abbrev pub IsFoldedForm : Reach → Form → Type 0
-IsFoldedForm reach (Assign name op value) = IsFoldedExpr value
-IsFoldedForm reach (Write line items) = AreFoldedTexts reach items
-IsFoldedForm reach (Invoke name actuals) = ⊥
-IsFoldedForm reach (Block body) = ⊥
-IsFoldedForm reach (If arms otherwise) = ⊥
-IsFoldedForm reach (While test body) = ⊥
-IsFoldedForm reach (Repeat body until test) = ⊥
-IsFoldedForm reach (For head body) = ⊥
-IsFoldedForm reach (Border kind names) = ⊥
-IsFoldedForm reach (Return value) = ⊥
+-- a scalar or an array is assigned such a value, or such values are printed
+abbrev pub IsOperatedForm : Reach → Form → Type 0
+IsOperatedForm reach (Assign name op value) = IsOperatedText value
+IsOperatedForm reach (Write line items) = AreOperatedTexts items
+IsOperatedForm reach (Invoke name actuals) = ⊥
+IsOperatedForm reach (Block body) = ⊥
+IsOperatedForm reach (If arms otherwise) = ⊥
+IsOperatedForm reach (While test body) = ⊥
+IsOperatedForm reach (Repeat body until test) = ⊥
+IsOperatedForm reach (For head body) = ⊥
+IsOperatedForm reach (Border kind names) = ⊥
+IsOperatedForm reach (Return value) = ⊥
 
 -- A form that is proved: further ones are further lines.
 abbrev pub IsLeafForm : (Bool → List ℕ → Type 0) → Reach → Form → Type 0
 IsLeafForm IsCallable reach form =
-    IsPlainForm reach form
-    ⊎ (IsPrintForm reach form
-    ⊎ (IsBorderForm reach form
+    IsBorderForm reach form
     ⊎ (IsShatteredForm reach form
-    ⊎ (IsFoldedForm reach form
-    ⊎ IsCallForm IsCallable reach form))))
+    ⊎ (IsOperatedForm reach form
+    ⊎ IsCallForm IsCallable reach form))
 
 -- ---- procedures and programs
 

@@ -1,13 +1,13 @@
 -- A program of forms that are proved, with small numerals; one whose numeral is too large; and one
 -- that has no such form.
-use Rattle.std.proofs.Common.{inl, ℕ, ◌^◌, ◌-◌, true, List, [], ◌∷◌, None, pos, codes, refl, arith}
+use Rattle.std.proofs.Common.{ℕ, ◌^◌, ◌-◌, true, List, [], ◌∷◌, None, pos, codes, refl, arith}
 use Rattle.zpl_nums.specs.Integer.{IsInteger}
 use Rattle.zpl_nums.specs.declared.operators.Op.TheVariants as op
 use Rattle.zpl_nums.specs.declared.folds.Fold.TheVariants as fold
 use Rattle.zpl_tree.specs.Syntax.{Name, Expr, Number, Named, Pair, Reduce, NoBracket, Value, Prefixed, NoStmt, ThenStmt, Block, Write, Integer, Constant, Defined, Program}
 use Rattle.zpl_names.specs.Reached.{longest_chain}
 use Rattle.shown_texts.specs.Numerals.{HasSmallNumerals}
-use Rattle.shown_texts.specs.Forms.{HasScalarForm, HasShownForms}
+use Rattle.shown_texts.specs.Forms.{HasPlainForm, HasShownForms}
 
 abbrev name : List ℕ → ℕ → Name
 name text at = record { text = text; at = at }
@@ -52,9 +52,9 @@ unfolding longest_chain
 has_forms value = record {
   routine = _;
   named = refl;
-  form = (inl (inl (refl, (tt, tt)), tt), tt);
+  form = (((tt, tt), tt), tt);
 }
 
--- +<< n is no scalar's form
-no_form : ¬ HasScalarForm (Reduce 0 fold.Sum NoBracket (Named 4 (name (codes "n") 4)))
+-- +<< n has an operator over regions
+no_form : ¬ HasPlainForm (Reduce 0 fold.Sum NoBracket (Named 4 (name (codes "n") 4)))
 no_form form = form

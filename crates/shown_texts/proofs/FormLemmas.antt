@@ -17,12 +17,11 @@ use Rattle.flat_form.proofs.WordLemmas.{every_append}
 use Rattle.zpl_meaning.specs.Calls.{formals_in}
 use Rattle.zpl_meaning.specs.Statement.{step_expr}
 use Rattle.zpl_binding.specs.Settings.{Setting}
-use Rattle.lowering_runs.specs.Scalars.{IsScalarExpr}
 use Rattle.served_places.specs.Told.{IsPlainExpr}
 use Rattle.served_places.specs.Given.{HasSmall, HasSmallDim, HaveSmallDims}
-use Rattle.shown_programs.specs.Text.{HasSmallInner, HaveSmallPrefixes, behind_prefixes, IsReturnText, IsShownStmt, AreShown, IsShownForm, AreShownArms, IsShownArm, IsShownElse, AreAnsweringTexts, IsAnsweringText, IsPlainPart, IsFoldedExpr, AreFoldedTexts, AreCallTexts, IsAskedText, ArePrintedTexts, IsPrintedText, IsLeafForm, IsTestText, IsShownRoutine, IsShownCall, IsShownProgram}
+use Rattle.shown_programs.specs.Text.{HasSmallInner, HaveSmallPrefixes, behind_prefixes, IsReturnText, IsShownStmt, AreShown, IsShownForm, AreShownArms, IsShownArm, IsShownElse, AreAnsweringTexts, IsAnsweringText, IsPlainPart, IsOperatedText, AreOperatedIndices, AreOperatedTexts, AreCallTexts, IsAskedText, IsLeafForm, IsShownRoutine, IsShownCall, IsShownProgram}
 use Rattle.shown_texts.specs.Numerals.{IsSmallExpr, AreSmallExprs, IsSmallInner, IsSmallDim, AreSmallDims, IsSmallPrefix, IsSmallStep, IsSmallItem, IsSmallStmt, AreSmallStmts, IsSmallForm, AreSmallArms, IsSmallArm, IsSmallElse, IsSmallProcedure, IsSmallDecl, HasSmallNumerals}
-use Rattle.shown_texts.specs.Forms.{HasScalarForm, HasPlainForm, HasFoldedForm, HaveFoldedForms, HasPartForm, IsShatteredOr, HaveCallForms, HasPrintForm, HavePrintForms, HasAskingForm, HasAssignForm, HasStmtForm, HaveForms, HasForm, HaveArmForms, HasArmForm, HasElseForm, HasReturnForm, HaveAnswerForms, HasAnswerForm, HasRoutineForm, HasChainForms, HasShownForms}
+use Rattle.shown_texts.specs.Forms.{HasPlainForm, HasOperatedForm, HaveOperatedIndices, HasPartForm, IsShatteredOr, HaveCallForms, HavePrintForms, HasAskingForm, HasAssignForm, HasStmtForm, HaveForms, HasForm, HaveArmForms, HasArmForm, HasElseForm, HasReturnForm, HaveAnswerForms, HasAnswerForm, HasRoutineForm, HasChainForms, HasShownForms}
 use Rattle.shown_texts.proofs.ValueLemmas.{values_small}
 
 -- ---- prefixes
@@ -67,25 +66,6 @@ prefixes_have (prefix ∷ rest) small =
 
 -- ---- expressions
 
-scalar_shown : (expr : Expr) → HasScalarForm expr → IsSmallExpr expr → IsScalarExpr expr
-scalar_shown (Number at value) form small = small
-scalar_shown (Truth at value) form small = tt
-scalar_shown (Named at name) form small = tt
-scalar_shown (Paren at inside) form small = scalar_shown inside form small
-scalar_shown (Neg at operand) form small = scalar_shown operand form small
-scalar_shown (Not at operand) form small = scalar_shown operand form small
-scalar_shown (Abs at operand) form small = scalar_shown operand form small
-scalar_shown (Pair at op left right) form small =
-    (scalar_shown left form.0 small.0, scalar_shown right form.1 small.1)
-scalar_shown (Coord at k) form small = absurd form
-scalar_shown (Shifted at name shift) form small = absurd form
-scalar_shown (Around at name shift) form small = absurd form
-scalar_shown (Remap at name indices) form small = absurd form
-scalar_shown (Call at name actuals) form small = absurd form
-scalar_shown (Reduce at operator over operand) form small = absurd form
-scalar_shown (Scan at operator along operand) form small = absurd form
-scalar_shown (Flood at source operand) form small = absurd form
-
 plain_shown : (expr : Expr) → HasPlainForm expr → IsSmallExpr expr → IsPlainExpr expr
 plain_shown (Number at value) form small = small
 plain_shown (Truth at value) form small = tt
@@ -105,26 +85,35 @@ plain_shown (Reduce at operator over operand) form small = absurd form
 plain_shown (Scan at operator along operand) form small = absurd form
 plain_shown (Flood at source operand) form small = absurd form
 
-folded_shown : (expr : Expr) → HasFoldedForm expr → IsSmallExpr expr → IsFoldedExpr expr
-folded_shown (Number at value) form small = small
-folded_shown (Truth at value) form small = tt
-folded_shown (Coord at k) form small = tt
-folded_shown (Named at name) form small = tt
-folded_shown (Shifted at name shift) form small = tt
-folded_shown (Paren at inside) form small = folded_shown inside form small
-folded_shown (Neg at operand) form small = folded_shown operand form small
-folded_shown (Not at operand) form small = folded_shown operand form small
-folded_shown (Abs at operand) form small = folded_shown operand form small
-folded_shown (Pair at op left right) form small =
-    (folded_shown left form.0 small.0, folded_shown right form.1 small.1)
-folded_shown (Reduce at operator NoBracket operand) form small =
-    folded_shown operand form small.1
-folded_shown (Reduce at operator (Bracketed source) operand) form small = absurd form
-folded_shown (Around at name shift) form small = absurd form
-folded_shown (Remap at name indices) form small = absurd form
-folded_shown (Call at name actuals) form small = absurd form
-folded_shown (Scan at operator along operand) form small = absurd form
-folded_shown (Flood at source operand) form small = absurd form
+mutual
+  operated_shown : (expr : Expr) → HasOperatedForm expr → IsSmallExpr expr → IsOperatedText expr
+  operated_shown (Number at value) form small = small
+  operated_shown (Truth at value) form small = tt
+  operated_shown (Coord at k) form small = tt
+  operated_shown (Named at name) form small = tt
+  operated_shown (Shifted at name shift) form small = tt
+  operated_shown (Paren at inside) form small = operated_shown inside form small
+  operated_shown (Neg at operand) form small = operated_shown operand form small
+  operated_shown (Not at operand) form small = operated_shown operand form small
+  operated_shown (Abs at operand) form small = operated_shown operand form small
+  operated_shown (Pair at op left right) form small =
+      (operated_shown left form.0 small.0, operated_shown right form.1 small.1)
+  operated_shown (Reduce at operator NoBracket operand) form small =
+      operated_shown operand form small.1
+  operated_shown (Reduce at operator (Bracketed source) operand) form small =
+      (inner_has source small.0, operated_shown operand form small.1)
+  operated_shown (Scan at operator along operand) form small = operated_shown operand form small.1
+  operated_shown (Flood at source operand) form small =
+      (inner_has source small.0, operated_shown operand form small.1)
+  operated_shown (Remap at name indices) form small = indices_shown indices form small
+  operated_shown (Around at name shift) form small = absurd form
+  operated_shown (Call at name actuals) form small = absurd form
+
+  indices_shown : (indices : Exprs) → HaveOperatedIndices indices → AreSmallExprs indices
+      → AreOperatedIndices indices
+  indices_shown NoExpr forms small = tt
+  indices_shown (ThenExpr first rest) forms small =
+      (operated_shown first forms.0 small.0, indices_shown rest forms.1 small.1)
 
 step_small : (step : Option Expr) → IsSmallStep step → IsSmallExpr (step_expr step)
 step_small None small = IsInteger-truth true
@@ -135,31 +124,18 @@ actuals_shown : (formals : List Formal) (actuals : Exprs) → HaveCallForms form
 actuals_shown [] actuals forms small = tt
 actuals_shown (formal ∷ formals) NoExpr forms small = tt
 actuals_shown (ScalarFormal false base ∷ formals) (ThenExpr actual rest) forms small =
-    (scalar_shown actual forms.0 small.0, actuals_shown formals rest forms.1 small.1)
+    (operated_shown actual forms.0 small.0, actuals_shown formals rest forms.1 small.1)
 actuals_shown (ScalarFormal true base ∷ formals) (ThenExpr actual rest) forms small =
     actuals_shown formals rest forms small.1
 actuals_shown (ArrayFormal by_ref base shape ∷ formals) (ThenExpr actual rest) forms small =
     actuals_shown formals rest forms small.1
 
-print_shown : (reach : Reach) (expr : Expr) → HasPrintForm reach expr → IsSmallExpr expr
-    → IsPrintedText reach expr
-print_shown reach expr (inl scalar) small =
-    inl (scalar.0, scalar_shown expr scalar.1 small)
-print_shown reach expr (inr array) small = inr (array.0, plain_shown expr array.1 small)
-
-items_shown : (reach : Reach) (items : List Item) → HavePrintForms reach items
-    → AllByRecursion IsSmallItem items → ArePrintedTexts reach items
-items_shown reach [] forms small = tt
-items_shown reach (Str bytes ∷ items) forms small = items_shown reach items forms small.1
-items_shown reach (Value expr ∷ items) forms small =
-    (print_shown reach expr forms.0 small.0, items_shown reach items forms.1 small.1)
-
-folded_items : (reach : Reach) (items : List Item) → HaveFoldedForms reach items
-    → AllByRecursion IsSmallItem items → AreFoldedTexts reach items
-folded_items reach [] forms small = tt
-folded_items reach (Str bytes ∷ items) forms small = folded_items reach items forms small.1
-folded_items reach (Value expr ∷ items) forms small =
-    (forms.0, folded_shown expr forms.1 small.0, folded_items reach items forms.2 small.1)
+items_shown : (items : List Item) → HavePrintForms items → AllByRecursion IsSmallItem items
+    → AreOperatedTexts items
+items_shown [] forms small = tt
+items_shown (Str bytes ∷ items) forms small = items_shown items forms small.1
+items_shown (Value expr ∷ items) forms small =
+    (operated_shown expr forms.0 small.0, items_shown items forms.1 small.1)
 
 -- ---- what shattered statements read
 
@@ -224,7 +200,7 @@ module _ (IsCallable IsCalled : Bool → List ℕ → Type 0)
         → IsSmallForm form → (Forms → Parts)
         → IsLeafForm IsCalled reach form ⊎ ((is_shattered reach form ≡ false) × Parts)
     either reach form Forms Parts (inl is) small shown =
-        inl (inr (inr (inr (inl (is.0, parts_shown (form_parts form) is.1 (form_reads form small))))))
+        inl (inr (inl (is.0, parts_shown (form_parts form) is.1 (form_reads form small))))
     either reach form Forms Parts (inr is) small shown = inr (is.0, shown is.1)
 
     asked_shown : (reach : Reach) (op : Option Op) (value : Expr)
@@ -241,10 +217,10 @@ module _ (IsCallable IsCalled : Bool → List ℕ → Type 0)
     assign_shown : (reach : Reach) (name : Name) (op : Option Op) (value : Expr)
         → HasAssignForm IsCallable reach op value → IsSmallExpr value
         → IsLeafForm IsCalled reach (Assign name op value)
-    assign_shown reach name op value (inl folded) small =
-        inr (inr (inr (inr (inl (folded_shown value folded small)))))
+    assign_shown reach name op value (inl operated) small =
+        inr (inr (inl (operated_shown value operated small)))
     assign_shown reach name op value (inr asks) small =
-        inr (inr (inr (inr (inr (asked_shown reach op value asks small)))))
+        inr (inr (inr (asked_shown reach op value asks small)))
 
     mutual
       stmt_shown : (reach : Reach) (stmt : Stmt) → HasStmtForm IsCallable reach stmt
@@ -265,10 +241,10 @@ module _ (IsCallable IsCalled : Bool → List ℕ → Type 0)
       form_shown reach (Assign name op value) forms small =
           assign_shown reach name op value forms small
       form_shown reach (Invoke name actuals) forms small =
-          inr (inr (inr (inr (inr (
+          inr (inr (inr (
             actuals_shown (formals_in (kind_of reach.scope name)) actuals forms.0 small,
             called false name.text forms.1,
-          )))))
+          )))
       form_shown reach (Block body) forms small = stmts_shown reach body forms small
       form_shown reach (If arms otherwise) forms small =
           either reach (If arms otherwise)
@@ -277,27 +253,25 @@ module _ (IsCallable IsCalled : Bool → List ℕ → Type 0)
           × IsShownElse (IsLeafForm IsCalled) reach otherwise) forms small
           (λ own. (arms_shown reach arms own.0 small.0, else_shown reach otherwise own.1 small.1))
       form_shown reach (While test body) forms small =
-          either reach (While test body) (HasFoldedForm test × HaveForms IsCallable reach body)
-          (IsTestText test × AreShown (IsLeafForm IsCalled) reach body) forms small
-          (λ own. (inr (folded_shown test own.0 small.0), stmts_shown reach body own.1 small.1))
+          either reach (While test body) (HasOperatedForm test × HaveForms IsCallable reach body)
+          (IsOperatedText test × AreShown (IsLeafForm IsCalled) reach body) forms small
+          (λ own. (operated_shown test own.0 small.0, stmts_shown reach body own.1 small.1))
       form_shown reach (Repeat body until test) forms small =
           either reach (Repeat body until test)
-          (HasFoldedForm test × HaveForms IsCallable reach body)
-          (IsTestText test × AreShown (IsLeafForm IsCalled) reach body) forms small
-          (λ own. (inr (folded_shown test own.0 small.1), stmts_shown reach body own.1 small.0))
+          (HasOperatedForm test × HaveForms IsCallable reach body)
+          (IsOperatedText test × AreShown (IsLeafForm IsCalled) reach body) forms small
+          (λ own. (operated_shown test own.0 small.1, stmts_shown reach body own.1 small.0))
       form_shown reach (For head body) forms small = (
         (
-          scalar_shown head.first forms.0.0 small.0.0,
-          scalar_shown head.last forms.0.1 small.0.1,
-          scalar_shown (step_expr head.step) forms.0.2 (step_small head.step small.0.2),
+          operated_shown head.first forms.0.0 small.0.0,
+          operated_shown head.last forms.0.1 small.0.1,
+          operated_shown (step_expr head.step) forms.0.2 (step_small head.step small.0.2),
         ),
         stmts_shown reach body forms.1 small.1,
       )
-      form_shown reach (Border kind names) forms small = inr (inr (inl tt))
-      form_shown reach (Write line items) (inl forms) small =
-          inr (inl (items_shown reach items forms small))
-      form_shown reach (Write line items) (inr forms) small =
-          inr (inr (inr (inr (inl (folded_items reach items forms small)))))
+      form_shown reach (Border kind names) forms small = inl tt
+      form_shown reach (Write line items) forms small =
+          inr (inr (inl (items_shown items forms small)))
       form_shown reach (Return value) forms small = absurd forms
 
       arms_shown : (reach : Reach) (arms : Arms) → HaveArmForms IsCallable reach arms
@@ -309,7 +283,7 @@ module _ (IsCallable IsCalled : Bool → List ℕ → Type 0)
       arm_shown : (reach : Reach) (arm : Arm) → HasArmForm IsCallable reach arm
           → IsSmallArm arm → IsShownArm (IsLeafForm IsCalled) reach arm
       arm_shown reach (Tested at test body) forms small =
-          (inr (folded_shown test forms.0 small.0), stmts_shown reach body forms.1 small.1)
+          (operated_shown test forms.0 small.0, stmts_shown reach body forms.1 small.1)
 
       else_shown : (reach : Reach) (otherwise : Otherwise)
           → HasElseForm IsCallable reach otherwise → IsSmallElse otherwise
@@ -320,9 +294,10 @@ module _ (IsCallable IsCalled : Bool → List ℕ → Type 0)
     return_shown : (stmt : Stmt) → HasReturnForm IsCallable stmt → IsSmallStmt stmt
         → IsReturnText stmt
     return_shown stmt form small =
-        let own : IsSmallStmt (Prefixed form.at [] (Return form.value)) =
+        let own : IsSmallStmt (Prefixed form.at form.prefixes (Return form.value)) =
         subst IsSmallStmt form.returns small in
-        subst IsReturnText (sym form.returns) (scalar_shown form.value form.form own.1)
+        subst IsReturnText (sym form.returns)
+        (prefixes_have form.prefixes own.0, operated_shown form.value form.form own.1)
 
     answers_shown : (reach : Reach) (stmts : Stmts) → HaveAnswerForms IsCallable reach stmts
         → AreSmallStmts stmts → AreAnsweringTexts (IsLeafForm IsCalled) reach stmts
@@ -336,10 +311,12 @@ module _ (IsCallable IsCalled : Bool → List ℕ → Type 0)
     answer_shown : (reach : Reach) (stmt : Stmt) → HasAnswerForm IsCallable reach stmt
         → IsSmallStmt stmt → IsAnsweringText (IsLeafForm IsCalled) reach stmt
     answer_shown reach stmt form small =
-        let own : IsSmallStmt (Prefixed form.at [] (Block form.body)) =
+        let own : IsSmallStmt (Prefixed form.at form.prefixes (Block form.body)) =
         subst IsSmallStmt form.block small in
-        subst (IsAnsweringText (IsLeafForm IsCalled) reach) (sym form.block)
-        (answers_shown reach form.body form.forms own.1)
+        subst (IsAnsweringText (IsLeafForm IsCalled) reach) (sym form.block) (
+          prefixes_have form.prefixes own.0,
+          answers_shown (behind_prefixes reach form.prefixes) form.body form.forms own.1,
+        )
 
     routine_shown : (program : Program) (answers : Bool) (routine : Routine)
         → HasRoutineForm program IsCallable answers routine → IsSmallProcedure routine.procedure

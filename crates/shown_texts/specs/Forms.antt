@@ -2,12 +2,11 @@
 -- whatever their numbers are. Of text alone.
 use Rattle.std.specs.Prelude.{◌≡◌, ◌⊎◌, ℕ, zero, suc, Bool, true, false, List, [], ◌∷◌, Option, Some, None, ⊤}
 use Rattle.zpl_nums.specs.declared.operators.Op.{Op}
-use Rattle.zpl_tree.specs.Syntax.{Name, Expr, Number, Truth, Coord, Named, Shifted, Around, Remap, Call, Paren, Neg, Not, Abs, Pair, Reduce, Scan, Flood, NoBracket, Bracketed, Exprs, NoExpr, ThenExpr, Item, Str, Value, Stmt, Prefixed, Stmts, NoStmt, ThenStmt, Form, Assign, Invoke, Block, If, While, Repeat, For, Border, Write, Return, Arm, Tested, Arms, NoArm, ThenArm, Otherwise, NoElse, Else, Program}
+use Rattle.zpl_tree.specs.Syntax.{Name, Expr, Number, Truth, Coord, Named, Shifted, Around, Remap, Call, Paren, Neg, Not, Abs, Pair, Reduce, Scan, Flood, Exprs, NoExpr, ThenExpr, Item, Str, Value, Prefix, Stmt, Prefixed, Stmts, NoStmt, ThenStmt, Form, Assign, Invoke, Block, If, While, Repeat, For, Border, Write, Return, Arm, Tested, Arms, NoArm, ThenArm, Otherwise, NoElse, Else, Program}
 use Rattle.zpl_names.specs.Kinds.{Formal, ScalarFormal, ArrayFormal}
-use Rattle.zpl_names.specs.Ranks.{is_above_zero}
 use Rattle.zpl_names.specs.Scope.{kind_of}
 use Rattle.zpl_names.specs.Shapes.{unknown_shapes}
-use Rattle.zpl_names.specs.Sites.{Reach, in_body, Printed, whole_rank, is_shattered}
+use Rattle.zpl_names.specs.Sites.{Reach, in_body, is_shattered}
 use Rattle.zpl_names.specs.Declared.{Routine, routine_named, scope_of}
 use Rattle.zpl_names.specs.Reached.{longest_chain}
 use Rattle.zpl_meaning.specs.Points.{Part, Reads, Writes, form_parts}
@@ -17,25 +16,6 @@ use Rattle.row_runs.specs.Straight.{Every}
 use Rattle.shown_programs.specs.Text.{behind_prefixes}
 
 -- ---- expressions
-
--- numbers, truth values, names and operators on them
-abbrev pub HasScalarForm : Expr → Type 0
-HasScalarForm (Number at value) = ⊤
-HasScalarForm (Truth at value) = ⊤
-HasScalarForm (Named at name) = ⊤
-HasScalarForm (Paren at inside) = HasScalarForm inside
-HasScalarForm (Neg at operand) = HasScalarForm operand
-HasScalarForm (Not at operand) = HasScalarForm operand
-HasScalarForm (Abs at operand) = HasScalarForm operand
-HasScalarForm (Pair at op left right) = HasScalarForm left × HasScalarForm right
-HasScalarForm (Coord at k) = ⊥
-HasScalarForm (Shifted at name shift) = ⊥
-HasScalarForm (Around at name shift) = ⊥
-HasScalarForm (Remap at name indices) = ⊥
-HasScalarForm (Call at name actuals) = ⊥
-HasScalarForm (Reduce at operator over operand) = ⊥
-HasScalarForm (Scan at operator along operand) = ⊥
-HasScalarForm (Flood at source operand) = ⊥
 
 -- no operators over regions, no wraps round and no calls
 abbrev pub HasPlainForm : Expr → Type 0
@@ -56,54 +36,46 @@ HasPlainForm (Reduce at operator over operand) = ⊥
 HasPlainForm (Scan at operator along operand) = ⊥
 HasPlainForm (Flood at source operand) = ⊥
 
--- full folds, also in one another's operands, and no other operators over regions
-abbrev pub HasFoldedForm : Expr → Type 0
-HasFoldedForm (Number at value) = ⊤
-HasFoldedForm (Truth at value) = ⊤
-HasFoldedForm (Coord at k) = ⊤
-HasFoldedForm (Named at name) = ⊤
-HasFoldedForm (Shifted at name shift) = ⊤
-HasFoldedForm (Paren at inside) = HasFoldedForm inside
-HasFoldedForm (Neg at operand) = HasFoldedForm operand
-HasFoldedForm (Not at operand) = HasFoldedForm operand
-HasFoldedForm (Abs at operand) = HasFoldedForm operand
-HasFoldedForm (Pair at op left right) = HasFoldedForm left × HasFoldedForm right
-HasFoldedForm (Reduce at operator NoBracket operand) = HasFoldedForm operand
-HasFoldedForm (Reduce at operator (Bracketed source) operand) = ⊥
-HasFoldedForm (Around at name shift) = ⊥
-HasFoldedForm (Remap at name indices) = ⊥
-HasFoldedForm (Call at name actuals) = ⊥
-HasFoldedForm (Scan at operator along operand) = ⊥
-HasFoldedForm (Flood at source operand) = ⊥
+-- full and partial folds, scans, floods and remap reads, also in one another's operands
+abbrev mutual
+  pub HasOperatedForm : Expr → Type 0
+  HasOperatedForm (Number at value) = ⊤
+  HasOperatedForm (Truth at value) = ⊤
+  HasOperatedForm (Coord at k) = ⊤
+  HasOperatedForm (Named at name) = ⊤
+  HasOperatedForm (Shifted at name shift) = ⊤
+  HasOperatedForm (Paren at inside) = HasOperatedForm inside
+  HasOperatedForm (Neg at operand) = HasOperatedForm operand
+  HasOperatedForm (Not at operand) = HasOperatedForm operand
+  HasOperatedForm (Abs at operand) = HasOperatedForm operand
+  HasOperatedForm (Pair at op left right) = HasOperatedForm left × HasOperatedForm right
+  HasOperatedForm (Reduce at operator over operand) = HasOperatedForm operand
+  HasOperatedForm (Scan at operator along operand) = HasOperatedForm operand
+  HasOperatedForm (Flood at source operand) = HasOperatedForm operand
+  HasOperatedForm (Remap at name indices) = HaveOperatedIndices indices
+  HasOperatedForm (Around at name shift) = ⊥
+  HasOperatedForm (Call at name actuals) = ⊥
 
--- what parameters take: a value of a scalar is of scalars
+  pub HaveOperatedIndices : Exprs → Type 0
+  HaveOperatedIndices NoExpr = ⊤
+  HaveOperatedIndices (ThenExpr first rest) = HasOperatedForm first × HaveOperatedIndices rest
+
+-- what parameters take: a value of a scalar may have operators over regions
 abbrev pub HaveCallForms : List Formal → Exprs → Type 0
 HaveCallForms [] actuals = ⊤
 HaveCallForms (formal ∷ formals) NoExpr = ⊤
 HaveCallForms (ScalarFormal false base ∷ formals) (ThenExpr actual rest) =
-    HasScalarForm actual × HaveCallForms formals rest
+    HasOperatedForm actual × HaveCallForms formals rest
 HaveCallForms (ScalarFormal true base ∷ formals) (ThenExpr actual rest) =
     HaveCallForms formals rest
 HaveCallForms (ArrayFormal by_ref base shape ∷ formals) (ThenExpr actual rest) =
     HaveCallForms formals rest
 
--- a scalar is printed, or an array without operators over regions
-abbrev pub HasPrintForm : Reach → Expr → Type 0
-HasPrintForm reach expr =
-    ((whole_rank reach Printed expr ≡ Some 0) × HasScalarForm expr)
-    ⊎ ((is_above_zero (whole_rank reach Printed expr) ≡ true) × HasPlainForm expr)
-
-abbrev pub HavePrintForms : Reach → List Item → Type 0
-HavePrintForms reach [] = ⊤
-HavePrintForms reach (Str bytes ∷ items) = HavePrintForms reach items
-HavePrintForms reach (Value expr ∷ items) = HasPrintForm reach expr × HavePrintForms reach items
-
--- texts and scalars are printed, with folds
-abbrev pub HaveFoldedForms : Reach → List Item → Type 0
-HaveFoldedForms reach [] = ⊤
-HaveFoldedForms reach (Str bytes ∷ items) = HaveFoldedForms reach items
-HaveFoldedForms reach (Value expr ∷ items) =
-    (whole_rank reach Printed expr ≡ Some 0) × HasFoldedForm expr × HaveFoldedForms reach items
+-- texts, scalars and arrays are printed, with operators over regions
+abbrev pub HavePrintForms : List Item → Type 0
+HavePrintForms [] = ⊤
+HavePrintForms (Str bytes ∷ items) = HavePrintForms items
+HavePrintForms (Value expr ∷ items) = HasOperatedForm expr × HavePrintForms items
 
 -- what a shattered statement reads
 abbrev pub HasPartForm : Part → Type 0
@@ -131,7 +103,7 @@ module _ (IsCallable : Bool → List ℕ → Type 0) where
 
   -- a scalar or an array is assigned, or the answer of a call
   abbrev pub HasAssignForm : Reach → Option Op → Expr → Type 0
-  HasAssignForm reach op value = HasFoldedForm value ⊎ HasAskingForm reach op value
+  HasAssignForm reach op value = HasOperatedForm value ⊎ HasAskingForm reach op value
 
   abbrev mutual
     pub HasStmtForm : Reach → Stmt → Type 0
@@ -153,16 +125,15 @@ module _ (IsCallable : Bool → List ℕ → Type 0) where
         (HaveArmForms reach arms × HasElseForm reach otherwise)
     HasForm reach (While test body) =
         IsShatteredOr reach (While test body)
-        (HasFoldedForm test × HaveForms reach body)
+        (HasOperatedForm test × HaveForms reach body)
     HasForm reach (Repeat body until test) =
         IsShatteredOr reach (Repeat body until test)
-        (HasFoldedForm test × HaveForms reach body)
+        (HasOperatedForm test × HaveForms reach body)
     HasForm reach (For head body) =
-        (HasScalarForm head.first × HasScalarForm head.last × HasScalarForm (step_expr head.step))
+        (HasOperatedForm head.first × HasOperatedForm head.last × HasOperatedForm (step_expr head.step))
         × HaveForms reach body
     HasForm reach (Border kind names) = ⊤
-    HasForm reach (Write line items) =
-        HavePrintForms reach items ⊎ HaveFoldedForms reach items
+    HasForm reach (Write line items) = HavePrintForms items
     HasForm reach (Return value) = ⊥
 
     pub HaveArmForms : Reach → Arms → Type 0
@@ -170,31 +141,34 @@ module _ (IsCallable : Bool → List ℕ → Type 0) where
     HaveArmForms reach (ThenArm first rest) = HasArmForm reach first × HaveArmForms reach rest
 
     pub HasArmForm : Reach → Arm → Type 0
-    HasArmForm reach (Tested at test body) = HasFoldedForm test × HaveForms reach body
+    HasArmForm reach (Tested at test body) = HasOperatedForm test × HaveForms reach body
 
     pub HasElseForm : Reach → Otherwise → Type 0
     HasElseForm reach NoElse = ⊤
     HasElseForm reach (Else body) = HaveForms reach body
 
-  -- the value of a scalar is returned
+  -- a value is returned, behind any prefixes
   pub record HasReturnForm (stmt : Stmt) : Type 0 where
     pub at : ℕ
+    pub prefixes : List Prefix
     pub value : Expr
-    pub returns : stmt ≡ Prefixed at [] (Return value)
-    pub form : HasScalarForm value
+    pub returns : stmt ≡ Prefixed at prefixes (Return value)
+    pub form : HasOperatedForm value
 
-  -- bodies of procedures that answer: statements of these forms, and then a `return` of a scalar
+  -- bodies of procedures that answer: statements of these forms, and then a `return`
   abbrev pub HaveAnswerForms : Reach → Stmts → Type 0
   HaveAnswerForms reach NoStmt = ⊥
   HaveAnswerForms reach (ThenStmt first NoStmt) = HasReturnForm first
   HaveAnswerForms reach (ThenStmt first (ThenStmt second rest)) =
       HasStmtForm reach first × HaveAnswerForms reach (ThenStmt second rest)
 
+  -- in a block behind any prefixes
   pub record HasAnswerForm (reach : Reach) (stmt : Stmt) : Type 0 where
     pub at : ℕ
+    pub prefixes : List Prefix
     pub body : Stmts
-    pub block : stmt ≡ Prefixed at [] (Block body)
-    pub forms : HaveAnswerForms reach body
+    pub block : stmt ≡ Prefixed at prefixes (Block body)
+    pub forms : HaveAnswerForms (behind_prefixes reach prefixes) body
 
 -- ---- procedures and programs
 
