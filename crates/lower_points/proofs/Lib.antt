@@ -3,3 +3,4 @@ pub mod FitLemmas
 pub mod FormLemmas
 pub mod RankLemmas
 pub mod CloseLemmas
+pub mod ApartLemmas

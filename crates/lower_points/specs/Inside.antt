@@ -8,7 +8,8 @@ use Rattle.zpl_meaning.specs.Store.{Thing, ArrayAt, thing_of}
 use Rattle.flat_form.specs.Row.{Member}
 use Rattle.zpl_lowering.specs.Hoist.{mask_code}
 use Rattle.zpl_lowering.specs.Reference.{Reference, each_once, over_reference}
-use Rattle.zpl_lowering.specs.Statement.{Elementwise, Inside, arms_inside, elementwise, form_inside, masked_members, otherwise_inside, put_thing, stmt_inside, stmts_inside}
+use Rattle.zpl_lowering.specs.Lowered.{Lowered}
+use Rattle.zpl_lowering.specs.Statement.{Elementwise, Inside, arms_inside, elementwise, form_inside, masked_members, otherwise_inside, put_thing, shattered_over, stmt_inside, stmts_inside}
 use Rattle.zpl_lowering.specs.Where.{Next, Slotted, Stored, Where, reach_of, slotted_at}
 use Rattle.lower_draft.specs.Inline.{member_of}
 use Rattle.lower_draft.specs.declared.rows.FlatMember.{FlatMember}
@@ -61,6 +62,12 @@ needed_of w over inside = each_once (inside.references ++ over_reference w.numbe
 
 abbrev pub whole_inside : Where → ℕ → Next → Form → Inside
 whole_inside w line next form = form_inside w line next (tests_rank (reach_of w) form) form
+
+-- its rows, but for the one behind a loop that puts nothing
+abbrev pub whole_rows : Where → ℕ → Next → Form → Lowered
+whole_rows w line next form =
+    shattered_over w (slotted_at w.currents (tests_rank (reach_of w) form)) line
+    (whole_inside w line next form)
 
 -- ---- in memory
 

@@ -2,6 +2,7 @@
 ghost use Rattle.std.specs.Prelude.{◌≡◌, ◌∷◌, ◌++◌, ◌+◌, [], List, OnOk, length};
 ghost use Rattle.flat_form.specs.Row as row;
 ghost use Rattle.flat_form.specs.Row.{Member};
+ghost use Rattle.zpl_lowering.specs.Statement as plain;
 ghost use Rattle.zpl_lowering.specs.Statement.{otherwise_members};
 ghost use Rattle.lower_draft.specs.Inline.{member_of};
 ghost use Rattle.lower_points.specs.Inside.{members_in};
@@ -33,4 +34,16 @@ pub fn close_if(members: &mut Vec<FlatMember>, behind: usize) -> Result<(), Allo
         push(members, FlatMember::CloseIf)?;
         Ok(())
     }
+}
+
+/// Whether a member puts an array.
+pub fn has_put(members: &[FlatMember]) -> bool
+    ensures { result ≡ plain.has_put (members_in members.now) }
+{
+    for member in members {
+        if let FlatMember::Put { .. } = member {
+            return true;
+        }
+    }
+    false
 }

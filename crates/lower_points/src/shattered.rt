@@ -1,22 +1,26 @@
 //! Shattered statements.
-ghost use Rattle.std.specs.Prelude.{◌≡◌, ◌++◌, IfOk, OnOk};
+ghost use Rattle.std.specs.Prelude.{◌≡◌, ◌++◌, pos, IfOk, OnOk};
 ghost use Rattle.zpl_tree.specs.View.{statement_of};
-ghost use Rattle.zpl_lowering.specs.Statement.{shattered};
+ghost use Rattle.node_form.specs.Expression.{Constant, words_of};
+ghost use Rattle.zpl_lowering.specs.Statement as plain;
+ghost use Rattle.zpl_lowering.specs.Statement.{kept_apart, shattered};
 ghost use Rattle.lower_draft.specs.Drafted.{grown};
 ghost use Rattle.lower_places.specs.Sound.{IsPlace};
 ghost use Rattle.lower_places.specs.View.{slotted_of, where_of};
 ghost use Rattle.lower_operators.specs.Once.{with_references};
 ghost use Rattle.lower_points.specs.Fit.{IsFitForm};
-ghost use Rattle.lower_points.specs.Inside.{form_at, group_of, members_in, needed_of, whole_inside};
+ghost use Rattle.lower_points.specs.Inside.{form_at, group_of, members_in, needed_of};
+ghost use Rattle.lower_points.specs.Inside.{whole_inside, whole_rows};
 
 use crate::masks::mask_words;
-use crate::members::push;
+use crate::members::{has_put, push};
 use crate::points::{Point, push_form};
 use crate::ranks::tests_rank;
 use lower_draft::{Draft, FlatMember, FlatRow};
 use lower_operators::{References, over_reference};
 use lower_places::{Place, Slotted};
-use std::alloc::AllocError;
+use node_form::{ExprOp, ExprRow};
+use std::alloc::{AllocError, Global};
 use zpl_tree::Form;
 
 /// Appends the members of a statement, under the mask of its region, which is read once.
@@ -109,8 +113,56 @@ fn collected_in<'a, 'n>(
     collected(&at, over, form)
 }
 
-/// Appends the code of a shattered statement: a row for each different reference, and one loop
-/// whose members have the line of the whole statement.
+/// Appends the rows of a shattered statement: one for each different reference, and one loop whose
+/// members have the line of the whole statement. Tells whether the loop puts something.
+fn push_loop(
+    draft: &mut Draft,
+    place: &Place<'_, '_>,
+    line: u32,
+    form: &Form<'_>,
+) -> Result<bool, AllocError>
+    requires place { IsPlace place.now }
+    requires fit { IsFitForm (statement_of form.now) }
+    ensures rows { OnOk result (draft.new ≡ grown draft.old (whole_rows (where_of place.now) line
+        draft.old.next (statement_of form.now))) }
+    ensures put { IfOk result (λ put. put ≡ plain.has_put (whole_inside (where_of place.now) line
+        draft.old.next (statement_of form.now)).members) }
+{
+    let over = place.current(tests_rank(place, form));
+    let (members, references) = collected_in(&*draft, &*place, line, &over, form)?;
+    let put = has_put(members.as_slice());
+    references.push_needs(draft, line)?;
+    draft.push(FlatRow::Loop {
+        slot: over.slot,
+        group: members,
+    })?;
+    Ok(put)
+}
+
+/// The words of 0.
+fn zero_words(alloc: Global) -> Result<ExprRow, AllocError>
+    ensures { IfOk result (λ words. words ≡ words_of (Constant (pos 0))) }
+{
+    let mut words = Vec::new(alloc);
+    words.push(ExprOp::Const(0))?;
+    Ok(ExprRow::of(words))
+}
+
+/// Appends the row behind a loop that puts nothing: it sets a scalar of its own.
+fn push_apart(draft: &mut Draft, line: u32, put: bool) -> Result<(), AllocError>
+    ensures { OnOk result (draft.new
+        ≡ grown draft.old (kept_apart put line draft.old.next.scalars)) }
+{
+    if put {
+        return Ok(());
+    }
+    let scalar = draft.add_scalar()?;
+    let expr = zero_words(draft.alloc())?;
+    draft.push(FlatRow::Set { scalar, expr, line })?;
+    Ok(())
+}
+
+/// Appends the code of a shattered statement: its rows, and one behind a loop that puts nothing.
 pub fn lower_shattered(
     draft: &mut Draft,
     place: &Place<'_, '_>,
@@ -122,12 +174,7 @@ pub fn lower_shattered(
     ensures { OnOk result (draft.new ≡ grown draft.old
         (shattered (where_of place.now) line draft.old.next (statement_of form.now))) }
 {
-    let over = place.current(tests_rank(place, form));
-    let (members, references) = collected_in(&*draft, &*place, line, &over, form)?;
-    references.push_needs(draft, line)?;
-    draft.push(FlatRow::Loop {
-        slot: over.slot,
-        group: members,
-    })?;
+    let put = push_loop(draft, place, line, form)?;
+    push_apart(draft, line, put)?;
     Ok(())
 }

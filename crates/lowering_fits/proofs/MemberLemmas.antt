@@ -1,6 +1,6 @@
 -- The loop of a shattered statement fits.
 use Rattle.std.proofs.Common.{◌≡◌, ℕ, ◌+◌, ◌≤◌, true, List, [], ◌∷◌, ◌++◌, length, refl, sym, ap, ◌∙◌, subst, arith, length-append, append_assoc, inl, inr}
-use Rattle.std.specs.Prelude.{Option, Some, None, option_and_then, slice_get, flat_map}
+use Rattle.std.specs.Prelude.{Bool, false, pos, Option, Some, None, option_and_then, slice_get, flat_map}
 use Rattle.std.specs.Option.{IsSomeAnd}
 use Rattle.zpl_nums.specs.declared.operators.Op.{Op}
 use Rattle.zpl_tree.specs.Syntax.{Name, Expr, Number, Truth, Coord, Named, Shifted, Around, Remap, Call, Paren, Neg, Not, Abs, Pair, Reduce, Scan, Flood, Stmt, Prefixed, Stmts, NoStmt, ThenStmt, Form, Assign, Invoke, Block, If, While, Repeat, For, Border, Write, Return, Arm, Tested, Arms, NoArm, ThenArm, Otherwise, NoElse, Else}
@@ -19,7 +19,7 @@ use Rattle.node_form.specs.declared.nests.Opening.{Opening}
 use Rattle.node_form.specs.declared.nests.Opening.TheVariants as opening
 use Rattle.node_form.specs.Nest.{IsNest, opened}
 use Rattle.node_form.specs.Fits.{HasArray}
-use Rattle.node_form.specs.Expression.{Expression}
+use Rattle.node_form.specs.Expression.{Expression, Constant}
 use Rattle.node_form.proofs.NestLemmas.{opened-append, IsNest-opened}
 use Rattle.flat_form.specs.Row as row
 use Rattle.flat_form.specs.Row.{Member, Words, member_words, member_coded, group_coded}
@@ -27,16 +27,17 @@ use Rattle.zpl_lowering.specs.Where.{Stored, Slotted, slotted_at, Where, Next, r
 use Rattle.zpl_lowering.specs.Slate.{Slate, Settled, settled}
 use Rattle.zpl_lowering.specs.Reference.{Reference, needs, over_reference}
 use Rattle.zpl_lowering.specs.Hoist.{Hoisted, Free, hoisted, mask_code}
-use Rattle.zpl_lowering.specs.Statement.{Inside, no_members, both_inside, Elementwise, elementwise, put_member, put_thing, opening as opening_members, otherwise_members, stmt_inside, stmts_inside, form_inside, arms_inside, arm_inside, otherwise_inside, masked_members, shattered}
+use Rattle.zpl_lowering.specs.Lowered.{rows_alone}
+use Rattle.zpl_lowering.specs.Statement.{Inside, no_members, both_inside, Elementwise, elementwise, put_member, put_thing, opening as opening_members, otherwise_members, stmt_inside, stmts_inside, form_inside, arms_inside, arm_inside, otherwise_inside, masked_members, has_put, apart_rows, kept_apart, shattered}
 use Rattle.lowering_fits.specs.Inline.{FitsWords, FitsMask, FitsInside, AllInside}
 use Rattle.lowering_fits.specs.Slates.{SlotsAt, TempsAt, StoragesAt, AllCovered}
 use Rattle.lowering_fits.specs.Reach.{place_at, IsStoredAs, HasFlatRemaps, IsReach}
 use Rattle.lowering_fits.specs.Lowerings.{IsLaidOut, FitsLowered}
 use Rattle.lowering_fits.proofs.TreeLemmas.{tree_fits, IsThere, stored_at, array_of, stored_of, unmoved_fits}
-use Rattle.lowering_fits.proofs.SlateLemmas.{rows_both, hoisted_fits, mask_fits, mask_still}
+use Rattle.lowering_fits.proofs.SlateLemmas.{rows_both, set_fits, hoisted_fits, mask_fits, mask_still}
 use Rattle.lowering_fits.proofs.BracketLemmas.{rank_number, LimitsAreTold}
 use Rattle.lowering_fits.proofs.SettleLemmas.{over_of, settled_fits}
-use Rattle.lowering_fits.proofs.PhaseLemmas.{rows_alone_fit, FitReferences, references_both, needs_fit, over_referred, referred_fit}
+use Rattle.lowering_fits.proofs.PhaseLemmas.{both_fit, rows_alone_fit, FitReferences, references_both, needs_fit, over_referred, referred_fit}
 use Rattle.lowering_fits.proofs.StillLemmas.{both_true, alone_is, bare_nothing, form_still, masked_are_still}
 
 -- ---- members that are closed
@@ -467,6 +468,19 @@ mutual
   otherwise_fits base w result currents edge line next rank in_it (Else body) proper of =
       stmts_fit base w result currents edge line next rank in_it body proper of
 
+-- a row behind a loop that puts nothing
+apart_fits : (base : Tables) (put : Bool) (line scalar : ℕ) →
+    scalar + length (apart_rows put line scalar) ≤ base.scalars →
+    FitsLowered base (kept_apart put line scalar)
+apart_fits base true line scalar below =
+    record { code_fits = tt; slot_ranks = tt; temp_ranks = tt; small_shifts = tt }
+apart_fits base false line scalar below = record {
+  code_fits = (set_fits base scalar (Constant (pos 0)) line (omega (arith, below)) tt, tt);
+  slot_ranks = tt;
+  temp_ranks = tt;
+  small_shifts = tt;
+}
+
 pub shattered_fits : LimitsAreTold → (base : Tables) (w : Where) (result : ℕ) (currents : Currents)
     (edge : Option Edge) → IsReach base w currents → (line : ℕ) (next : Next) (form : Form) →
     HasCurrent currents (tests_rank (reach_of w) form) →
@@ -486,7 +500,14 @@ shattered_fits limits base w result currents edge reach line next form has prope
     let mask : Option Words = mask_code w.numbers over.mask in
     let members : List Member = masked_members mask line inside.members in
     let references : List Reference = inside.references ++ over_reference w.numbers over in
-    rows_alone_fit base (needs line references ++ row.Loop over.slot members ∷ [])
+    let put : Bool = has_put inside.members in
+    let room : next.scalars + (0 + length (apart_rows put line next.scalars)) ≤ base.scalars
+    = below in
+    let apart = apart_fits base put line next.scalars (omega (arith, room)) in
+    both_fit base
+    (rows_alone (needs line references ++ row.Loop over.slot members ∷ []))
+    (kept_apart put line next.scalars)
+    (rows_alone_fit base (needs line references ++ row.Loop over.slot members ∷ [])
     (rows_both base (needs line references) (row.Loop over.slot members ∷ [])
     (needs_fit base line references
     (references_both base inside.references (over_reference w.numbers over) fits.refers
@@ -503,4 +524,5 @@ shattered_fits limits base w result currents edge reach line next form has prope
             (form_still w (place_at w result currents edge) line next rank form of)));
       },
       tt,
-    ))
+    )))
+    apart

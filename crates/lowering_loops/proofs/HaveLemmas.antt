@@ -25,7 +25,7 @@ use Rattle.zpl_lowering.specs.Tables.{rows_of}
 use Rattle.lowering_checks.specs.Walked.{laid}
 use Rattle.lowering_checks.proofs.WalkLemmas.{map_both, laid_rows, laid_then}
 use Rattle.lowering_checks.proofs.SlateLemmas.{AllQuiet, needs_quiet}
-use Rattle.lowering_checks.proofs.EachLemmas.{GoesAlong, IsSeen, phases_each, program_from}
+use Rattle.lowering_checks.proofs.EachLemmas.{GoesAlong, IsSeen, phases_each, program_from, shattered_each}
 use Rattle.lowering_loops.specs.Turns.{turns_in, RowsHave}
 
 index_turns : (line : ℕ) (mask : Option Words) (temp : ℕ) (exprs : List Expression) →
@@ -134,13 +134,17 @@ module _ (G : List Member → Type 0) (bare : (group : List Member) → turns_in
               ),
             ),
           );
-      indices = λ line slot mask temp exprs.
-          of_rows (rooms slot (temps_from temp exprs)
-          ++ row.Loop slot (index_puts line mask temp exprs) ∷ [])
-          (have_both (rooms slot (temps_from temp exprs))
-          (row.Loop slot (index_puts line mask temp exprs) ∷ [])
-          (rooms_have slot (temps_from temp exprs))
-          (bare (index_puts line mask temp exprs) (index_turns line mask temp exprs), tt));
+      remap = λ numbers line scalar temp operator over exprs operand.
+          let places = rooms over.slot (temps_from temp exprs) in
+          let mask = mask_code numbers over.mask in
+          let group = index_puts line mask temp exprs in
+          let others = row.Loop over.slot group
+          ∷ fold_rows numbers line scalar operator over operand in
+          of_rows (places ++ others)
+          (have_both places others (rooms_have over.slot (temps_from temp exprs)) (
+            bare group (index_turns line mask temp exprs),
+            (tt, (bare (row.Acc scalar operator (words_of operand) mask line ∷ []) refl, (tt, tt))),
+          ));
       copy = λ line array copy slot region.
           of_rows (row.Plain (instr.Fix slot region)
           ∷ row.Loop slot (row.Put copy (words_of (Element array)) None line ∷ []) ∷ [])
@@ -162,10 +166,11 @@ module _ (G : List Member → Type 0) (bare : (group : List Member) → turns_in
         let over : Slotted = slotted_at w.currents rank in
         let inside : Inside = form_inside w line next rank form in
         let refs = needs line (inside.references ++ over_reference w.numbers over) in
-        of_rows (refs ++ row.Loop over.slot (group_of w line next form) ∷ [])
+        shattered_each HaveIn along w line next form
+        (of_rows (refs ++ row.Loop over.slot (group_of w line next form) ∷ [])
         (have_both refs (row.Loop over.slot (group_of w line next form) ∷ [])
         (quiet_have refs (needs_quiet line (inside.references ++ over_reference w.numbers over)))
-        (have, tt))
+        (have, tt)))
 
     array_have : (w : Where) (line : ℕ) (next : Next) (over : Slotted) (value : Placed)
         (target : Option Stored) → HaveIn (lowered_array w line next over value target).code

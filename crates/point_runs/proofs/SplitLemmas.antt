@@ -1,11 +1,12 @@
 -- The code of a shattered statement goes as the statement does.
-use Rattle.std.proofs.Common.{◌≡◌, refl, sym, ◌∙◌, ap, subst, arith, ℕ, ◌≤◌, Bool, true, false, ◌&&◌}
-use Rattle.std.proofs.Common.{List, [], ◌∷◌, ◌++◌, filter, ℤ, pos, Option, Some, None, append-nil}
+use Rattle.std.proofs.Common.{◌≡◌, refl, sym, ◌∙◌, ap, subst, arith, ℕ, ◌+◌, ◌≤◌, Bool, true, false, ◌&&◌}
+use Rattle.std.proofs.Common.{List, [], ◌∷◌, ◌++◌, filter, ℤ, pos, Option, Some, None, append-nil, length}
 use Rattle.std.specs.Prelude.{drop, flat_map, replicate, slice_get, if◌then◌else◌}
 use Rattle.std.specs.List.{list_all}
 use Rattle.zpl_nums.specs.declared.ends.End.{End}
 use Rattle.zpl_nums.specs.declared.ends.TrapKind.TheVariants.{OutsideStorage, RegionMismatch}
 use Rattle.zpl_nums.specs.Integer.{is_true}
+use Rattle.zpl_nums.proofs.IntegerLemmas.{IsInteger-truth}
 use Rattle.zpl_region.specs.declared.regions.Region.{Region}
 use Rattle.zpl_region.specs.Region.{IsMember, members}
 use Rattle.zpl_region.proofs.HullLemmas.{has_steps}
@@ -31,7 +32,7 @@ use Rattle.zpl_meaning.specs.Statement.{Context}
 use Rattle.node_form.specs.declared.members.Member.TheVariants as number
 use Rattle.node_form.specs.declared.tables.Tables.{Tables}
 use Rattle.node_form.specs.Nest.{Nest, Nothing, Choosing, members_of}
-use Rattle.node_form.specs.Expression.{words_of}
+use Rattle.node_form.specs.Expression.{Constant, words_of}
 use Rattle.node_form.specs.Value as flat
 use Rattle.node_form.specs.Value.{value_of}
 use Rattle.nest_meaning.specs.Nested as nest
@@ -62,9 +63,9 @@ use Rattle.lowering_runs.specs.Run.{decide, does, step, straight}
 use Rattle.lowering_runs.specs.Agrees.{Agrees, Going, Trapping, Shattering}
 use Rattle.lowering_runs.specs.Stands.{HasRoom, IsLike, Stands}
 use Rattle.lowering_runs.specs.Goes.{World, Goes as GoesAs, context, lowering}
-use Rattle.lowering_runs.proofs.AgreeLemmas.{counting_agrees}
+use Rattle.lowering_runs.proofs.AgreeLemmas.{counting_agrees, trailed_agrees}
 use Rattle.lowering_runs.proofs.FitLemmas.{anew_goes, room_here}
-use Rattle.lowering_runs.proofs.RowLemmas.{settled_act}
+use Rattle.lowering_runs.proofs.RowLemmas.{like_hidden, set, set_step, settled_act}
 use Rattle.lowering_runs.proofs.SuitLemmas.{FormGoes, goes_more}
 use Rattle.array_puts.specs.Put.{IsMask}
 use Rattle.array_runs.specs.Gates.{IsThere, holds, gate}
@@ -122,6 +123,28 @@ module _ (tables : Tables) (n : ℕ) (sight : Sight) (w : Where) (line : ℕ) (n
 
   abbrev Mask_ : Option Mask → Type 0
   Mask_ mask = IsMasking tables spots w line now c.of over c.current mask
+
+  -- ---- the row behind a loop that puts nothing
+
+  pub apart_agrees : (put : Bool) (outcome : Outcome) (course : Course Whole)
+      → next.scalars + (0 + length (low.apart_rows put line next.scalars)) ≤ tables.scalars
+      → Agrees Like n 0 outcome course
+      → Agrees Like n 0 outcome
+      (code.then_do course (does tables n (low.kept_apart put line next.scalars).code))
+  apart_agrees true outcome course fits agrees =
+      trailed_agrees Like Like n 0 outcome course (λ whole. code.goes_on whole) (λ whole. whole)
+      (λ s whole like. (refl, like)) agrees
+  apart_agrees false outcome course fits agrees =
+      let k : ℕ = next.scalars in
+      let zero : Words = words_of (Constant (pos 0)) in
+      trailed_agrees Like Like n 0 outcome course
+      (does tables n (low.kept_apart false line k).code) (λ whole. set tables n whole k (pos 0))
+      (λ s whole like. (
+        ap (λ (one : Step Whole). by_step whole one (λ after. code.goes_on after))
+            (set_step tables n whole like.sound.settled k line zero),
+        like_hidden tables n spots w next now s whole like stands.rises (pos 0) (IsInteger-truth false) k
+            (omega arith) (omega (arith, fits)),
+      )) agrees
 
   -- ---- the members of a loop, and a mask around them
 
@@ -509,22 +532,29 @@ module _ (world : World) where
       let place = seen_place sight w now in
       let rank = tests_rank (reach_of place) form in
       let c = current_of world.tables w now rank like.held served.current in
-      let here = room_here world.tables next (low.shattered w (line_of w at) next form) room in
-      split_agrees_at world.tables world.turns sight w (line_of w at) next now stands here like rank c
-      form head
-      (every_more (IsServedPart w (slotted_at w.currents rank))
+      let made = low.shattered w (line_of w at) next form in
+      let here = room_here world.tables next made room in
+      let inside = form_inside w (line_of w at) next rank form in
+      let over = slotted_at w.currents rank in
+      let put = low.has_put inside.members in
+      let fits : next.scalars + (0 + length (low.apart_rows put (line_of w at) next.scalars))
+      ≤ world.tables.scalars = room.scalars in
+      apart_agrees world.tables world.turns sight w (line_of w at) next now stands here like rank c
+      put _ (does world.tables world.turns (shattered_over w over (line_of w at) inside).code now)
+      fits
+      (split_agrees_at world.tables world.turns sight w (line_of w at) next now stands here like rank
+      c form head
+      (every_more (IsServedPart w over)
       (IsPartHere world.tables world.turns sight w (line_of w at) next now stands here like.sound
       like.held rank c)
       (part_here world.tables world.turns sight w (line_of w at) next now stands here like rank c)
       (form_parts form) served.parts)
-      (mask_readable w now.slots c.of (slotted_at w.currents rank) c.current
-      (slotted_at w.currents rank).mask served.masked)
+      (mask_readable w now.slots c.of over c.current over.mask served.masked)
       (over_at place.currents rank)
       (c.over_is ∙ ap (λ (r : Region). record {
         region = r;
-        mask = (slotted_at w.currents rank).mask;
-      }) (index_of_found now.slots (slotted_at w.currents rank).slot c.current.region no_region
-      c.current.found)))
+        mask = over.mask;
+      }) (index_of_found now.slots over.slot c.current.region no_region c.current.found))))
 
   chosen_goes : (form : Form) (one other : Context → Store → Outcome)
       (made else_made : Lowering → Next → Lowered) → GoesAs world (IsSplit form) one made 0

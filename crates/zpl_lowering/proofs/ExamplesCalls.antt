@@ -161,6 +161,7 @@ rows : flattened 0 (lowered_program example ([])).code ≡ (
     Straight (row.Plain (instr.Need 0 0 ((pos 0) ∷ (pos 0) ∷ (pos 0) ∷ []) 28)) ∷
     Straight (row.Plain (instr.Need 0 1 ((pos 0) ∷ (pos 0) ∷ (pos 0) ∷ []) 28)) ∷
     Straight (row.Loop 0 (row.OpenIf (word.Here 0 ∷ word.Here 1 ∷ word.Pair op.Gt ∷ []) None 28 ∷ row.CloseIf ∷ [])) ∷
+    Straight (row.Set 19 (word.Const (pos 0) ∷ []) 28) ∷
     Straight (row.Plain (instr.Need 0 0 ((pos 0) ∷ (pos 0) ∷ (pos 0) ∷ []) 29)) ∷
     Straight (row.Plain (instr.Need 0 1 ((pos 0) ∷ (pos 0) ∷ (pos 0) ∷ []) 29)) ∷
     Straight (row.Loop 0 (row.OpenWhile (word.Here 0 ∷ word.Here 1 ∷ word.Pair op.Lt ∷ []) None 29 ∷ row.OpenIf (word.Here 0 ∷ word.Const (pos 1) ∷ word.Pair op.Eq ∷ []) None 29 ∷ row.Put 0 (word.Const (pos 5) ∷ []) None 29 ∷ row.CloseIf ∷ row.Put 0 (word.Here 0 ∷ word.Const (pos 1) ∷ word.Pair op.Add ∷ []) None 29 ∷ row.CloseWhile ∷ [])) ∷
@@ -176,7 +177,7 @@ rows : flattened 0 (lowered_program example ([])).code ≡ (
 unfolding longest_chain int_wrap digits
 rows = refl
 
-scalars : (lowered_program example ([])).scalars ≡ 19
+scalars : (lowered_program example ([])).scalars ≡ 20
 unfolding longest_chain int_wrap digits
 scalars = refl
 

@@ -3,3 +3,4 @@ mod ExamplesCalls
 mod ExamplesOperators
 mod ExamplesRuns
 mod ExamplesScalars
+pub mod PutLemmas

@@ -466,7 +466,8 @@ lowered_write w line next ends items =
     followed next phases.lowered
     (λ after. of_prints (items_of w line after.scalars after.temps ends items phases.left))
 
--- ---- shattered statements: one loop, whose members have the line of the whole statement
+-- ---- shattered statements: one loop, whose members have the line of the whole statement, and a row
+-- behind one that puts nothing
 
 -- members, and what they refer to
 pub record Inside : Type 0 where
@@ -585,10 +586,29 @@ shattered_over w over line inside =
     ++ row.Loop over.slot (masked_members (mask_code w.numbers over.mask) line inside.members)
     ∷ [])
 
+-- whether a member puts an array
+abbrev pub has_put : List Member → Bool
+has_put [] = false
+has_put (row.Put array expr mask line ∷ members) = true
+has_put (member ∷ members) = has_put members
+
+-- What a loop puts tells the flood dimensions of its region. Behind one that puts nothing stands a
+-- row that sets a scalar of its own, so that no other loop stands directly behind it.
+abbrev pub apart_rows : Bool → ℕ → ℕ → List Row
+apart_rows true line scalar = []
+apart_rows false line scalar = row.Set scalar (words_of (Constant (pos 0))) line ∷ []
+
+abbrev pub kept_apart : Bool → ℕ → ℕ → Lowered
+kept_apart put line scalar =
+    let rows = apart_rows put line scalar in
+    record (rows_alone rows) { scalars = length rows }
+
 abbrev pub shattered : Where → ℕ → Next → Form → Lowered
 shattered w line next form =
     let rank = tests_rank (reach_of w) form in
-    shattered_over w (slotted_at w.currents rank) line (form_inside w line next rank form)
+    let inside = form_inside w line next rank form in
+    both (shattered_over w (slotted_at w.currents rank) line inside)
+    (kept_apart (has_put inside.members) line next.scalars)
 
 -- ---- choices and loops
 
