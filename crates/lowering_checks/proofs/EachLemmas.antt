@@ -20,7 +20,7 @@ use Rattle.zpl_names.specs.Shapes.{prefix_rank, unknown_shapes}
 use Rattle.zpl_names.specs.Declared.{Routine, routine_named, routine_of, routines_behind, routines_of, scope_of, with_decl, with_procedure}
 use Rattle.zpl_names.specs.Expansion.{FormalName, formal_names}
 use Rattle.zpl_names.specs.Sites as sites
-use Rattle.zpl_names.specs.Sites.{Role, Test, Printed, Assigned, Result, Limit, Reach, Site, AtStmt, arm_sites, arms_rank, arms_sites, body_sites, decl_sites, each_sites, form_sites, head_sites, in_body, inside, is_shattered, otherwise_sites, outermost_sites, prefixes_sites, routine_sites, step_sites, stmt_sites, stmts_sites, test_rank, text_sites, under_prefixes, whole_sites}
+use Rattle.zpl_names.specs.Sites.{Role, Test, Printed, Assigned, Result, Limit, Reach, Site, AtStmt, arm_sites, arms_rank, arms_sites, body_sites, decl_sites, each_sites, form_sites, head_sites, in_body, inside, is_shattered, otherwise_sites, outermost_sites, prefixes_sites, routine_sites, step_sites, stmt_sites, stmts_sites, test_rank, text_sites, under_prefixes, whole_sites, tests_rank}
 use Rattle.zpl_names.specs.Types.{type_of}
 use Rattle.zpl_binding.specs.Declarations.{known_of}
 use Rattle.zpl_binding.specs.Outcome.{Computed}
@@ -48,11 +48,12 @@ use Rattle.zpl_lowering.specs.Slate.{Slate, Slates, NoSlate, ThenSlate, Placed, 
 use Rattle.zpl_lowering.specs.Reference.{Reference, all_referred, all_conforming, needs}
 use Rattle.zpl_lowering.specs.Hoist.{Hoisted, Free, behind as hoisted_behind, stored_element, fold_rows, kept_rows, scan_row, masked_scan, number_of, scanning, temps_from, three_of, rooms, index_puts, remap_code, remapping, border_vectors, border_rows, wrapping, mask_code, outside_code, trap_if, hoisted, all_hoisted}
 use Rattle.zpl_lowering.specs.Lowered.{Lowered, rows_alone, behind, Phased, phased, phased_with, first_left, free_at, check_of}
-use Rattle.zpl_lowering.specs.Statement.{Given, Valued, Copied, Referring, Calling, Lowering, placed_in, test_of, set_row, lowered_scalar, lowered_array, lowered_to, value_rows, value_exprs, given_to, with_values, lowered_invoke, target_of, lowered_assign, lowered_borders, is_border, prefix_opened, current_for, under_prefix, of_opened, is_last, lowered_under, counter_from, enters, is_done, step_row, counted, head_exprs, lowered_for, scalar_of, Shown, shown_at, shown_of, Prints, items_of, lowered_write, printed_exprs, is_truth, source_shift, each_border, shattered, choose_code, ends_arms, lowered, lowered_all, lowered_form, lowered_arms, lowered_arm, lowered_otherwise}
+use Rattle.zpl_lowering.specs.Statement.{Given, Valued, Copied, Referring, Calling, Lowering, placed_in, test_of, set_row, lowered_scalar, lowered_array, lowered_to, value_rows, value_exprs, given_to, with_values, lowered_invoke, target_of, lowered_assign, lowered_borders, is_border, prefix_opened, current_for, under_prefix, of_opened, is_last, lowered_under, counter_from, enters, is_done, step_row, counted, head_exprs, lowered_for, scalar_of, Shown, shown_at, shown_of, Prints, items_of, lowered_write, printed_exprs, is_truth, source_shift, each_border, Inside, form_inside, shattered_over, has_put, apart_rows, shattered, choose_code, ends_arms, lowered, lowered_all, lowered_form, lowered_arms, lowered_arm, lowered_otherwise}
 use Rattle.zpl_lowering.specs.Program.{Framed, with_scalar, with_array, Entry, zero_row, clear_row, made_copy, givens_code, names_code, locals_code, where_in, reads_round, in_call, routine_code, call_code, region_rows, globals_made, first_next, entry_calling, entry_code, lowered_program}
 use Rattle.zpl_meaning.proofs.DepthLemmas.{Each, each_left, each_right}
 use Rattle.lowering_checks.proofs.SlateLemmas.{AllQuiet, quiet_both, each_quiet, all_conforming_quiet, needs_quiet, opened_quiet}
 use Rattle.lowering_checks.proofs.HoistLemmas.{borders_quiet}
+use Rattle.lowering_checks.proofs.ShatterLemmas.{apart_quiet}
 use Rattle.lowering_checks.proofs.AssignLemmas.{set_quiet, values_quiet, edges_quiet, prints_quiet}
 use Rattle.lowering_checks.proofs.BodyLemmas.{if_quiet}
 
@@ -73,6 +74,11 @@ pub record GoesAlong (P : Piece Row Check → Type 0) : Type 0 where
       P (piece.While head test body)
   pub repeat : (body head : Piece Row Check) (test : Check) → P body → P head →
       P (piece.Repeat body head test)
+  pub remap : (numbers : Numbers) (line scalar temp : ℕ) (operator : Fold) (over : Slotted)
+      (exprs : List Expression) (operand : Expression) →
+      OfRows P (rooms over.slot (temps_from temp exprs)
+      ++ (row.Loop over.slot (index_puts line (mask_code numbers over.mask) temp exprs)
+      ∷ fold_rows numbers line scalar operator over operand))
   pub fold : (numbers : Numbers) (line scalar : ℕ) (operator : Fold) (over : Slotted)
       (operand : Expression) → OfRows P (fold_rows numbers line scalar operator over operand)
   pub kept : (line temp slot : ℕ) (expr : Expression) (mask : Option Words) →
@@ -81,9 +87,6 @@ pub record GoesAlong (P : Piece Row Check → Type 0) : Type 0 where
       OfRows P (row.Plain (instr.Room one slot) ∷ row.Plain (instr.Room other slot)
       ∷ row.Loop slot (row.Put one (words_of expr) mask line
       ∷ row.Put other (words_of also) None line ∷ []) ∷ [])
-  pub indices : (line slot : ℕ) (mask : Option Words) (temp : ℕ) (exprs : List Expression) →
-      OfRows P (rooms slot (temps_from temp exprs)
-      ++ row.Loop slot (index_puts line mask temp exprs) ∷ [])
   pub copy : (line array copy slot : ℕ) (region : Region) →
       OfRows P (row.Plain (instr.Fix slot region)
       ∷ row.Loop slot (row.Put copy (words_of (Element array)) None line ∷ []) ∷ [])
@@ -144,18 +147,11 @@ module _ (P : Piece Row Check → Type 0) (goes : GoesAlong P) where
       ∷ [] in
       goes.then (piece.Rows (places ++ (loop ++ sums)))
       (piece.Then (trap_if scalar line) (piece.Rows reads))
-      (subst (OfRows P) (regroup places loop sums)
-      (goes.rows (places ++ loop) sums
-      (goes.indices line over.slot mask temp indices)
-      (goes.fold numbers line scalar fold.Any over (outside_code temp storage))))
+      (goes.remap numbers line scalar temp fold.Any over indices (outside_code temp storage))
       (goes.then (trap_if scalar line) (piece.Rows reads)
       (goes.when (record { expr = words_of (Variable scalar); line = line }) (piece.Rows traps)
       (goes.quiet traps (tt, tt)))
       (goes.quiet reads (tt, (tt, tt))))
-    where
-      regroup : (xs ys zs : List Row) → (xs ++ ys) ++ zs ≡ xs ++ (ys ++ zs)
-      regroup [] ys zs = refl
-      regroup (x ∷ xs) ys zs = ap (λ rest. x ∷ rest) (regroup xs ys zs)
 
   wrap_each : (line : ℕ) (stored : Option Stored) (home : Region) (shift : List ℤ)
       (copy first : ℕ) → P (wrapping line stored home shift copy first).code
@@ -563,6 +559,25 @@ module _ (program : Program) (Q : Site → Type 0) where
       by false e rest =
           subst (λ b. FoundHolds (cond b (Some routine) (find is_it routines))) (sym e) rest
 
+-- ---- a shattered statement: its loop, and the row behind one that puts nothing
+
+abbrev pub inside_of : Where → ℕ → Next → Form → Inside
+inside_of w line next form = form_inside w line next (tests_rank (reach_of w) form) form
+
+abbrev pub shattered_rows : Where → ℕ → Next → Form → Lowered
+shattered_rows w line next form =
+    shattered_over w (slotted_at w.currents (tests_rank (reach_of w) form)) line
+    (inside_of w line next form)
+
+pub shattered_each : (P : Piece Row Check → Type 0) → GoesAlong P → (w : Where) (line : ℕ)
+    (next : Next) (form : Form) → P (shattered_rows w line next form).code →
+    P (shattered w line next form).code
+shattered_each P along w line next form over =
+    let put : Bool = has_put (inside_of w line next form).members in
+    along.then (shattered_rows w line next form).code
+    (piece.Rows (apart_rows put line next.scalars)) over
+    (along.quiet (apart_rows put line next.scalars) (apart_quiet put line next.scalars))
+
 -- ---- and of shattered statements, each where it stands in the text
 pub record GoesFrom (P : Piece Row Check → Type 0) (Q : Site → Type 0) : Type 0 where
   pub goes : GoesAlong P
@@ -628,8 +643,8 @@ module _ (P : Piece Row Check → Type 0) (Q : Site → Type 0) (holds : GoesFro
           (shattered w (line_of w at) next (If arms otherwise))
           (lowered_arms (at_place w) next at arms otherwise
           (λ after. lowered_otherwise (at_place w) after otherwise))
-          (λ is. holds.shatters w (line_of w at) next (If arms otherwise) reach at prefixes seen
-          (ap is_above_zero same ∙ is) own)
+          (λ is. holds.shatters w (line_of w at) next (If arms otherwise) reach at prefixes
+          seen (ap is_above_zero same ∙ is) own)
           (λ is.
           let bare = seen_inside reach w rank seen (ap is_above_zero same ∙ is) in
           arms_each w next at arms otherwise
@@ -644,8 +659,8 @@ module _ (P : Piece Row Check → Type 0) (Q : Site → Type 0) (holds : GoesFro
           let after : Next = behind next tested.before in
           choose_each (is_shattered (reach_of w) (While test body))
           (shattered w (line_of w at) next (While test body)) _
-          (λ is. holds.shatters w (line_of w at) next (While test body) reach at prefixes seen
-          (ap is_above_zero same ∙ is) own)
+          (λ is. holds.shatters w (line_of w at) next (While test body) reach at prefixes
+          seen (ap is_above_zero same ∙ is) own)
           (λ is.
           along.while tested.before.code tested.check (lowered_all (at_place w) after body).code
           (test_each P along holds.array w next test at)

@@ -1,12 +1,11 @@
 -- Of a small text, computed: a shattered statement that assigns nothing, with an assignment behind
 -- it. Its loop puts nothing, so that nothing says which flood dimensions the slot has: the second
 -- loop doesn't count as one that may stand wherever the first one does, though the groups could be
--- joined.
+-- joined. So a row that sets a scalar stands between them.
 --
 --   program p; region R = [1..9]; var A, B : [R] integer;
 --   procedure p(); [R] begin if A > 0 then end; B := 1; end;
-use Rattle.std.proofs.Common.{◌≡◌, ℕ, ℤ, true, false, List, [], ◌∷◌, Some, None, pos, codes, refl}
-use Rattle.std.specs.Prelude.{slice_get}
+use Rattle.std.proofs.Common.{◌≡◌, ℕ, ℤ, true, false, List, [], ◌∷◌, None, pos, codes, refl}
 use Rattle.std.specs.Fmt.{digits}
 use Rattle.std.specs.Int.{int_wrap}
 use Rattle.zpl_nums.specs.declared.operators.Op.TheVariants as op
@@ -70,8 +69,8 @@ abbrev still : List ℤ
 still = pos 0 ∷ pos 0 ∷ pos 0 ∷ []
 
 rows : tables.code
-    ≡ instr.Fix 0 home ∷ instr.Need 0 0 still 1 ∷ instr.Loop 0 0 ∷ instr.Need 0 1 still 1
-    ∷ instr.Loop 0 1 ∷ instr.End ∷ []
+    ≡ instr.Fix 0 home ∷ instr.Need 0 0 still 1 ∷ instr.Loop 0 0 ∷ instr.Set 0 1 1
+    ∷ instr.Need 0 1 still 1 ∷ instr.Loop 0 1 ∷ instr.End ∷ []
 unfolding longest_chain int_wrap digits
 rows = refl
 

@@ -40,15 +40,15 @@ use Rattle.lowering_checks.proofs.SlateLemmas.{IsThree, Reads, Fresh, AllFresh, 
 abbrev pub IsEmpty : Piece Row Check → Type 0
 IsEmpty piece = (at : ℕ) → laid at piece ≡ []
 
--- the last loop, with checks alone behind it, is over a slot from a number on
+-- where checks alone stand behind the last loop, none do, and it is over a slot from a number on
 abbrev pub Away : ℕ → Option Since → Type 0
 Away n None = Unit {0}
-Away n (Some since) = n ≤ since.slot
+Away n (Some since) = (n ≤ since.slot) × (since.known ≡ [])
 
 abbrev pub IsAway : ℕ → Piece Row Check → Type 0
 IsAway n piece = (at : ℕ) (last : Option Since) → Away n (behind_rows last (laid at piece))
 
-behind_then : (at : ℕ) (last : Option Since) (first rest : Piece Row Check) →
+pub behind_then : (at : ℕ) (last : Option Since) (first rest : Piece Row Check) →
     behind_rows last (laid at (piece.Then first rest))
     ≡ behind_rows (behind_rows last (laid at first)) (laid (at + size first) rest)
 behind_then at last first rest =
@@ -230,7 +230,7 @@ copy_away n line array home shift copy first below =
     by : (shifts : List (List ℤ)) →
         Away n (behind_rows (Some (record { slot = first; known = [] }))
         (border_rows line copy first (suc first) shifts))
-    by [] = below
+    by [] = (below, refl)
     by (shift ∷ rest) = borders_away n line copy first (suc (suc (suc first))) rest
 
 wrap_ends : (n slot : ℕ) (line : ℕ) (stored : Option Stored) (home : Region) (shift : List ℤ)
@@ -326,7 +326,7 @@ mutual
       remap_either n numbers line free over (slice_get numbers.arrays place)
       (all_hoisted numbers line free indices) (all_end n numbers line free indices fresh)
 
-  all_end : (n : ℕ) (numbers : Numbers) (line : ℕ) (free : Free) (all : Slates) →
+  pub all_end : (n : ℕ) (numbers : Numbers) (line : ℕ) (free : Free) (all : Slates) →
       AllFresh n all → IsEither n (all_hoisted numbers line free all).code
   all_end n numbers line free NoSlate fresh = inl no_rows
   all_end n numbers line free (ThenSlate first rest) fresh =

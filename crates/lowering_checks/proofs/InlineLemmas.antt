@@ -12,7 +12,7 @@ use Rattle.row_runs.specs.Structured as piece
 use Rattle.row_runs.specs.Structured.{Piece, flattened, size}
 use Rattle.flat_form.specs.Laws.{IsInline}
 use Rattle.flat_form.specs.Row as row
-use Rattle.flat_form.specs.Row.{Row, Words}
+use Rattle.flat_form.specs.Row.{Row}
 use Rattle.zpl_lowering.specs.Check.{Check, flat_row}
 use Rattle.zpl_lowering.specs.Where.{Stored, Slotted, slotted_at, Where, Next, reach_of}
 use Rattle.zpl_lowering.specs.Slate.{Placed}
@@ -25,7 +25,7 @@ use Rattle.zpl_lowering.specs.Tables.{rows_of}
 use Rattle.lowering_checks.specs.Walked.{laid}
 use Rattle.lowering_checks.proofs.WalkLemmas.{map_both, laid_rows, laid_then}
 use Rattle.lowering_checks.proofs.SlateLemmas.{AllQuiet, needs_quiet}
-use Rattle.lowering_checks.proofs.EachLemmas.{GoesAlong, phases_each, program_each}
+use Rattle.lowering_checks.proofs.EachLemmas.{GoesAlong, phases_each, program_each, shattered_each}
 
 abbrev AreInline : List Row → Type 0
 AreInline rows = Every IsInline rows
@@ -54,16 +54,9 @@ of_rows rows are at = subst AreInline (sym (laid_rows at rows)) are
 rows_are : (rows : List Row) → IsLaidInline (piece.Rows rows) → AreInline rows
 rows_are rows are = subst AreInline (laid_rows 0 rows) (are 0)
 
-indices_inline : (line slot : ℕ) (mask : Option Words) (temp : ℕ) (exprs : List Expression) →
-    AreInline (rooms slot (temps_from temp exprs)
-    ++ row.Loop slot (index_puts line mask temp exprs) ∷ [])
-indices_inline line slot mask temp exprs =
-    both_inline (rooms slot (temps_from temp exprs))
-    (row.Loop slot (index_puts line mask temp exprs) ∷ []) (by (temps_from temp exprs)) (tt, tt)
-  where
-    by : (temps : List ℕ) → AreInline (rooms slot temps)
-    by [] = tt
-    by (t ∷ temps) = (tt, by temps)
+rooms_inline : (slot : ℕ) (temps : List ℕ) → AreInline (rooms slot temps)
+rooms_inline slot [] = tt
+rooms_inline slot (t ∷ temps) = (tt, rooms_inline slot temps)
 
 along : GoesAlong IsLaidInline
 along = record {
@@ -115,10 +108,13 @@ along = record {
       of_rows (row.Plain (instr.Room one slot) ∷ row.Plain (instr.Room other slot)
       ∷ row.Loop slot (row.Put one (words_of expr) mask line
       ∷ row.Put other (words_of also) None line ∷ []) ∷ []) (tt, (tt, (tt, tt)));
-  indices = λ line slot mask temp exprs.
-      of_rows (rooms slot (temps_from temp exprs)
-      ++ row.Loop slot (index_puts line mask temp exprs) ∷ [])
-      (indices_inline line slot mask temp exprs);
+  remap = λ numbers line scalar temp operator over exprs operand.
+      let places = rooms over.slot (temps_from temp exprs) in
+      let others = row.Loop over.slot (index_puts line (mask_code numbers over.mask) temp exprs)
+      ∷ fold_rows numbers line scalar operator over operand in
+      of_rows (places ++ others)
+      (both_inline places others (rooms_inline over.slot (temps_from temp exprs))
+      (tt, (tt, (tt, (tt, tt)))));
   copy = λ line array copy slot region.
       of_rows (row.Plain (instr.Fix slot region)
       ∷ row.Loop slot (row.Put copy (words_of (Element array)) None line ∷ []) ∷ [])
@@ -148,9 +144,10 @@ shattered_inline w line next form =
     let refs = inside.references ++ over_reference w.numbers over in
     let last = row.Loop over.slot
     (masked_members (mask_code w.numbers over.mask) line inside.members) ∷ [] in
-    of_rows (needs line refs ++ last)
+    shattered_each IsLaidInline along w line next form
+    (of_rows (needs line refs ++ last)
     (both_inline (needs line refs) last (quiet_inline (needs line refs) (needs_quiet line refs))
-    (tt, tt))
+    (tt, tt)))
 
 pub rows_inline : (program : Program) (settings : List Setting) →
     Every IsInline (rows_of (lowered_program program settings))

@@ -12,8 +12,14 @@ pub mod BodyLemmas
 pub mod CallLemmas
 pub mod WholeLemmas
 pub mod TableLemmas
+pub mod NumberedLemmas
+pub mod FreeLemmas
+pub mod FreeShatterLemmas
+pub mod FreeWholeLemmas
+pub mod FreeTableLemmas
 pub mod EachLemmas
 pub mod PreparedLemmas
 pub mod InlineLemmas
 pub mod Examples
 pub mod TotalLemmas
+pub mod StandLemmas

@@ -93,7 +93,8 @@ away_run : (n slot : ℕ) (group : List Member) (last : Option Since) → slot <
     MayRun last slot group
 away_run n slot group None below away = tt
 away_run n slot group (Some since) below away = λ same.
-    let no : ⊥ = omega (arith, below, away, same) in absurd no
+    let less = away.0 in
+    let no : ⊥ = omega (arith, below, less, same) in absurd no
 
 known_run : (slot : ℕ) (group : List Member) (refs : List Reference) (last : Option Since) →
     ((known : List Item) → AllKnown known refs → KnowsMembers known slot group) →

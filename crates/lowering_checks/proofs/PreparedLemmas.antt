@@ -1,5 +1,5 @@
 -- The loops of a program that put arrays are prepared for.
-use Rattle.std.proofs.Common.{◌≡◌, ℕ, suc, ◌+◌, ◌≤◌, Bool, true, false, List, [], ◌∷◌, ◌++◌, map, length, refl, sym, ap, ◌∙◌, subst, arith, length-append}
+use Rattle.std.proofs.Common.{◌≡◌, ℕ, suc, ◌+◌, ◌≤◌, Bool, true, false, List, [], ◌∷◌, ◌++◌, map, length, refl, sym, ap, ◌∙◌, subst, arith, length-append, append_assoc}
 use Rattle.std.specs.Prelude.{Option, Some, None, cond, slice_get}
 use Rattle.zpl_tree.specs.Syntax.{Stmt, Prefixed, Stmts, NoStmt, ThenStmt, Form, Assign, Invoke, Block, If, While, Repeat, For, Border, Write, Return, Arm, Tested, Arms, NoArm, ThenArm, Otherwise, NoElse, Else, Program}
 use Rattle.zpl_names.specs.Kinds.{Rank}
@@ -20,14 +20,14 @@ use Rattle.zpl_lowering.specs.Slate.{Settled, Slates, Placed, settled_each}
 use Rattle.zpl_lowering.specs.Reference.{Reference, all_referred, all_conforming, needs, refer_to, over_reference}
 use Rattle.zpl_lowering.specs.Hoist.{fold_rows, kept_rows, temps_from, rooms, index_puts, mask_code, all_hoisted}
 use Rattle.zpl_lowering.specs.Lowered.{Phased, phased_with, first_left, free_at}
-use Rattle.zpl_lowering.specs.Statement.{lowered_array, put_row, Inside, both_inside, Elementwise, elementwise, put_member, put_thing, opening, otherwise_members, stmt_inside, stmts_inside, form_inside, arms_inside, arm_inside, otherwise_inside, masked_members, shattered}
+use Rattle.zpl_lowering.specs.Statement.{lowered_array, put_row, Inside, both_inside, Elementwise, elementwise, put_member, put_thing, opening, otherwise_members, stmt_inside, stmts_inside, form_inside, arms_inside, arm_inside, otherwise_inside, masked_members, has_put, shattered}
 use Rattle.zpl_lowering.specs.Program.{lowered_program}
 use Rattle.zpl_lowering.specs.Tables.{rows_of}
 use Rattle.lowering_checks.specs.Walked.{laid}
-use Rattle.lowering_checks.specs.Prepared.{has_put, putting_in, prepared_in, ArePrepared}
+use Rattle.lowering_checks.specs.Prepared.{putting_in, prepared_in, ArePrepared}
 use Rattle.lowering_checks.proofs.WalkLemmas.{map_both, laid_rows, laid_then}
 use Rattle.lowering_checks.proofs.SlateLemmas.{AllQuiet, quiet_both, each_quiet, all_conforming_quiet, needs_quiet}
-use Rattle.lowering_checks.proofs.EachLemmas.{GoesAlong, all_each, phases_each, program_each}
+use Rattle.lowering_checks.proofs.EachLemmas.{GoesAlong, all_each, phases_each, program_each, shattered_each}
 
 -- ---- rows one behind the other
 
@@ -142,10 +142,15 @@ along = record {
       of_rows (row.Plain (instr.Room one slot) ∷ row.Plain (instr.Room other slot)
       ∷ row.Loop slot (row.Put one (words_of expr) mask line
       ∷ row.Put other (words_of also) None line ∷ []) ∷ []) (omega arith);
-  indices = λ line slot mask temp exprs.
-      of_rows (rooms slot (temps_from temp exprs)
-      ++ row.Loop slot (index_puts line mask temp exprs) ∷ [])
-      (indices_are line slot mask temp exprs);
+  remap = λ numbers line scalar temp operator over exprs operand.
+      let places = rooms over.slot (temps_from temp exprs) in
+      let mask = mask_code numbers over.mask in
+      let loop = row.Loop over.slot (index_puts line mask temp exprs) ∷ [] in
+      let sums = fold_rows numbers line scalar operator over operand in
+      of_rows (places ++ (loop ++ sums))
+      (subst ArePrepared (append_assoc places loop sums)
+      (both_prepared (places ++ loop) sums (indices_are line over.slot mask temp exprs)
+      (omega arith)));
   copy = λ line array copy slot region.
       of_rows (row.Plain (instr.Fix slot region)
       ∷ row.Loop slot (row.Put copy (words_of (Element array)) None line ∷ []) ∷ []) (omega arith);
@@ -370,11 +375,12 @@ shattered_is w line next form =
     let inside : Inside = form_inside w line next rank form in
     let mask : Option Words = mask_code w.numbers over.mask in
     let group : List Member = masked_members mask line inside.members in
-    of_rows
+    shattered_each IsPrepared along w line next form
+    (of_rows
     (needs line (inside.references ++ over_reference w.numbers over)
     ++ row.Loop over.slot group ∷ [])
     (loop_is line over.slot inside.references (over_reference w.numbers over) group
-    (omega (arith, form_refers w line rank next form, masked_puts mask line inside.members)))
+    (omega (arith, form_refers w line rank next form, masked_puts mask line inside.members))))
 
 -- ---- the rows of a program
 

@@ -1,5 +1,5 @@
 -- Shattered statements: one loop, whose references are checked in front of it.
-use Rattle.std.proofs.Common.{◌≡◌, ℕ, true, List, [], ◌∷◌, ◌++◌, refl}
+use Rattle.std.proofs.Common.{◌≡◌, ℕ, Bool, true, false, List, [], ◌∷◌, ◌++◌, refl}
 use Rattle.std.specs.Prelude.{Option, Some, None, slice_get}
 use Rattle.zpl_nums.specs.declared.operators.Op.{Op}
 use Rattle.zpl_tree.specs.Syntax.{Name, Expr, Number, Truth, Coord, Named, Shifted, Around, Remap, Call, Paren, Neg, Not, Abs, Pair, Reduce, Scan, Flood, Stmt, Prefixed, Stmts, NoStmt, ThenStmt, Form, Assign, Invoke, Block, If, While, Repeat, For, Border, Write, Return, Arm, Tested, Arms, NoArm, ThenArm, Otherwise, NoElse, Else}
@@ -13,16 +13,17 @@ use Rattle.meaning_ranks.specs.Ranked.{IsPointOf, ArePointsOf, IsPointFormOf, Ar
 use Rattle.node_form.specs.declared.arrays.Item.{Item}
 use Rattle.node_form.specs.Expression.{Expression}
 use Rattle.flat_form.specs.Row as row
-use Rattle.flat_form.specs.Row.{Member, Words}
+use Rattle.flat_form.specs.Row.{Row, Member, Words}
+use Rattle.row_runs.specs.Structured as piece
 use Rattle.zpl_lowering.specs.Where.{Stored, Slotted, slotted_at, Where, Next, reach_of}
 use Rattle.zpl_lowering.specs.Slate.{Slate, Settled, behind as settled_behind, named_slate, settled}
 use Rattle.zpl_lowering.specs.Reference.{Reference, over_reference, needs, referred}
 use Rattle.zpl_lowering.specs.Hoist.{Free, Hoisted, behind, mask_code, hoisted}
-use Rattle.zpl_lowering.specs.Statement.{Inside, both_inside, Elementwise, elementwise, put_member, put_thing, opening, otherwise_members, stmt_inside, stmts_inside, form_inside, arms_inside, arm_inside, otherwise_inside, masked_members, shattered}
+use Rattle.zpl_lowering.specs.Statement.{Inside, both_inside, Elementwise, elementwise, put_member, put_thing, opening, otherwise_members, stmt_inside, stmts_inside, form_inside, arms_inside, arm_inside, otherwise_inside, masked_members, has_put, apart_rows, shattered}
 use Rattle.lowering_checks.specs.Walked.{KnowsWords, KnowsMask, KnowsMember, KnowsMembers, HasChecks}
-use Rattle.lowering_checks.proofs.WalkLemmas.{checked_both, rows_check}
+use Rattle.lowering_checks.proofs.WalkLemmas.{checked_both, rows_check, then_check}
 use Rattle.lowering_checks.proofs.KnownLemmas.{both_true, AllKnown, all_left, all_right, KnowsTree, tree_words}
-use Rattle.lowering_checks.proofs.SlateLemmas.{quiet_checked, needs_quiet}
+use Rattle.lowering_checks.proofs.SlateLemmas.{AllQuiet, quiet_checked, needs_quiet}
 use Rattle.lowering_checks.proofs.HoistLemmas.{element_known, variable_known}
 use Rattle.lowering_checks.proofs.PhaseLemmas.{mask_known, needs_run}
 
@@ -215,6 +216,10 @@ masked_known w line rank known None members mask knows = knows
 masked_known w line rank known (Some words) members mask knows =
     ((mask, tt), members_both w line rank known members (row.CloseIf ∷ []) knows (tt, tt))
 
+pub apart_quiet : (put : Bool) (line scalar : ℕ) → AllQuiet (apart_rows put line scalar)
+apart_quiet true line scalar = tt
+apart_quiet false line scalar = (tt, tt)
+
 pub shattered_checks : (w : Where) (line : ℕ) (next : Next) (form : Form) (place : Place) →
     IsPointFormOf place (tests_rank (reach_of w) form) form →
     HasChecks (shattered w line next form).code
@@ -226,7 +231,9 @@ shattered_checks w line next form place point =
     let masks = over_reference w.numbers over in
     let refs : List Reference = inside.references ++ masks in
     let group : List Member = masked_members mask line inside.members in
-    rows_check (needs line refs ++ row.Loop over.slot group ∷ []) (λ last.
+    let apart : List Row = apart_rows (has_put inside.members) line next.scalars in
+    then_check (piece.Rows (needs line refs ++ row.Loop over.slot group ∷ [])) (piece.Rows apart)
+    (rows_check (needs line refs ++ row.Loop over.slot group ∷ []) (λ last.
     checked_both last (needs line refs) (row.Loop over.slot group ∷ [])
     (quiet_checked last (needs line refs) (needs_quiet line refs)) (
       needs_run last line over.slot group refs (λ known all.
@@ -236,4 +243,6 @@ shattered_checks w line next form place point =
           (form_known w line place rank known next form point
           (all_left known inside.references masks all))),
       tt,
-    ))
+    )))
+    (rows_check apart (λ last.
+    quiet_checked last apart (apart_quiet (has_put inside.members) line next.scalars)))

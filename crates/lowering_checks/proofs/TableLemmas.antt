@@ -24,7 +24,7 @@ use Rattle.lowering_checks.proofs.KnownLemmas.{or_left, or_right, both_true, wor
 abbrev AllOne : List Item → List Item → Type 0
 AllOne known items = list_all (is_one_of known) items ≡ true
 
-both_are : (a b : Bool) → a ≡ true → b ≡ true → (a && b) ≡ true
+pub both_are : (a b : Bool) → a ≡ true → b ≡ true → (a && b) ≡ true
 both_are true b first rest = rest
 both_are false b first rest = let no : ⊥ = cc in absurd no
 

@@ -1,6 +1,6 @@
 -- Where checks alone stand between two loops of a program, neither accumulates.
-use Rattle.std.proofs.Common.{◌≡◌, ℕ, suc, ◌+◌, Bool, true, false, List, [], ◌∷◌, ◌++◌, map, refl, sym, subst, append_assoc}
-use Rattle.std.specs.Prelude.{Option, Some, None, slice_get, slice_index_or}
+use Rattle.std.proofs.Common.{◌≡◌, ℕ, suc, ◌+◌, Bool, true, false, List, [], ◌∷◌, ◌++◌, map, refl, sym, ap₂, ◌∙◌, subst, append_assoc}
+use Rattle.std.specs.Prelude.{◌≢◌, Option, Some, None, flat_map, slice_get, slice_index_or}
 use Rattle.std.specs.List.{AllByRecursion, list_any}
 use Rattle.zpl_tree.specs.Syntax.{Stmt, Prefixed, Stmts, NoStmt, ThenStmt, Form, Assign, Invoke, Block, If, While, Repeat, For, Border, Write, Return, Arm, Tested, Arms, NoArm, ThenArm, Otherwise, NoElse, Else, Program}
 use Rattle.zpl_names.specs.Kinds.{Rank}
@@ -17,7 +17,8 @@ use Rattle.node_form.specs.Expression.{Expression, Element, words_of}
 use Rattle.row_runs.specs.Code.{Jump, Unless}
 use Rattle.row_runs.specs.Structured as piece
 use Rattle.row_runs.specs.Structured.{Piece, flattened, size}
-use Rattle.code_parts.specs.Uses.{members_of}
+use Rattle.code_parts.specs.Stretch.{IsStretch}
+use Rattle.code_parts.specs.Uses.{members_of, put_by}
 use Rattle.flat_form.specs.Row as row
 use Rattle.flat_form.specs.Row.{Row, Member, Words, all_inlined, inlined, member_inlined}
 use Rattle.fuse_contract.specs.Fusing.{is_accumulating}
@@ -28,11 +29,12 @@ use Rattle.zpl_lowering.specs.Slate.{Placed}
 use Rattle.zpl_lowering.specs.Reference.{Reference, over_reference, needs, refer_to}
 use Rattle.zpl_lowering.specs.Hoist.{fold_rows, kept_rows, temps_from, rooms, index_puts, mask_code}
 use Rattle.zpl_lowering.specs.Lowered.{Phased, phased_with, first_left}
-use Rattle.zpl_lowering.specs.Statement.{lowered_array, put_row, Inside, both_inside, Elementwise, elementwise, put_member, put_thing, opening, otherwise_members, stmt_inside, stmts_inside, form_inside, arms_inside, arm_inside, otherwise_inside, masked_members, shattered}
+use Rattle.zpl_lowering.specs.Statement.{lowered_array, put_row, Inside, both_inside, Elementwise, elementwise, put_member, put_thing, opening, otherwise_members, stmt_inside, stmts_inside, form_inside, arms_inside, arm_inside, otherwise_inside, masked_members, has_put, apart_rows, shattered}
 use Rattle.zpl_lowering.specs.Program.{lowered_program}
+use Rattle.zpl_lowering.proofs.PutLemmas.{masked_put}
 use Rattle.zpl_lowering.specs.Tables.{rows_of}
 use Rattle.lowering_checks.specs.Walked.{laid}
-use Rattle.lowering_checks.specs.Totals.{has_total, behind_plain, behind_one, behind_all, MayFollow, AreApart, NoneAccumulates}
+use Rattle.lowering_checks.specs.Totals.{has_total, behind_plain, behind_one, behind_all, MayLead, MayFollow, AreApart, NoneAccumulates, FirstPuts}
 use Rattle.lowering_checks.proofs.WalkLemmas.{map_both, laid_rows, laid_then}
 use Rattle.lowering_checks.proofs.SlateLemmas.{AllQuiet, needs_quiet}
 use Rattle.lowering_checks.proofs.TableLemmas.{found, false_true}
@@ -40,30 +42,30 @@ use Rattle.lowering_checks.proofs.EachLemmas.{GoesAlong, phases_each, program_ea
 
 -- ---- rows one behind the other
 
--- the last loop, with checks alone behind it, doesn't accumulate
-abbrev IsOver : Option Bool → Type 0
+-- the last loop, with checks alone behind it, doesn't accumulate, and puts an array
+abbrev IsOver : Option (List Member) → Type 0
 IsOver None = Unit {0}
-IsOver (Some total) = total ≡ false
+IsOver (Some first) = MayLead first
 
 -- rows are apart behind such a loop, and end with such a one
-abbrev GoApart : Option Bool → List Row → Type 0
+abbrev GoApart : Option (List Member) → List Row → Type 0
 GoApart last rows = AreApart last rows × IsOver (behind_all last rows)
 
 abbrev AreOver : List Row → Type 0
-AreOver rows = (last : Option Bool) → IsOver last → GoApart last rows
+AreOver rows = (last : Option (List Member)) → IsOver last → GoApart last rows
 
-behind_rest : (last : Option Bool) (xs ys : List Row) →
+behind_rest : (last : Option (List Member)) (xs ys : List Row) →
     behind_all last (xs ++ ys) ≡ behind_all (behind_all last xs) ys
 behind_rest last [] ys = refl
 behind_rest last (x ∷ xs) ys = behind_rest (behind_one last x) xs ys
 
-apart_both : (last : Option Bool) (xs ys : List Row) → AreApart last xs →
+apart_both : (last : Option (List Member)) (xs ys : List Row) → AreApart last xs →
     AreApart (behind_all last xs) ys → AreApart last (xs ++ ys)
 apart_both last [] ys first rest = rest
 apart_both last (x ∷ xs) ys first rest =
     (first.0, apart_both (behind_one last x) xs ys first.1 rest)
 
-apart_rest : (last : Option Bool) (xs ys : List Row) → AreApart last (xs ++ ys) →
+apart_rest : (last : Option (List Member)) (xs ys : List Row) → AreApart last (xs ++ ys) →
     AreApart (behind_all last xs) ys
 apart_rest last [] ys are = are
 apart_rest last (x ∷ xs) ys are = apart_rest (behind_one last x) xs ys are.1
@@ -76,7 +78,7 @@ both_over xs ys first rest last over =
       subst IsOver (sym (behind_rest last xs ys)) other.1,
     )
 
-plain_over : (last : Option Bool) (one : Instr) → IsOver last → IsOver (behind_plain last one)
+plain_over : (last : Option (List Member)) (one : Instr) → IsOver last → IsOver (behind_plain last one)
 plain_over last (instr.Need slot array shift line) over = over
 plain_over last one over = tt
 
@@ -100,14 +102,14 @@ quiet_over (row.Plain one ∷ rows) quiet last over =
     ((tt, rest.0), rest.1)
 
 -- a loop that doesn't accumulate, behind one that doesn't
-may_follow : (last : Option Bool) (group : List Member) → IsOver last →
+may_follow : (last : Option (List Member)) (group : List Member) → IsOver last →
     has_total group ≡ false → MayFollow last group
 may_follow None group over none = tt
-may_follow (Some total) group over none = (over, none)
+may_follow (Some first) group over none = (over, none)
 
-loop_over : (slot : ℕ) (group : List Member) → has_total group ≡ false →
+loop_over : (slot : ℕ) (group : List Member) → MayLead group →
     AreOver (row.Loop slot group ∷ [])
-loop_over slot group none last over = ((may_follow last group over none, tt), none)
+loop_over slot group lead last over = ((may_follow last group over lead.0, tt), lead)
 
 -- ---- structured code
 
@@ -182,23 +184,29 @@ along = record {
       of_rows (fold_rows numbers line scalar operator over operand)
       (λ last before. ((tt, (tt, (tt, tt))), tt));
   kept = λ line temp slot expr mask.
-      of_rows (kept_rows line temp slot expr mask) (λ last before. ((tt, (tt, tt)), refl));
+      of_rows (kept_rows line temp slot expr mask) (λ last before. ((tt, (tt, tt)), (refl, refl)));
   pair = λ line one other slot expr also mask.
       of_rows (row.Plain (instr.Room one slot) ∷ row.Plain (instr.Room other slot)
       ∷ row.Loop slot (row.Put one (words_of expr) mask line
       ∷ row.Put other (words_of also) None line ∷ []) ∷ [])
-      (λ last before. ((tt, (tt, (tt, tt))), refl));
-  indices = λ line slot mask temp exprs.
-      of_rows (rooms slot (temps_from temp exprs)
-      ++ row.Loop slot (index_puts line mask temp exprs) ∷ [])
-      (both_over (rooms slot (temps_from temp exprs))
-      (row.Loop slot (index_puts line mask temp exprs) ∷ [])
-      (quiet_over (rooms slot (temps_from temp exprs)) (rooms_quiet slot (temps_from temp exprs)))
-      (loop_over slot (index_puts line mask temp exprs) (index_none line mask temp exprs)));
+      (λ last before. ((tt, (tt, (tt, tt))), (refl, refl)));
+  remap = λ numbers line scalar temp operator over exprs operand.
+      let places = rooms over.slot (temps_from temp exprs) in
+      let mask = mask_code numbers over.mask in
+      let group = index_puts line mask temp exprs in
+      let others = row.Loop over.slot group
+      ∷ fold_rows numbers line scalar operator over operand in
+      of_rows (places ++ others)
+      (both_over places others
+      (quiet_over places (rooms_quiet over.slot (temps_from temp exprs)))
+      (λ last before. (
+        (may_follow last group before (index_none line mask temp exprs), (tt, (tt, (tt, tt)))),
+        tt,
+      )));
   copy = λ line array copy slot region.
       of_rows (row.Plain (instr.Fix slot region)
       ∷ row.Loop slot (row.Put copy (words_of (Element array)) None line ∷ []) ∷ [])
-      (λ last before. ((tt, (tt, tt)), refl));
+      (λ last before. ((tt, (tt, tt)), (refl, refl)));
 }
 
 array_over : (w : Where) (line : ℕ) (next : Next) (over : Slotted) (value : Placed)
@@ -216,7 +224,7 @@ array_over w line next over value target =
     by left None = λ last before. (tt, before)
     by left (Some stored) =
         loop_over over.slot
-        (row.Put stored.array (words_of left) (mask_code w.numbers over.mask) line ∷ []) refl
+        (row.Put stored.array (words_of left) (mask_code w.numbers over.mask) line ∷ []) (refl, refl)
 
 -- ---- shattered statements accumulate nothing
 
@@ -272,7 +280,7 @@ module _ (w : Where) (line : ℕ) (rank : Rank) where
         total_both (stmt_inside w line next rank first).members
         (stmts_inside w line next rank rest).members (stmt_none next first) (stmts_none next rest)
 
-    form_none : (next : Next) (form : Form) → HasNone (form_inside w line next rank form)
+    pub form_none : (next : Next) (form : Form) → HasNone (form_inside w line next rank form)
     form_none next (Assign name op value) =
         put_none (elementwise w line next rank (assigned_expr name op value))
         (thing_of w.environment name.text)
@@ -317,10 +325,18 @@ module _ (w : Where) (line : ℕ) (rank : Rank) where
     else_none next NoElse = refl
     else_none next (Else body) = stmts_none next body
 
-masked_none : (mask : Option Words) (line : ℕ) (members : List Member) →
+pub masked_none : (mask : Option Words) (line : ℕ) (members : List Member) →
     has_total members ≡ false → has_total (masked_members mask line members) ≡ false
 masked_none None line members none = none
 masked_none (Some words) line members none = total_both members (row.CloseIf ∷ []) none refl
+
+-- a loop that puts something, or one with a row behind it
+loop_apart : (put : Bool) (line slot scalar : ℕ) (group : List Member) → has_total group ≡ false →
+    (put ≡ true → has_put group ≡ true) →
+    AreOver (row.Loop slot group ∷ apart_rows put line scalar)
+loop_apart true line slot scalar group none puts = loop_over slot group (none, puts refl)
+loop_apart false line slot scalar group none puts =
+    λ last over. ((may_follow last group over none, (tt, tt)), tt)
 
 shattered_over : (w : Where) (line : ℕ) (next : Next) (form : Form) →
     IsOverCode (shattered w line next form).code
@@ -331,10 +347,24 @@ shattered_over w line next form =
     let mask : Option Words = mask_code w.numbers over.mask in
     let group : List Member = masked_members mask line inside.members in
     let refs : List Reference = inside.references ++ over_reference w.numbers over in
-    of_rows (needs line refs ++ row.Loop over.slot group ∷ [])
-    (both_over (needs line refs) (row.Loop over.slot group ∷ [])
+    let put : Bool = has_put inside.members in
+    let apart : List Row = apart_rows put line next.scalars in
+    let loop : List Row = row.Loop over.slot group ∷ [] in
+    let rows : List Row = (needs line refs ++ loop) ++ apart in
+    let are : AreOver rows =
+    subst AreOver (sym (append_assoc (needs line refs) loop apart))
+    (both_over (needs line refs) (loop ++ apart)
     (quiet_over (needs line refs) (needs_quiet line refs))
-    (loop_over over.slot group (masked_none mask line inside.members (form_none w line rank next form))))
+    (loop_apart put line over.slot next.scalars group
+    (masked_none mask line inside.members (form_none w line rank next form))
+    (λ e. masked_put mask line inside.members ∙ e))) in
+    let first : Piece Row Check = piece.Rows (needs line refs ++ loop) in
+    let second : Piece Row Check = piece.Rows apart in
+    λ at.
+    subst AreOver
+    (sym (laid_then at first second
+    ∙ ap₂ (λ xs ys. xs ++ ys) (laid_rows at (needs line refs ++ loop))
+    (laid_rows (at + size first) apart))) are
 
 pub rows_apart : (program : Program) (settings : List Setting) →
     AreApart None (rows_of (lowered_program program settings))
@@ -371,50 +401,85 @@ module _ (tables : Tables) where
       subst (λ group. list_any is_accumulating group ≡ false) (sym (found tables.groups k))
       (group_none (slice_index_or tables.groups k []) none)
 
-  abbrev Walk : Option Bool → List Instr → Type 0
+  abbrev Walk : Option (List Member) → List Instr → Type 0
   Walk last rows = AreApart last (map (inlined tables) rows)
 
-  walk_rest : (last : Option Bool) (xs ys : List Instr) → Walk last (xs ++ ys) →
+  walk_rest : (last : Option (List Member)) (xs ys : List Instr) → Walk last (xs ++ ys) →
       Walk (behind_all last (map (inlined tables) xs)) ys
   walk_rest last xs ys walk =
       apart_rest last (map (inlined tables) xs) (map (inlined tables) ys)
       (subst (AreApart last) (map_both (inlined tables) xs ys) walk)
 
-  behind_checks : (total : Bool) (slot other : ℕ) (back between : List Instr) →
+  group_puts : (group : List number.Member) →
+      has_put (map (member_inlined tables) group) ≡ true → flat_map put_by group ≢ []
+  group_puts [] put = λ e. let no : ⊥ = cc in absurd no
+  group_puts (member.Put array expr mask line ∷ group) put = λ e. let no : ⊥ = cc in absurd no
+  group_puts (member.Acc scalar operator expr mask line ∷ group) put = group_puts group put
+  group_puts (member.Cell cell expr mask line ∷ group) put = group_puts group put
+  group_puts (member.OpenIf expr mask line ∷ group) put = group_puts group put
+  group_puts (member.Otherwise ∷ group) put = group_puts group put
+  group_puts (member.CloseIf ∷ group) put = group_puts group put
+  group_puts (member.OpenWhile expr mask line ∷ group) put = group_puts group put
+  group_puts (member.CloseWhile ∷ group) put = group_puts group put
+  group_puts (member.OpenRepeat mask line ∷ group) put = group_puts group put
+  group_puts (member.Until expr ∷ group) put = group_puts group put
+
+  pub members_put : (k : ℕ) →
+      has_put (map (member_inlined tables) (slice_index_or tables.groups k [])) ≡ true →
+      flat_map put_by (members_of tables k) ≢ []
+  members_put k put =
+      subst (λ group. flat_map put_by group ≢ []) (sym (found tables.groups k))
+      (group_puts (slice_index_or tables.groups k []) put)
+
+  -- the group of a loop, seen inline
+  abbrev seen : ℕ → List Member
+  seen k = map (member_inlined tables) (slice_index_or tables.groups k [])
+
+  behind_checks : (first : List Member) (slot other : ℕ) (back between : List Instr) →
       AllByRecursion (λ row. is_check row ≡ true) between →
-      Walk (Some total) (between ++ instr.Loop slot other ∷ back) →
-      (total ≡ false)
-      × (has_total (map (member_inlined tables) (slice_index_or tables.groups other [])) ≡ false)
-  behind_checks total slot other back [] checks walk = walk.0
-  behind_checks total slot other back (instr.Need own array shift line ∷ between) checks walk =
-      behind_checks total slot other back between checks.1 walk.1
-  behind_checks total slot other back (one ∷ between) checks walk =
+      Walk (Some first) (between ++ instr.Loop slot other ∷ back) → MayFollow (Some first) (seen other)
+  behind_checks first slot other back [] checks walk = walk.0
+  behind_checks first slot other back (instr.Need own array shift line ∷ between) checks walk =
+      behind_checks first slot other back between checks.1 walk.1
+  behind_checks first slot other back (one ∷ between) checks walk =
       absurd (false_true checks.0)
+
+  -- two loops with checks alone between them
+  pub two_apart : (rows : List Row) → all_inlined tables ≡ rows → AreApart None rows →
+      (before between : List Instr) (slot other_slot one other : ℕ) →
+      IsStretch tables.code
+      (before ++ instr.Loop slot one ∷ (between ++ instr.Loop other_slot other ∷ [])) →
+      AllByRecursion (λ row. is_check row ≡ true) between → MayFollow (Some (seen one)) (seen other)
+  two_apart rows same are before between slot other_slot one other stretch checks =
+      behind_checks (seen one) other_slot other stretch.back between checks
+      (subst (Walk (Some (seen one)))
+      (append_assoc between (instr.Loop other_slot other ∷ []) stretch.back) there.1)
+    where
+      tail : List Instr
+      tail = instr.Loop slot one ∷ (between ++ instr.Loop other_slot other ∷ [])
+
+      whole : Walk None (stretch.front ++ ((before ++ tail) ++ stretch.back))
+      whole = subst (Walk None) stretch.place (subst (AreApart None) (sym same) are)
+
+      state : Option (List Member)
+      state = behind_all None (map (inlined tables) stretch.front)
+
+      behind_front : Walk state (before ++ (tail ++ stretch.back))
+      behind_front =
+          subst (Walk state) (append_assoc before tail stretch.back)
+          (walk_rest None stretch.front ((before ++ tail) ++ stretch.back) whole)
+
+      there : Walk (behind_all state (map (inlined tables) before)) (tail ++ stretch.back)
+      there = walk_rest state before (tail ++ stretch.back) behind_front
 
 pub none_accumulate : (tables : Tables) (rows : List Row) → all_inlined tables ≡ rows →
     AreApart None rows → NoneAccumulates tables
 none_accumulate tables rows same are before between slot other_slot one other stretch checks =
-    let both = behind_checks tables
-    (has_total (map (member_inlined tables) (slice_index_or tables.groups one []))) other_slot other
-    stretch.back between checks
-    (subst (Walk tables (Some (has_total (map (member_inlined tables)
-    (slice_index_or tables.groups one [])))))
-    (append_assoc between (instr.Loop other_slot other ∷ []) stretch.back) there.1) in
-    (members_none tables one both.0, members_none tables other both.1)
-  where
-    tail : List Instr
-    tail = instr.Loop slot one ∷ (between ++ instr.Loop other_slot other ∷ [])
+    let two = two_apart tables rows same are before between slot other_slot one other stretch checks
+    in (members_none tables one two.0.0, members_none tables other two.1)
 
-    whole : Walk tables None (stretch.front ++ ((before ++ tail) ++ stretch.back))
-    whole = subst (Walk tables None) stretch.place (subst (AreApart None) (sym same) are)
-
-    state : Option Bool
-    state = behind_all None (map (inlined tables) stretch.front)
-
-    behind_front : Walk tables state (before ++ (tail ++ stretch.back))
-    behind_front =
-        subst (Walk tables state) (append_assoc before tail stretch.back)
-        (walk_rest tables None stretch.front ((before ++ tail) ++ stretch.back) whole)
-
-    there : Walk tables (behind_all state (map (inlined tables) before)) (tail ++ stretch.back)
-    there = walk_rest tables state before (tail ++ stretch.back) behind_front
+pub first_puts : (tables : Tables) (rows : List Row) → all_inlined tables ≡ rows →
+    AreApart None rows → FirstPuts tables
+first_puts tables rows same are before between slot other_slot one other stretch checks =
+    let two = two_apart tables rows same are before between slot other_slot one other stretch checks
+    in members_put tables one two.0.1

@@ -4,15 +4,11 @@
 --   putting_in    how many loops of rows put an array
 --   prepared_in   how many rows prepare for one
 --   ArePrepared   of these there are as many at least
-use Rattle.std.specs.Prelude.{ℕ, ◌+◌, ◌≤◌, Bool, true, false, List, [], ◌∷◌, cond}
+use Rattle.std.specs.Prelude.{ℕ, ◌+◌, ◌≤◌, Bool, false, List, [], ◌∷◌, cond}
 use Rattle.flat_form.specs.Row as row
-use Rattle.flat_form.specs.Row.{Row, Member}
+use Rattle.flat_form.specs.Row.{Row}
+use Rattle.zpl_lowering.specs.Statement.{has_put}
 use Rattle.pass_sizes.specs.Sizes.{is_preparing}
-
-abbrev pub has_put : List Member → Bool
-has_put [] = false
-has_put (row.Put array expr mask line ∷ group) = true
-has_put (one ∷ group) = has_put group
 
 abbrev pub is_putting : Row → Bool
 is_putting (row.Loop slot group) = has_put group

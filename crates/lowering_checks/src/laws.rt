@@ -9,15 +9,17 @@ ghost use Rattle.node_form.specs.declared.tables.Tables.{Tables as Code};
 ghost use Rattle.row_runs.specs.Straight.{Every};
 ghost use Rattle.flat_form.specs.Laws.{IsInline};
 ghost use Rattle.flat_form.specs.Row.{Row, all_inlined};
-ghost use Rattle.pass_parts.specs.Checks.{ChecksWhatFollows};
+ghost use Rattle.pass_parts.specs.Checks.{ChecksWhatFollows, StandsWithWhatFollows};
 ghost use Rattle.zpl_lowering.specs.Program.{lowered_program};
-ghost use Rattle.zpl_lowering.specs.Tables.{rows_of};
+ghost use Rattle.zpl_lowering.specs.Tables.{flat_tables, rows_of};
 ghost use Rattle.lowering_checks.specs.Prepared.{ArePrepared};
-ghost use Rattle.lowering_checks.specs.Totals.{AreApart, NoneAccumulates};
+ghost use Rattle.lowering_checks.specs.Stands.{PutsAlike, ReadsApart};
+ghost use Rattle.lowering_checks.specs.Totals.{AreApart, FirstPuts, NoneAccumulates};
 ghost use Rattle.lowering_checks.specs.Walked.{AreChecked};
 
 use meaning_ranks::ranks_agree;
 use zpl_meaning::{no_stand_in_is_met, what_is_computed_has_a_value};
+use zpl_names::faultless_programs_leave_nothing_open;
 
 /// In the rows of a program of the grammar without faults, under settings that it accepts, the
 /// checks that alone stand between two loops over one slot are those of the second one's
@@ -51,11 +53,33 @@ pub fn all_rows_are_inline()
         Every IsInline (rows_of (lowered_program program settings)) }
 {}
 
-/// Where checks alone stand between two loops of a program, whatever it is, neither accumulates:
-/// along its rows, and so in tables with these rows.
+/// Where checks alone stand between two loops of a program, whatever it is, neither accumulates,
+/// and the first one puts an array: along its rows, and so in tables with these rows.
 pub fn totals_stand_apart()
     ensures rows { (program : Program) (settings : List Setting) →
         AreApart None (rows_of (lowered_program program settings)) }
     ensures tables { (tables : Code) (rows : List Row) → all_inlined tables ≡ rows →
         AreApart None rows → NoneAccumulates tables }
+    ensures puts { (tables : Code) (rows : List Row) → all_inlined tables ≡ rows →
+        AreApart None rows → FirstPuts tables }
 {}
+
+/// Wherever checks alone stand between two loops over one slot, the second one may stand where the
+/// first one does, where besides it reads no scalar that some loop accumulates, and what both put
+/// has the same flood dimensions.
+pub fn loops_stand_where_others_do()
+    ensures { (tables : Code) → NoneAccumulates tables → FirstPuts tables → ReadsApart tables →
+        PutsAlike tables → StandsWithWhatFollows tables }
+{}
+
+/// In the tables of a program without faults, whose checks say what follows, a loop with checks
+/// alone between it and one before it over the same slot reads no scalar that some loop
+/// accumulates.
+pub fn loops_read_apart()
+    ensures { (program : Program) (settings : List Setting) → IsFaultless program →
+        all_inlined (flat_tables program settings) ≡ rows_of (lowered_program program settings) →
+        ChecksWhatFollows (flat_tables program settings) →
+        ReadsApart (flat_tables program settings) }
+{
+    faultless_programs_leave_nothing_open();
+}
