@@ -1,5 +1,5 @@
 -- A procedure that is called: its names stand for the arrays of the expanded call.
-use Rattle.std.proofs.Common.{◌≡◌, ℕ, suc, ◌≤◌, true, false, cond, List, [], ◌∷◌, ◌++◌, map, Option, Some, None, option_map, refl, sym, ap, ◌∙◌, subst, arith, rules}
+use Rattle.std.proofs.Common.{◌≡◌, ℕ, suc, ◌<◌, ◌≤◌, true, false, cond, List, [], ◌∷◌, ◌++◌, map, Option, Some, None, option_map, refl, sym, ap, ◌∙◌, subst, arith, rules}
 use Rattle.std.specs.Prelude.{flat_map, slice_get}
 use Rattle.std.specs.Option.{option_or}
 use Rattle.std.specs.Str.{bytes_eq}
@@ -21,9 +21,9 @@ use Rattle.zpl_lowering.specs.Statement.{Given, Valued, Copied, Referring, Calli
 use Rattle.zpl_lowering.specs.Program.{Entry as CallEntry}
 use Rattle.lowering_fits.specs.Reach.{named_thing}
 use Rattle.lowering_fits.specs.Whole.{Frames, given_frames, body_frames}
-use Rattle.array_numbers.specs.Numbering.{Numbering, IsNumber, IsLater, IsOwn, NotOwn, OwnScalar, OwnArray, IsGlobal, GlobalScalar, GlobalArray, GlobalOther, IsFixedKind, IsFixedThing, IsReached, ReachedScalar, ReachedArray, ReachedOther, IsFramed, IsTaken, AreTaken}
+use Rattle.array_numbers.specs.Numbering.{Numbering, IsNumber, IsLater, IsOwn, NotOwn, OwnScalar, OwnArray, IsGlobal, GlobalScalar, GlobalArray, GlobalOther, IsFixedKind, IsFixedThing, IsReached, ReachedScalar, ReachedArray, ReachedOther, IsFramed, IsTaken, AreTaken, SoundVars}
 use Rattle.array_numbers.proofs.FoundLemmas.{found_both, number_stays, global_stays, bound_both, binding_for}
-use Rattle.array_numbers.proofs.WalkLemmas.{IsWalked, seen, once_rest, Parameter, entry_of, formal_of, name_of, IsGiven, ByValue, ByName, ByArray, ByCopy, AreGiven, formals_walked, locals_walked}
+use Rattle.array_numbers.proofs.WalkLemmas.{AreInOrder, IsWalked, seen, once_rest, Parameter, entry_of, formal_of, name_of, IsGiven, ByValue, ByName, ByArray, ByCopy, AreGiven, formals_walked, locals_walked}
 
 -- ---- names in reach
 
@@ -41,91 +41,99 @@ abbrev or_global : Option ExpandedArray → Option ExpandedArray → Option Expa
 or_global global None = global
 or_global global (Some array) = Some array
 
-reached : (n : Numbering) (k g : Option Kind) (t s : Option Thing) (b a : Option ExpandedArray) →
-    IsOwn n k t b → IsGlobal n g s a →
-    IsReached n (option_or k g) (option_or t s)
-    (cond (is_array (option_or k g)) (or_global a b) None)
-reached n k g t s b a NotOwn (GlobalScalar base place array) = ReachedScalar base place
-reached n k g t s b a NotOwn (GlobalArray base shape place home array is) =
-    ReachedArray base shape place home array is
-reached n k g t s b a NotOwn (GlobalOther one thing array fixed still) =
-    subst (λ found. IsReached n one thing (cond found (or_global array None) None))
-    (sym (fixed_array one fixed)) (ReachedOther one thing fixed still)
-reached n k g t s b a (OwnScalar base place) global = ReachedScalar base place
-reached n k g t s b a (OwnArray base shape place home array is) global =
-    ReachedArray base shape place home array is
+module _ (Sound : ℕ → Region → Region → Type 0) where
+  reached : (n : Numbering) (k g : Option Kind) (t s : Option Thing) (b a : Option ExpandedArray) →
+      IsOwn Sound n k t b → IsGlobal Sound n g s a →
+      IsReached Sound n (option_or k g) (option_or t s)
+      (cond (is_array (option_or k g)) (or_global a b) None)
+  reached n k g t s b a NotOwn (GlobalScalar base place array) = ReachedScalar base place
+  reached n k g t s b a NotOwn (GlobalArray base shape place home array is) =
+      ReachedArray base shape place home array is
+  reached n k g t s b a NotOwn (GlobalOther one thing array fixed still) =
+      subst (λ found. IsReached Sound n one thing (cond found (or_global array None) None))
+      (sym (fixed_array one fixed)) (ReachedOther one thing fixed still)
+  reached n k g t s b a (OwnScalar base place) global = ReachedScalar base place
+  reached n k g t s b a (OwnArray base shape place home array is) global =
+      ReachedArray base shape place home array is
 
-pub named : (program : Program) (instance : Instance) (numbering : Numbering)
-    (names globals : Names) → IsFramed program instance numbering names globals → (name : Name) →
-    IsReached numbering (kind_of (scope_of program instance.routine) name)
-    (thing_of (record { names = names ++ globals }) name.text) (array_named program instance name)
-named program instance numbering names globals framed name =
-    subst (λ thing. IsReached numbering (kind_of (scope_of program instance.routine) name) thing
-    (array_named program instance name))
-    (sym (found_both (λ entry. bytes_eq entry.0 name.text) (λ entry. entry.1) names globals))
-    (reached numbering (kind_in instance.routine.own name.text)
-    (kind_in (globals_of program) name.text) (named_thing names name.text)
-    (named_thing globals name.text) (bound_in (instance.referred ++ instance.own) name.text)
-    (global_array program name.text) (framed.own name.text) (framed.global name.text))
+  pub named : (program : Program) (instance : Instance) (numbering : Numbering)
+      (names globals : Names) → IsFramed Sound program instance numbering names globals → (name : Name) →
+      IsReached Sound numbering (kind_of (scope_of program instance.routine) name)
+      (thing_of (record { names = names ++ globals }) name.text) (array_named program instance name)
+  named program instance numbering names globals framed name =
+      subst (λ thing. IsReached Sound numbering (kind_of (scope_of program instance.routine) name) thing
+      (array_named program instance name))
+      (sym (found_both (λ entry. bytes_eq entry.0 name.text) (λ entry. entry.1) names globals))
+      (reached numbering (kind_in instance.routine.own name.text)
+      (kind_in (globals_of program) name.text) (named_thing names name.text)
+      (named_thing globals name.text) (bound_in (instance.referred ++ instance.own) name.text)
+      (global_array program name.text) (framed.own name.text) (framed.global name.text))
 
-reached_stays : (few more : Numbering) → IsLater few more → (k : Option Kind) (t : Option Thing)
-    (a : Option ExpandedArray) → IsReached few k t a → IsReached more k t a
-reached_stays few more later k t a (ReachedScalar base place) = ReachedScalar base place
-reached_stays few more later k t a (ReachedArray base shape place home array is) =
-    ReachedArray base shape place home array (number_stays few more later place array is)
-reached_stays few more later k t a (ReachedOther one thing fixed still) =
-    ReachedOther one thing fixed still
+  reached_stays : (few more : Numbering) → IsLater few more → (k : Option Kind) (t : Option Thing)
+      (a : Option ExpandedArray) → IsReached Sound few k t a → IsReached Sound more k t a
+  reached_stays few more later k t a (ReachedScalar base place) = ReachedScalar base place
+  reached_stays few more later k t a (ReachedArray base shape place home array is) =
+      ReachedArray base shape place home array (number_stays Sound few more later place home array is)
+  reached_stays few more later k t a (ReachedOther one thing fixed still) =
+      ReachedOther one thing fixed still
 
--- ---- what is known of one
+  -- ---- what is known of one
 
-pub no_array : (n : Numbering) (k : Option Kind) (t : Option Thing) (a : Option ExpandedArray) →
-    IsReached n k t a → is_array k ≡ false → a ≡ None
-no_array n k t a (ReachedScalar base place) e = refl
-no_array n k t a (ReachedArray base shape place home array is) e = cc
-no_array n k t a (ReachedOther one thing fixed still) e = refl
+  pub no_array : (n : Numbering) (k : Option Kind) (t : Option Thing) (a : Option ExpandedArray) →
+      IsReached Sound n k t a → is_array k ≡ false → a ≡ None
+  no_array n k t a (ReachedScalar base place) e = refl
+  no_array n k t a (ReachedArray base shape place home array is) e = cc
+  no_array n k t a (ReachedOther one thing fixed still) e = refl
 
-scalar_there : (n : Numbering) (k : Option Kind) (t : Option Thing) (a : Option ExpandedArray)
-    (base : Base) → IsReached n k t a → k ≡ Some (kind.Scalar base) →
-    (place : ℕ) × (t ≡ Some (Scalar place)) × (a ≡ None)
-scalar_there n k t a base (ReachedScalar other place) e = (place, refl, refl)
-scalar_there n k t a base (ReachedArray other shape place home array is) e = cc
-scalar_there n k t a base (ReachedOther one thing fixed still) e =
-    absurd (subst IsFixedKind e fixed)
+  scalar_there : (n : Numbering) (k : Option Kind) (t : Option Thing) (a : Option ExpandedArray)
+      (base : Base) → IsReached Sound n k t a → k ≡ Some (kind.Scalar base) →
+      (place : ℕ) × (t ≡ Some (Scalar place)) × (a ≡ None)
+  scalar_there n k t a base (ReachedScalar other place) e = (place, refl, refl)
+  scalar_there n k t a base (ReachedArray other shape place home array is) e = cc
+  scalar_there n k t a base (ReachedOther one thing fixed still) e =
+      absurd (subst IsFixedKind e fixed)
 
-pub record IsArrayThere (n : Numbering) (t : Option Thing) (a : Option ExpandedArray) : Type 0 where
-  pub place : ℕ
-  pub home : Region
-  pub array : ExpandedArray
-  pub thing : t ≡ Some (ArrayAt place home)
-  pub named : a ≡ Some array
-  pub number : IsNumber n place array
+  pub record IsArrayThere (n : Numbering) (t : Option Thing) (a : Option ExpandedArray) : Type 0 where
+    pub place : ℕ
+    pub home : Region
+    pub array : ExpandedArray
+    pub thing : t ≡ Some (ArrayAt place home)
+    pub named : a ≡ Some array
+    pub number : IsNumber Sound n place home array
 
-array_there : (n : Numbering) (k : Option Kind) (t : Option Thing) (a : Option ExpandedArray) →
-    IsReached n k t a → is_array k ≡ true → IsArrayThere n t a
-array_there n k t a (ReachedScalar base place) e = cc
-array_there n k t a (ReachedArray base shape place home array is) e = record {
-  place = place;
-  home = home;
-  array = array;
-  thing = refl;
-  named = refl;
-  number = is;
-}
-array_there n k t a (ReachedOther one thing fixed still) e =
-    let no : true ≡ false = sym e ∙ fixed_array one fixed in cc
+  array_there : (n : Numbering) (k : Option Kind) (t : Option Thing) (a : Option ExpandedArray) →
+      IsReached Sound n k t a → is_array k ≡ true → IsArrayThere n t a
+  array_there n k t a (ReachedScalar base place) e = cc
+  array_there n k t a (ReachedArray base shape place home array is) e = record {
+    place = place;
+    home = home;
+    array = array;
+    thing = refl;
+    named = refl;
+    number = is;
+  }
+  array_there n k t a (ReachedOther one thing fixed still) e =
+      let no : true ≡ false = sym e ∙ fixed_array one fixed in cc
 
--- what stands for an array is one
-pub thing_there : (n : Numbering) (k : Option Kind) (t : Option Thing) (a : Option ExpandedArray)
-    (place : ℕ) (home : Region) → IsReached n k t a → t ≡ Some (ArrayAt place home) →
-    (array : ExpandedArray) × (a ≡ Some array) × IsNumber n place array
-thing_there n k t a place home (ReachedScalar base other) e = cc
-thing_there n k t a place home (ReachedArray base shape other box array is) e =
-    (array, refl, subst (λ p. IsNumber n p array) (same other place box home e) is)
-  where
-    same : (p q : ℕ) (h i : Region) → Some (ArrayAt p h) ≡ Some (ArrayAt q i) → p ≡ q
-    same p q h i e = cc
-thing_there n k t a place home (ReachedOther one thing fixed still) e =
-    absurd (subst IsFixedThing e still)
+  -- what stands for an array is one
+  pub thing_there : (n : Numbering) (k : Option Kind) (t : Option Thing) (a : Option ExpandedArray)
+      (place : ℕ) (home : Region) → IsReached Sound n k t a → t ≡ Some (ArrayAt place home) →
+      (array : ExpandedArray) × (a ≡ Some array) × IsNumber Sound n place home array
+  thing_there n k t a place home (ReachedScalar base other) e = cc
+  thing_there n k t a place home (ReachedArray base shape other box array is) e = (
+    array,
+    refl,
+    subst (λ h. IsNumber Sound n place h array) (alike other place box home e)
+        (subst (λ p. IsNumber Sound n p box array) (same other place box home e) is),
+  )
+    where
+      same : (p q : ℕ) (h i : Region) → Some (ArrayAt p h) ≡ Some (ArrayAt q i) → p ≡ q
+      same p q h i e = cc
+
+      alike : (p q : ℕ) (h i : Region) → Some (ArrayAt p h) ≡ Some (ArrayAt q i) → h ≡ i
+      alike p q h i e = cc
+  thing_there n k t a place home (ReachedOther one thing fixed still) e =
+      absurd (subst IsFixedThing e still)
 
 -- ---- what parameters take
 
@@ -153,9 +161,10 @@ copied_is numbers place home = by (slice_get numbers.arrays place) refl
     by None is = search (rules, is)
     by (Some stored) is = search (rules, is)
 
-module _ (program : Program) (caller : Instance) (first : Numbering) (w : Where)
+module _ (Sound : ℕ → Region → Region → Type 0) (program : Program) (caller : Instance)
+    (first : Numbering) (w : Where)
     (arrays : w.numbers.arrays ≡ first.arrays)
-    (reach : (name : Name) → IsReached first (kind_of (scope_of program caller.routine) name)
+    (reach : (name : Name) → IsReached Sound first (kind_of (scope_of program caller.routine) name)
     (thing_of w.environment name.text) (array_named program caller name)) where
   record Heads (formal : Formal) (formals : List Formal) (one : Parameter) (actual : Expr)
       (actuals : Exprs) (scalar : ℕ) : Type 0 where
@@ -163,7 +172,7 @@ module _ (program : Program) (caller : Instance) (first : Numbering) (w : Where)
     next : ℕ
     is : given_to w scalar (formal ∷ formals) (ThenExpr actual actuals) ≡
         given ∷ given_to w next formals actuals
-    takes : IsGiven program caller first one actual given
+    takes : IsGiven Sound program caller first one actual given
 
   by_value : (base : Base) (formals : List Formal) (one : Parameter) (actual : Expr)
       (actuals : Exprs) (scalar : ℕ) → IsParameter (ScalarFormal false base) one →
@@ -185,10 +194,10 @@ module _ (program : Program) (caller : Instance) (first : Numbering) (w : Where)
   given_one (ScalarFormal false base) formals one (Named at name) actuals scalar is taken =
       by_value base formals one (Named at name) actuals scalar is
       (ap (bound_to one.name)
-      (no_array first (kind_of (scope_of program caller.routine) name)
+      (no_array Sound first (kind_of (scope_of program caller.routine) name)
       (thing_of w.environment name.text) (array_named program caller name) (reach name) taken))
   given_one (ScalarFormal true base) formals one (Named at name) actuals scalar is taken =
-      let there = scalar_there first (kind_of (scope_of program caller.routine) name)
+      let there = scalar_there Sound first (kind_of (scope_of program caller.routine) name)
       (thing_of w.environment name.text) (array_named program caller name) taken.0 (reach name)
       taken.1 in
       record {
@@ -198,7 +207,7 @@ module _ (program : Program) (caller : Instance) (first : Numbering) (w : Where)
         takes = ByName base there.0 is.0 (ap (bound_to one.name) there.2);
       }
   given_one (ArrayFormal true base shape) formals one (Named at name) actuals scalar is taken =
-      let there = array_there first (kind_of (scope_of program caller.routine) name)
+      let there = array_there Sound first (kind_of (scope_of program caller.routine) name)
       (thing_of w.environment name.text) (array_named program caller name) (reach name) taken in
       record {
         given = Referring (ArrayAt there.place there.home);
@@ -208,7 +217,7 @@ module _ (program : Program) (caller : Instance) (first : Numbering) (w : Where)
             (ap (bound_to one.name) there.named) there.number;
       }
   given_one (ArrayFormal false base shape) formals one (Named at name) actuals scalar is taken =
-      let there = array_there first (kind_of (scope_of program caller.routine) name)
+      let there = array_there Sound first (kind_of (scope_of program caller.routine) name)
       (thing_of w.environment name.text) (array_named program caller name) (reach name) taken in
       let stored = there.number.stored in
       record {
@@ -220,7 +229,7 @@ module _ (program : Program) (caller : Instance) (first : Numbering) (w : Where)
             ∙ ap (copied_of there.home)
             (ap (λ all. slice_get all there.place) arrays ∙ there.number.there));
         takes = ByCopy base shape stored there.home there.array is.0 is.1
-            (ap (bound_to one.name) there.named);
+            (ap (bound_to one.name) there.named) there.number.sound;
       }
   given_one (ScalarFormal false base) formals one (Number at value) actuals scalar is taken =
       by_value base formals one (Number at value) actuals scalar is refl
@@ -300,7 +309,7 @@ module _ (program : Program) (caller : Instance) (first : Numbering) (w : Where)
 
   are_given : (formals : List Formal) (parameters : List Parameter) (actuals : Exprs)
       (scalar : ℕ) → AreParameters formals parameters → AreTaken program caller formals actuals →
-      AreGiven program caller first parameters actuals (given_to w scalar formals actuals)
+      AreGiven Sound program caller first parameters actuals (given_to w scalar formals actuals)
   are_given [] [] NoExpr scalar are taken = tt
   are_given [] [] (ThenExpr actual actuals) scalar are taken = absurd taken
   are_given [] (one ∷ rest) actuals scalar are taken = absurd are
@@ -308,7 +317,7 @@ module _ (program : Program) (caller : Instance) (first : Numbering) (w : Where)
   are_given (formal ∷ formals) (one ∷ rest) NoExpr scalar are taken = absurd taken
   are_given (formal ∷ formals) (one ∷ rest) (ThenExpr actual actuals) scalar are taken =
       let heads = given_one formal formals one actual actuals scalar are.0 taken.0 in
-      subst (AreGiven program caller first (one ∷ rest) (ThenExpr actual actuals)) (sym heads.is)
+      subst (AreGiven Sound program caller first (one ∷ rest) (ThenExpr actual actuals)) (sym heads.is)
       (heads.takes, are_given formals rest actuals heads.next are.1 taken.1)
 
 -- ---- the parameters of a procedure
@@ -376,12 +385,14 @@ are_parameters scope (param ∷ params) = by param.shape param.names (are_parame
 
 -- ---- the call
 
-module _ (program : Program) (caller : Instance) (numbering : Numbering) (setup : Setup)
-    (names : Names) (framed : IsFramed program caller numbering names setup.globals) (w : Where)
+module _ (Sound : ℕ → Region → Region → Type 0) (program : Program) (caller : Instance)
+    (numbering : Numbering) (setup : Setup) (names : Names)
+    (framed : IsFramed Sound program caller numbering names setup.globals) (w : Where)
     (environment : w.environment ≡ record { names = names ++ setup.globals })
     (arrays : w.numbers.arrays ≡ numbering.arrays) (call : CallSite) (routine : Routine)
     (signature : Signature) (is : IsProcedureOf signature routine)
-    (once : repeated [] (own_names routine.procedure) ≡ []) (scalar : ℕ)
+    (once : repeated [] (own_names routine.procedure) ≡ [])
+    (sound : SoundVars Sound setup.known setup.borders routine.procedure.locals) (scalar : ℕ)
     (taken : AreTaken program caller signature.formals call.actuals) (entry : CallEntry)
     (calling : Calling)
     (actuals : calling.actuals ≡ given_to w scalar signature.formals call.actuals)
@@ -416,7 +427,7 @@ module _ (program : Program) (caller : Instance) (numbering : Numbering) (setup 
     walked_under : (formals : List FormalName) → map formal_of mine ≡ formals →
         (let given = given_frames entry.line formals calling.actuals
         (record { names = []; numbers = calling.numbers }) next in
-        IsWalked first (seen [] (map name_of mine)) (map entry_of mine) given.frame.names
+        IsWalked Sound first (seen [] (map name_of mine)) (map entry_of mine) given.frame.names
         (actual_arrays program caller true formals call.actuals)
         (map (copy_of path all) (actual_arrays program caller false formals call.actuals))
         given.frame.numbers.arrays given.next.arrays)
@@ -424,15 +435,15 @@ module _ (program : Program) (caller : Instance) (numbering : Numbering) (setup 
         subst
         (λ fs. (let given = given_frames entry.line fs calling.actuals
         (record { names = []; numbers = calling.numbers }) next in
-        IsWalked first (seen [] (map name_of mine)) (map entry_of mine) given.frame.names
+        IsWalked Sound first (seen [] (map name_of mine)) (map entry_of mine) given.frame.names
         (actual_arrays program caller true fs call.actuals)
         (map (copy_of path all) (actual_arrays program caller false fs call.actuals))
         given.frame.numbers.arrays given.next.arrays)) same
-        (formals_walked program caller first path all mine call.actuals calling.actuals entry.line
+        (formals_walked Sound program caller first path all mine call.actuals calling.actuals entry.line
         (record { names = []; numbers = calling.numbers }) next []
         (flat_map (λ var. var.names) routine.procedure.locals) [] [] []
-        (subst (AreGiven program caller first mine call.actuals) (sym actuals)
-        (are_given program caller first w arrays reach signature.formals mine call.actuals scalar
+        (subst (AreGiven Sound program caller first mine call.actuals) (sym actuals)
+        (are_given Sound program caller first w arrays reach signature.formals mine call.actuals scalar
         (subst (λ (fs : List Formal). AreParameters fs mine)
         (sym (ap (λ (s : Signature). s.formals) is.signed)) (are_parameters scope params)) taken))
         (subst (λ (ns : List Name). repeated []
@@ -448,38 +459,53 @@ module _ (program : Program) (caller : Instance) (numbering : Numbering) (setup 
           };
           found = λ text. NotOwn;
           covers = λ text e. refl;
+          ordered = record {
+            many = omega arith;
+            placed = λ i one is. let no : ⊥ = cc in absurd no;
+          };
         }))
       where
-        reach : (name : Name) → IsReached first (kind_of (scope_of program caller.routine) name)
+        reach : (name : Name) → IsReached Sound first (kind_of (scope_of program caller.routine) name)
             (thing_of w.environment name.text) (array_named program caller name)
         reach name =
-            subst (λ (e : Environment). IsReached first
+            subst (λ (e : Environment). IsReached Sound first
             (kind_of (scope_of program caller.routine) name) (thing_of e name.text)
             (array_named program caller name)) (sym environment)
-            (reached_stays numbering first later _ _ _
-            (named program caller numbering names setup.globals framed name))
+            (reached_stays Sound numbering first later _ _ _
+            (named Sound program caller numbering names setup.globals framed name))
 
     -- all own names of the call
-    pub called : (let last = body_frames setup entry routine calling next in
-        (of : ℕ → ExpandedArray) × IsFramed program (called_instance program caller call routine)
-        (record {
-          arrays = last.frame.numbers.arrays;
-          of = of;
-          bound = last.next.arrays;
-        }) last.frame.names setup.globals)
-    called = (
-      walked.of,
-      record {
-        own = λ text. subst (λ found. IsOwn numbering_after (kind_in routine.own text)
+    abbrev called_one : Instance
+    called_one = called_instance program caller call routine
+
+    pub record IsCalled : Type 0 where
+      pub of : ℕ → ExpandedArray
+      pub framing : (let last = body_frames setup entry routine calling next in
+          IsFramed Sound program called_one (record {
+            arrays = last.frame.numbers.arrays;
+            of = of;
+            bound = last.next.arrays;
+          }) last.frame.names setup.globals)
+      pub stays : (number : ℕ) → number < next.arrays → of number ≡ numbering.of number
+      pub ordered : AreInOrder next.arrays of called_one.own
+          (body_frames setup entry routine calling next).next.arrays
+
+    pub called : IsCalled
+    called = record {
+      of = walked.of;
+      framing = record {
+        own = λ text. subst (λ found. IsOwn Sound numbering_after (kind_in routine.own text)
             (named_thing last.frame.names text) found) (sym (bound_both referred mine_own text))
-            (subst (λ (xs : List Entry). IsOwn numbering_after (kind_in xs text)
+            (subst (λ (xs : List Entry). IsOwn Sound numbering_after (kind_in xs text)
             (named_thing last.frame.names text)
             (option_or (bound_in referred text) (bound_in mine_own text))) entries_are
             (walked.found text));
-        global = λ text. global_stays first numbering_after walked.later _ _ _
-            (global_stays numbering first later _ _ _ (framed.global text));
-      },
-    )
+        global = λ text. global_stays Sound first numbering_after walked.later _ _ _
+            (global_stays Sound numbering first later _ _ _ (framed.global text));
+      };
+      stays = λ number below. walked.later.of number below;
+      ordered = walked.ordered;
+    }
       where
         given : Frames
         given = given_frames entry.line all calling.actuals
@@ -496,20 +522,20 @@ module _ (program : Program) (caller : Instance) (numbering : Numbering) (setup 
         last : Frames
         last = body_frames setup entry routine calling next
 
-        walked : IsWalked first
+        walked : IsWalked Sound first
             (seen (seen [] (map name_of mine)) (flat_map (λ var. var.names) routine.procedure.locals))
             (map entry_of mine ++ flat_map
             (λ var. map (entry_for (variable_kind scope var.shape var.base)) var.names)
             routine.procedure.locals) last.frame.names referred mine_own
             last.frame.numbers.arrays last.next.arrays
         walked =
-            locals_walked first setup entry scope path routine.procedure.locals given.frame given.next
+            locals_walked Sound first setup entry scope path routine.procedure.locals given.frame given.next
             (seen [] (map name_of mine)) (map entry_of mine) referred
             (map (copy_of path all) (actual_arrays program caller false all call.actuals))
             (once_rest [] (map name_of mine) (flat_map (λ var. var.names) routine.procedure.locals)
             (subst (λ (ns : List Name). repeated []
             (ns ++ flat_map (λ var. var.names) routine.procedure.locals) ≡ [])
-            (sym (names_are scope params)) once))
+            (sym (names_are scope params)) once)) sound
             (walked_under all (each_of formal_of scope params))
 
         numbering_after : Numbering

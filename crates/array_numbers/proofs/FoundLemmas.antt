@@ -4,6 +4,7 @@ use Rattle.std.specs.Prelude.{find}
 use Rattle.std.specs.List.{list_any}
 use Rattle.std.specs.Option.{option_or}
 use Rattle.std.specs.Str.{bytes_eq}
+use Rattle.zpl_region.specs.declared.regions.Region.{Region}
 use Rattle.zpl_tree.specs.Syntax.{Name}
 use Rattle.zpl_names.specs.Kinds.{Kind}
 use Rattle.zpl_names.specs.Scope.{Entry, kind_in}
@@ -16,31 +17,33 @@ use Rattle.array_numbers.specs.Numbering.{Numbering, IsNumber, IsLater, IsOwn, N
 
 -- ---- numbers that stay
 
-pub number_stays : (few more : Numbering) → IsLater few more → (place : ℕ)
-    (array : ExpandedArray) → IsNumber few place array → IsNumber more place array
-number_stays few more later place array is = record {
+pub number_stays : (Sound : ℕ → Region → Region → Type 0) (few more : Numbering) →
+    IsLater few more → (place : ℕ) (home : Region) (array : ExpandedArray) →
+    IsNumber Sound few place home array → IsNumber Sound more place home array
+number_stays Sound few more later place home array is = record {
   stored = is.stored;
   there = later.arrays place is.stored is.there;
   below = omega (arith, is.below, later.bound);
   stands = later.of is.stored.array is.below ∙ is.stands;
+  sound = is.sound;
 }
 
-pub own_stays : (few more : Numbering) → IsLater few more → (kind : Option Kind)
-    (thing : Option Thing) (array : Option ExpandedArray) → IsOwn few kind thing array →
-    IsOwn more kind thing array
-own_stays few more later kind thing array NotOwn = NotOwn
-own_stays few more later kind thing array (OwnScalar base place) = OwnScalar base place
-own_stays few more later kind thing array (OwnArray base shape place home one is) =
-    OwnArray base shape place home one (number_stays few more later place one is)
+pub own_stays : (Sound : ℕ → Region → Region → Type 0) (few more : Numbering) → IsLater few more → (kind : Option Kind)
+    (thing : Option Thing) (array : Option ExpandedArray) → IsOwn Sound few kind thing array →
+    IsOwn Sound more kind thing array
+own_stays Sound few more later kind thing array NotOwn = NotOwn
+own_stays Sound few more later kind thing array (OwnScalar base place) = OwnScalar base place
+own_stays Sound few more later kind thing array (OwnArray base shape place home one is) =
+    OwnArray base shape place home one (number_stays Sound few more later place home one is)
 
-pub global_stays : (few more : Numbering) → IsLater few more → (kind : Option Kind)
-    (thing : Option Thing) (array : Option ExpandedArray) → IsGlobal few kind thing array →
-    IsGlobal more kind thing array
-global_stays few more later kind thing array (GlobalScalar base place one) =
+pub global_stays : (Sound : ℕ → Region → Region → Type 0) (few more : Numbering) → IsLater few more → (kind : Option Kind)
+    (thing : Option Thing) (array : Option ExpandedArray) → IsGlobal Sound few kind thing array →
+    IsGlobal Sound more kind thing array
+global_stays Sound few more later kind thing array (GlobalScalar base place one) =
     GlobalScalar base place one
-global_stays few more later kind thing array (GlobalArray base shape place home one is) =
-    GlobalArray base shape place home one (number_stays few more later place one is)
-global_stays few more later kind thing array (GlobalOther k t a fixed still) =
+global_stays Sound few more later kind thing array (GlobalArray base shape place home one is) =
+    GlobalArray base shape place home one (number_stays Sound few more later place home one is)
+global_stays Sound few more later kind thing array (GlobalOther k t a fixed still) =
     GlobalOther k t a fixed still
 
 pub later_none : (one : Numbering) → IsLater one one
@@ -121,9 +124,9 @@ bound_both xs ys text =
 
 -- ---- one name more
 
-none_own : (numbering : Numbering) (thing : Option Thing) (array : Option ExpandedArray) →
-    IsOwn numbering None thing array → (thing ≡ None) × (array ≡ None)
-none_own numbering thing array NotOwn = (refl, refl)
+none_own : (Sound : ℕ → Region → Region → Type 0) (numbering : Numbering) (thing : Option Thing) (array : Option ExpandedArray) →
+    IsOwn Sound numbering None thing array → (thing ≡ None) × (array ≡ None)
+none_own Sound numbering thing array NotOwn = (refl, refl)
 
 neither : {A : Type 0} (one other : Option A) → option_or one other ≡ None →
     (one ≡ None) × (other ≡ None)
@@ -139,13 +142,13 @@ pub data MoreBound (first rest : Option ExpandedArray) (b : Bool) :
   MoreRest : (array : ExpandedArray) →
       MoreBound first rest b first (option_or rest (only_if b (Some array))) (Some array)
 
-new_found : (numbering : Numbering) (kind : Kind) (thing : Thing)
+new_found : (Sound : ℕ → Region → Region → Type 0) (numbering : Numbering) (kind : Kind) (thing : Thing)
     (one other array : Option ExpandedArray) → MoreBound None None true one other array →
-    IsOwn numbering (Some kind) (Some thing) array →
-    IsOwn numbering (Some kind) (Some thing) (option_or one other)
-new_found numbering kind thing one other array NoMore new = new
-new_found numbering kind thing one other array (MoreFirst a) new = new
-new_found numbering kind thing one other array (MoreRest a) new = new
+    IsOwn Sound numbering (Some kind) (Some thing) array →
+    IsOwn Sound numbering (Some kind) (Some thing) (option_or one other)
+new_found Sound numbering kind thing one other array NoMore new = new
+new_found Sound numbering kind thing one other array (MoreFirst a) new = new
+new_found Sound numbering kind thing one other array (MoreRest a) new = new
 
 old_found : (first rest one other array : Option ExpandedArray) →
     MoreBound first rest false one other array → option_or first rest ≡ option_or one other
@@ -154,29 +157,29 @@ old_found first rest one other array (MoreFirst a) =
     ap (λ found. option_or found rest) (sym (or_none first))
 old_found first rest one other array (MoreRest a) = ap (option_or first) (sym (or_none rest))
 
-pub one_more : (numbering : Numbering) (b : Bool) (kinds : Option Kind) (things : Option Thing)
+pub one_more : (Sound : ℕ → Region → Region → Type 0) (numbering : Numbering) (b : Bool) (kinds : Option Kind) (things : Option Thing)
     (first rest one other array : Option ExpandedArray) (kind : Kind) (thing : Thing) →
-    (b ≡ true → kinds ≡ None) → IsOwn numbering kinds things (option_or first rest) →
-    MoreBound first rest b one other array → IsOwn numbering (Some kind) (Some thing) array →
-    IsOwn numbering (option_or kinds (only_if b (Some kind)))
+    (b ≡ true → kinds ≡ None) → IsOwn Sound numbering kinds things (option_or first rest) →
+    MoreBound first rest b one other array → IsOwn Sound numbering (Some kind) (Some thing) array →
+    IsOwn Sound numbering (option_or kinds (only_if b (Some kind)))
     (option_or things (only_if b (Some thing))) (option_or one other)
-one_more numbering true kinds things first rest one other array kind thing fresh old more new =
+one_more Sound numbering true kinds things first rest one other array kind thing fresh old more new =
     let none = fresh refl in
-    let two = none_own numbering things (option_or first rest)
-    (subst (λ k. IsOwn numbering k things (option_or first rest)) none old) in
+    let two = none_own Sound numbering things (option_or first rest)
+    (subst (λ k. IsOwn Sound numbering k things (option_or first rest)) none old) in
     let parts = neither first rest two.1 in
-    subst (λ k. IsOwn numbering (option_or k (Some kind)) (option_or things (Some thing))
+    subst (λ k. IsOwn Sound numbering (option_or k (Some kind)) (option_or things (Some thing))
     (option_or one other)) (sym none)
-    (subst (λ t. IsOwn numbering (Some kind) (option_or t (Some thing)) (option_or one other))
+    (subst (λ t. IsOwn Sound numbering (Some kind) (option_or t (Some thing)) (option_or one other))
     (sym two.0)
-    (new_found numbering kind thing one other array
+    (new_found Sound numbering kind thing one other array
     (subst (λ found. MoreBound found None true one other array) parts.0
     (subst (λ found. MoreBound first found true one other array) parts.1 more)) new))
-one_more numbering false kinds things first rest one other array kind thing fresh old more new =
-    subst (λ k. IsOwn numbering k (option_or things None) (option_or one other))
+one_more Sound numbering false kinds things first rest one other array kind thing fresh old more new =
+    subst (λ k. IsOwn Sound numbering k (option_or things None) (option_or one other))
     (sym (or_none kinds))
-    (subst (λ t. IsOwn numbering kinds t (option_or one other)) (sym (or_none things))
-    (subst (IsOwn numbering kinds things) (old_found first rest one other array more) old))
+    (subst (λ t. IsOwn Sound numbering kinds t (option_or one other)) (sym (or_none things))
+    (subst (IsOwn Sound numbering kinds things) (old_found first rest one other array more) old))
 
 -- ---- names that stand once
 

@@ -28,11 +28,11 @@ use Rattle.zpl_binding.specs.Storages.{Border}
 use Rattle.zpl_lowering.specs.Program.{Framed}
 use Rattle.array_numbers.specs.Calls.{HasNumber, IsCallOf}
 use Rattle.array_numbers.specs.Plain.{reads_number}
-use Rattle.array_numbers.proofs.NumberLemmas.{one_array}
+use Rattle.array_numbers.proofs.NumberLemmas.{Anything, any_decls, any_vars, one_array}
 
 -- ---- words without a shift of an array
 
-any_both : (p : ℕ → Bool) (xs ys : List ℕ) → list_any p xs ≡ false → list_any p ys ≡ false →
+pub any_both : (p : ℕ → Bool) (xs ys : List ℕ) → list_any p xs ≡ false → list_any p ys ≡ false →
     list_any p (xs ++ ys) ≡ false
 any_both p [] ys first rest = rest
 any_both p (x ∷ xs) ys first rest = by (p x) first (λ none. any_both p xs ys none rest)
@@ -265,8 +265,9 @@ plain_reads program known borders grammar clean instance framed arrays is w envi
     let target = plain_target program instance (array_named program instance name) value plain in
     let apart = value_apart program instance w number target.0
     (λ other place home stored thing there same.
-    let both = one_array (setup_of program known borders frame) grammar clean refl instance framed
-    arrays is name other has.place place has.home home has.stored stored has.thing
+    let both = one_array Anything (setup_of program known borders frame) grammar clean refl
+    (any_decls known borders program.decls)
+    (λ routine member. any_vars known borders routine.procedure.locals) instance framed arrays is name other has.place place has.home home has.stored stored has.thing
     (ap (λ (e : Environment). thing_of e other.text) (sym environment) ∙ thing) has.has
     (ap (λ (n : Numbers). slice_get n.arrays place) (sym numbers) ∙ there)
     (has.is ∙ sym same) in

@@ -1,5 +1,5 @@
 -- The own names of a call, one by one: each array that is new has a number that stood for none.
-use Rattle.std.proofs.Common.{◌≡◌, ℕ, zero, suc, ◌+◌, ◌<◌, Bool, true, false, not, ◌||◌, cond, List, [], ◌∷◌, ◌++◌, map, length, Option, Some, None, refl, sym, ap, ◌∙◌, subst, arith, append-nil, append_assoc}
+use Rattle.std.proofs.Common.{◌≡◌, ℕ, zero, suc, ◌+◌, ◌<◌, Bool, true, false, not, ◌||◌, cond, List, [], ◌∷◌, ◌++◌, map, length, Option, Some, None, refl, sym, ap, ◌∙◌, subst, arith, append-nil, append_assoc, length-append, ◌⊎◌, inl, inr}
 use Rattle.std.specs.Prelude.{flat_map, slice_get}
 use Rattle.std.specs.Option.{option_or}
 use Rattle.std.specs.Str.{bytes_eq}
@@ -20,7 +20,7 @@ use Rattle.zpl_lowering.specs.Statement.{Given, Valued, Copied, Referring}
 use Rattle.zpl_lowering.specs.Program.{Framed, Entry as CallEntry}
 use Rattle.lowering_fits.specs.Reach.{named_thing}
 use Rattle.lowering_fits.specs.Whole.{given_frame, given_frames, local_frame, name_frames, local_frames}
-use Rattle.array_numbers.specs.Numbering.{Numbering, IsNumber, IsLater, IsOwn, OwnScalar, OwnArray}
+use Rattle.array_numbers.specs.Numbering.{Numbering, IsNumber, IsLater, IsOwn, OwnScalar, OwnArray, SoundOver, SoundVars}
 use Rattle.array_numbers.proofs.FoundLemmas.{number_stays, own_stays, later_none, later_both, or_none, only_if, kind_more, thing_more, binding_for, bound_more, MoreBound, NoMore, MoreFirst, MoreRest, one_more, has_name, once_first}
 
 -- ---- a number more
@@ -52,40 +52,82 @@ at_end : (xs : List Stored) (x : Stored) → slice_get (xs ++ x ∷ []) (length 
 at_end [] x = refl
 at_end (y ∷ xs) x = at_end xs x
 
+last_or_before : (xs : List Binding) (x : Binding) (i : ℕ) (found : Binding) →
+    slice_get (xs ++ x ∷ []) i ≡ Some found →
+    ((i < length xs) × (slice_get xs i ≡ Some found)) ⊎ ((i ≡ length xs) × (x ≡ found))
+last_or_before [] x zero found is = let same : x ≡ found = cc in inr (refl, same)
+last_or_before [] x (suc i) found is = let no : ⊥ = cc in absurd no
+last_or_before (y ∷ xs) x zero found is = inl (omega arith, is)
+last_or_before (y ∷ xs) x (suc i) found is =
+    elim (last_or_before xs x i found is) [
+      | inl before ↦ inl (omega (arith, before.0), before.1)
+      | inr last ↦ inr (ap suc last.0, last.1)
+    ]
+
 -- ---- what is known of the names so far
+
+-- the arrays of a call's own have the numbers from the first one on, in order
+pub record AreInOrder (first : ℕ) (of : ℕ → ExpandedArray) (own : List Binding) (bound : ℕ) : Type 0
+  where
+    pub many : bound ≡ first + length own
+    pub placed : (i : ℕ) (one : Binding) → slice_get own i ≡ Some one → of (first + i) ≡ one.array
+
+-- with one more
+pub ordered_more : (first : ℕ) (of : ℕ → ExpandedArray) (own : List Binding) (bound : ℕ)
+    (one : Binding) → AreInOrder first of own bound →
+    AreInOrder first (extended of bound one.array) (own ++ one ∷ []) (bound + 1)
+ordered_more first of own bound one ordered = record {
+  many = omega (arith, ordered.many, length-append own (one ∷ []));
+  placed = λ i found is. by i found (last_or_before own one i found is);
+}
+  where
+    by : (i : ℕ) (found : Binding) →
+        ((i < length own) × (slice_get own i ≡ Some found)) ⊎ ((i ≡ length own) × (one ≡ found)) →
+        extended of bound one.array (first + i) ≡ found.array
+    by i found (inl earlier) =
+        extended_below of bound one.array (first + i) (omega (arith, earlier.0, ordered.many))
+        ∙ ordered.placed i found earlier.1
+    by i found (inr last) =
+        let here : first + i ≡ bound = omega (arith, last.0, ordered.many) in
+        ap (extended of bound one.array) here
+        ∙ extended_at of bound one.array
+        ∙ ap (λ (one : Binding). one.array) last.1
 
 abbrev numbering_of : (ℕ → ExpandedArray) → List Stored → ℕ → Numbering
 numbering_of of arrays bound = record { arrays = arrays; of = of; bound = bound }
 
-pub record IsWalked (first : Numbering) (before : List Name) (xs : List Entry) (names : Names)
+pub record IsWalked (Sound : ℕ → Region → Region → Type 0) (first : Numbering) (before : List Name) (xs : List Entry) (names : Names)
     (referred own : List Binding) (arrays : List Stored) (bound : ℕ) : Type 0 where
   pub of : ℕ → ExpandedArray
   pub later : IsLater first (record { arrays = arrays; of = of; bound = bound })
-  pub found : (text : List ℕ) → IsOwn (record { arrays = arrays; of = of; bound = bound })
+  pub found : (text : List ℕ) → IsOwn Sound (record { arrays = arrays; of = of; bound = bound })
       (kind_in xs text) (named_thing names text)
       (option_or (bound_in referred text) (bound_in own text))
   pub covers : (text : List ℕ) → has_name before text ≡ false → kind_in xs text ≡ None
+  pub ordered : AreInOrder first.bound of own bound
 
-module _ (first : Numbering) where
+module _ (Sound : ℕ → Region → Region → Type 0) (first : Numbering) where
   step : (before : List Name) (xs : List Entry) (names : Names)
       (referred own referred_more own_more : List Binding) (array : Option ExpandedArray)
       (arrays more : List Stored) (bound most : ℕ) (name : Name) (kind : Kind) (thing : Thing) →
       has_name before name.text ≡ false →
-      (walked : IsWalked first before xs names referred own arrays bound) →
+      (walked : IsWalked Sound first before xs names referred own arrays bound) →
       (of : ℕ → ExpandedArray) →
       IsLater (numbering_of walked.of arrays bound) (numbering_of of more most) →
       ((text : List ℕ) → MoreBound (bound_in referred text) (bound_in own text)
       (bytes_eq name.text text) (bound_in referred_more text) (bound_in own_more text) array) →
-      IsOwn (numbering_of of more most) (Some kind) (Some thing) array →
-      IsWalked first (name ∷ before) (xs ++ entry_for kind name ∷ [])
+      IsOwn Sound (numbering_of of more most) (Some kind) (Some thing) array →
+      AreInOrder first.bound of own_more most →
+      IsWalked Sound first (name ∷ before) (xs ++ entry_for kind name ∷ [])
       (names ++ (name.text, thing) ∷ []) referred_more own_more more most
   step before xs names referred own referred_more own_more array arrays more bound most name kind
-      thing new walked of later bounds is = record {
+      thing new walked of later bounds is ordered = record {
         of = of;
         later = later_both first (numbering_of walked.of arrays bound) (numbering_of of more most)
             walked.later later;
         found = found;
         covers = covers;
+        ordered = ordered;
       }
     where
       fresh : (text : List ℕ) → bytes_eq name.text text ≡ true → kind_in xs text ≡ None
@@ -93,23 +135,23 @@ module _ (first : Numbering) where
           subst (λ t. kind_in xs t ≡ None) ((bytes_eq-Decides name.text text).0 e)
           (walked.covers name.text new)
 
-      found : (text : List ℕ) → IsOwn (numbering_of of more most)
+      found : (text : List ℕ) → IsOwn Sound (numbering_of of more most)
           (kind_in (xs ++ entry_for kind name ∷ []) text)
           (named_thing (names ++ (name.text, thing) ∷ []) text)
           (option_or (bound_in referred_more text) (bound_in own_more text))
       found text =
-          subst (λ k. IsOwn (numbering_of of more most) k
+          subst (λ k. IsOwn Sound (numbering_of of more most) k
           (named_thing (names ++ (name.text, thing) ∷ []) text)
           (option_or (bound_in referred_more text) (bound_in own_more text)))
           (sym (kind_more xs kind name text))
-          (subst (λ t. IsOwn (numbering_of of more most)
+          (subst (λ t. IsOwn Sound (numbering_of of more most)
           (option_or (kind_in xs text) (only_if (bytes_eq name.text text) (Some kind))) t
           (option_or (bound_in referred_more text) (bound_in own_more text)))
           (sym (thing_more names thing name text))
-          (one_more (numbering_of of more most) (bytes_eq name.text text) (kind_in xs text)
+          (one_more Sound (numbering_of of more most) (bytes_eq name.text text) (kind_in xs text)
           (named_thing names text) (bound_in referred text) (bound_in own text)
           (bound_in referred_more text) (bound_in own_more text) array kind thing (fresh text)
-          (own_stays (numbering_of walked.of arrays bound) (numbering_of of more most) later
+          (own_stays Sound (numbering_of walked.of arrays bound) (numbering_of of more most) later
           (kind_in xs text) (named_thing names text)
           (option_or (bound_in referred text) (bound_in own text)) (walked.found text))
           (bounds text) is))
@@ -126,20 +168,21 @@ module _ (first : Numbering) where
   pub scalar_step : (before : List Name) (xs : List Entry) (names : Names)
       (referred own : List Binding) (arrays : List Stored) (bound : ℕ) (name : Name) (base : Base)
       (place : ℕ) → has_name before name.text ≡ false →
-      IsWalked first before xs names referred own arrays bound →
-      IsWalked first (name ∷ before) (xs ++ entry_for (kind.Scalar base) name ∷ [])
+      IsWalked Sound first before xs names referred own arrays bound →
+      IsWalked Sound first (name ∷ before) (xs ++ entry_for (kind.Scalar base) name ∷ [])
       (names ++ (name.text, Scalar place) ∷ []) referred own arrays bound
   scalar_step before xs names referred own arrays bound name base place new walked =
       step before xs names referred own referred own None arrays arrays bound bound name
       (kind.Scalar base) (Scalar place) new walked walked.of
       (later_none (numbering_of walked.of arrays bound)) (λ text. NoMore) (OwnScalar base place)
+      walked.ordered
 
   pub refer_step : (before : List Name) (xs : List Entry) (names : Names)
       (referred own : List Binding) (arrays : List Stored) (bound : ℕ) (name : Name) (base : Base)
       (shape : Option Shape) (place : ℕ) (home : Region) (array : ExpandedArray) →
-      IsNumber first place array → has_name before name.text ≡ false →
-      IsWalked first before xs names referred own arrays bound →
-      IsWalked first (name ∷ before) (xs ++ entry_for (kind.Array base shape) name ∷ [])
+      IsNumber Sound first place home array → has_name before name.text ≡ false →
+      IsWalked Sound first before xs names referred own arrays bound →
+      IsWalked Sound first (name ∷ before) (xs ++ entry_for (kind.Array base shape) name ∷ [])
       (names ++ (name.text, ArrayAt place home) ∷ [])
       (referred ++ binding_for name.text array ∷ []) own arrays bound
   refer_step before xs names referred own arrays bound name base shape place home array is new
@@ -151,18 +194,19 @@ module _ (first : Numbering) where
       (bytes_eq name.text text) found (bound_in own text) (Some array))
       (sym (bound_more referred array name.text text)) (MoreFirst array))
       (OwnArray base shape place home array
-      (number_stays first (numbering_of walked.of arrays bound) walked.later place array is))
+      (number_stays Sound first (numbering_of walked.of arrays bound) walked.later place home array is))
+      walked.ordered
 
   pub array_step : (before : List Name) (xs : List Entry) (names : Names)
       (referred own : List Binding) (arrays : List Stored) (bound : ℕ) (name : Name) (base : Base)
       (shape : Option Shape) (home storage : Region) (array : ExpandedArray) →
-      has_name before name.text ≡ false →
-      IsWalked first before xs names referred own arrays bound →
-      IsWalked first (name ∷ before) (xs ++ entry_for (kind.Array base shape) name ∷ [])
+      Sound array.storage home storage → has_name before name.text ≡ false →
+      IsWalked Sound first before xs names referred own arrays bound →
+      IsWalked Sound first (name ∷ before) (xs ++ entry_for (kind.Array base shape) name ∷ [])
       (names ++ (name.text, ArrayAt (length arrays) home) ∷ []) referred
       (own ++ binding_for name.text array ∷ [])
       (arrays ++ record { array = bound; storage = storage } ∷ []) (bound + 1)
-  array_step before xs names referred own arrays bound name base shape home storage array new
+  array_step before xs names referred own arrays bound name base shape home storage array sound new
       walked =
       let stored : Stored = record { array = bound; storage = storage } in
       let of = extended walked.of bound array in
@@ -182,7 +226,9 @@ module _ (first : Numbering) where
         there = at_end arrays stored;
         below = omega arith;
         stands = extended_at walked.of bound array;
+        sound = sound;
       }))
+      (ordered_more first.bound walked.of own bound (binding_for name.text array) walked.ordered)
 
 -- ---- names that were seen
 
@@ -231,7 +277,8 @@ one_listed : (b : Bool) (found : Option Binding) (one : Binding) (rest : List Bi
 one_listed true found one rest t e = ap (λ o. listed o ++ rest) e
 one_listed false found one rest t e = cc
 
-module _ (program : Program) (caller : Instance) (first : Numbering) where
+module _ (Sound : ℕ → Region → Region → Type 0) (program : Program) (caller : Instance)
+    (first : Numbering) where
   -- what a parameter takes, and the array that its actual stands for
   pub data IsGiven (one : Parameter) (actual : Expr) : Given → Type 0 where
     ByValue : (base : Base) (scalar : ℕ) → one.kind ≡ kind.Scalar base →
@@ -242,11 +289,11 @@ module _ (program : Program) (caller : Instance) (first : Numbering) where
     ByArray : (base : Base) (shape : Option Shape) (place : ℕ) (home : Region)
         (array : ExpandedArray) → one.kind ≡ kind.Array base shape → one.name.by_ref ≡ true →
         actual_array program caller one.name actual ≡ Some (binding_for one.name.name.text array) →
-        IsNumber first place array → IsGiven one actual (Referring (ArrayAt place home))
+        IsNumber Sound first place home array → IsGiven one actual (Referring (ArrayAt place home))
     ByCopy : (base : Base) (shape : Option Shape) (from : Stored) (home : Region)
         (array : ExpandedArray) → one.kind ≡ kind.Array base shape → one.name.by_ref ≡ false →
         actual_array program caller one.name actual ≡ Some (binding_for one.name.name.text array) →
-        IsGiven one actual (Copied from home)
+        Sound array.storage home from.storage → IsGiven one actual (Copied from home)
 
   abbrev pub AreGiven : List Parameter → Exprs → List Given → Type 0
   AreGiven [] NoExpr [] = Unit {0}
@@ -270,17 +317,17 @@ module _ (program : Program) (caller : Instance) (first : Numbering) where
         (line : ℕ) (frame : Framed) (next : Next) (before others : List Name) (xs : List Entry)
         (referred own : List Binding) → AreGiven parameters actuals givens →
         repeated before (map name_of parameters ++ others) ≡ [] →
-        IsWalked first before xs frame.names referred own frame.numbers.arrays next.arrays →
+        IsWalked Sound first before xs frame.names referred own frame.numbers.arrays next.arrays →
         (let last = given_frames line (map formal_of parameters) givens frame next in
-        IsWalked first (seen before (map name_of parameters)) (xs ++ map entry_of parameters)
+        IsWalked Sound first (seen before (map name_of parameters)) (xs ++ map entry_of parameters)
         last.frame.names (referred ++ references parameters actuals)
         (own ++ copies (values parameters actuals)) last.frame.numbers.arrays last.next.arrays)
     formals_walked [] NoExpr [] line frame next before others xs referred own are once walked =
-        subst (λ ys. IsWalked first before ys frame.names (referred ++ []) (own ++ [])
+        subst (λ ys. IsWalked Sound first before ys frame.names (referred ++ []) (own ++ [])
         frame.numbers.arrays next.arrays) (sym (append-nil xs))
-        (subst (λ bs. IsWalked first before xs frame.names bs (own ++ []) frame.numbers.arrays
+        (subst (λ bs. IsWalked Sound first before xs frame.names bs (own ++ []) frame.numbers.arrays
         next.arrays) (sym (append-nil referred))
-        (subst (λ bs. IsWalked first before xs frame.names referred bs frame.numbers.arrays
+        (subst (λ bs. IsWalked Sound first before xs frame.names referred bs frame.numbers.arrays
         next.arrays) (sym (append-nil own)) walked))
     formals_walked [] (ThenExpr actual actuals) givens line frame next before others xs referred own
         are once walked = absurd are
@@ -308,21 +355,21 @@ module _ (program : Program) (caller : Instance) (first : Numbering) where
         whole : (names : Names) (rs os : List Binding) (arrays : List Stored) (bound : ℕ) →
             rs ≡ referred ++ references (one ∷ rest) (ThenExpr actual actuals) →
             os ≡ own ++ copies (values (one ∷ rest) (ThenExpr actual actuals)) →
-            IsWalked first (seen (name ∷ before) (map name_of rest))
+            IsWalked Sound first (seen (name ∷ before) (map name_of rest))
             ((xs ++ entry_of one ∷ []) ++ map entry_of rest) names rs os arrays bound →
-            IsWalked first (seen (name ∷ before) (map name_of rest))
+            IsWalked Sound first (seen (name ∷ before) (map name_of rest))
             (xs ++ map entry_of (one ∷ rest)) names
             (referred ++ references (one ∷ rest) (ThenExpr actual actuals))
             (own ++ copies (values (one ∷ rest) (ThenExpr actual actuals))) arrays bound
         whole names rs os arrays bound same alike is =
-            subst (λ ys. IsWalked first (seen (name ∷ before) (map name_of rest)) ys names
+            subst (λ ys. IsWalked Sound first (seen (name ∷ before) (map name_of rest)) ys names
             (referred ++ references (one ∷ rest) (ThenExpr actual actuals))
             (own ++ copies (values (one ∷ rest) (ThenExpr actual actuals))) arrays bound)
             (append_assoc xs (entry_of one ∷ []) (map entry_of rest))
-            (subst (λ bs. IsWalked first (seen (name ∷ before) (map name_of rest))
+            (subst (λ bs. IsWalked Sound first (seen (name ∷ before) (map name_of rest))
             ((xs ++ entry_of one ∷ []) ++ map entry_of rest) names bs
             (own ++ copies (values (one ∷ rest) (ThenExpr actual actuals))) arrays bound) same
-            (subst (λ bs. IsWalked first (seen (name ∷ before) (map name_of rest))
+            (subst (λ bs. IsWalked Sound first (seen (name ∷ before) (map name_of rest))
             ((xs ++ entry_of one ∷ []) ++ map entry_of rest) names rs bs arrays bound) alike is))
 
         no_reference : found ≡ None →
@@ -343,14 +390,14 @@ module _ (program : Program) (caller : Instance) (first : Numbering) where
             ((frame : Framed) (next : Next) (before others : List Name) (xs : List Entry)
             (referred own : List Binding) → AreGiven rest actuals givens →
             repeated before (map name_of rest ++ others) ≡ [] →
-            IsWalked first before xs frame.names referred own frame.numbers.arrays next.arrays →
+            IsWalked Sound first before xs frame.names referred own frame.numbers.arrays next.arrays →
             (let last = given_frames line (map formal_of rest) givens frame next in
-            IsWalked first (seen before (map name_of rest)) (xs ++ map entry_of rest)
+            IsWalked Sound first (seen before (map name_of rest)) (xs ++ map entry_of rest)
             last.frame.names (referred ++ references rest actuals)
             (own ++ copies (values rest actuals)) last.frame.numbers.arrays last.next.arrays)) →
             (let last = given_frames line (map formal_of (one ∷ rest)) (given ∷ givens) frame next
             in
-            IsWalked first (seen before (map name_of (one ∷ rest)))
+            IsWalked Sound first (seen before (map name_of (one ∷ rest)))
             (xs ++ map entry_of (one ∷ rest)) last.frame.names
             (referred ++ references (one ∷ rest) (ThenExpr actual actuals))
             (own ++ copies (values (one ∷ rest) (ThenExpr actual actuals)))
@@ -360,18 +407,18 @@ module _ (program : Program) (caller : Instance) (first : Numbering) where
             whole _ _ _ _ _ (no_reference none) (no_copy none)
             (later inner.frame inner.next (name ∷ before) others (xs ++ entry_of one ∷ []) referred
             own are.1 parts.1
-            (subst (λ k. IsWalked first (name ∷ before) (xs ++ entry_for k name ∷ [])
+            (subst (λ k. IsWalked Sound first (name ∷ before) (xs ++ entry_for k name ∷ [])
             inner.frame.names referred own inner.frame.numbers.arrays inner.next.arrays) (sym is)
-            (scalar_step first before xs frame.names referred own frame.numbers.arrays next.arrays
+            (scalar_step Sound first before xs frame.names referred own frame.numbers.arrays next.arrays
             name base (length frame.numbers.scalars) parts.0 walked)))
         by (Referring thing) (ByName base place is none) later =
             let inner = given_frame line name (Referring (Scalar place)) frame next in
             whole _ _ _ _ _ (no_reference none) (no_copy none)
             (later inner.frame inner.next (name ∷ before) others (xs ++ entry_of one ∷ []) referred
             own are.1 parts.1
-            (subst (λ k. IsWalked first (name ∷ before) (xs ++ entry_for k name ∷ [])
+            (subst (λ k. IsWalked Sound first (name ∷ before) (xs ++ entry_for k name ∷ [])
             inner.frame.names referred own inner.frame.numbers.arrays inner.next.arrays) (sym is)
-            (scalar_step first before xs frame.names referred own frame.numbers.arrays next.arrays
+            (scalar_step Sound first before xs frame.names referred own frame.numbers.arrays next.arrays
             name base place parts.0 walked)))
         by (Referring thing) (ByArray base shape place home array is ref has number) later =
             let inner = given_frame line name (Referring (ArrayAt place home)) frame next in
@@ -384,12 +431,12 @@ module _ (program : Program) (caller : Instance) (first : Numbering) where
             (sym (not_listed (not one.name.by_ref) found (values rest actuals) (ap not ref))))
             (later inner.frame inner.next (name ∷ before) others (xs ++ entry_of one ∷ [])
             (referred ++ binding ∷ []) own are.1 parts.1
-            (subst (λ k. IsWalked first (name ∷ before) (xs ++ entry_for k name ∷ [])
+            (subst (λ k. IsWalked Sound first (name ∷ before) (xs ++ entry_for k name ∷ [])
             inner.frame.names (referred ++ binding ∷ []) own inner.frame.numbers.arrays
             inner.next.arrays) (sym is)
-            (refer_step first before xs frame.names referred own frame.numbers.arrays next.arrays
+            (refer_step Sound first before xs frame.names referred own frame.numbers.arrays next.arrays
             name base shape place home array number parts.0 walked)))
-        by (Copied from home) (ByCopy base shape stored box array is ref has) later =
+        by (Copied from home) (ByCopy base shape stored box array is ref has sound) later =
             let inner = given_frame line name (Copied from home) frame next in
             let binding = binding_for name.text array in
             let copied = copy_of path all binding in
@@ -402,15 +449,15 @@ module _ (program : Program) (caller : Instance) (first : Numbering) where
             has)))
             (later inner.frame inner.next (name ∷ before) others (xs ++ entry_of one ∷ []) referred
             (own ++ copied ∷ []) are.1 parts.1
-            (subst (λ k. IsWalked first (name ∷ before) (xs ++ entry_for k name ∷ [])
+            (subst (λ k. IsWalked Sound first (name ∷ before) (xs ++ entry_for k name ∷ [])
             inner.frame.names referred (own ++ copied ∷ []) inner.frame.numbers.arrays
             inner.next.arrays) (sym is)
-            (array_step first before xs frame.names referred own frame.numbers.arrays next.arrays
-            name base shape home from.storage copied.array parts.0 walked)))
+            (array_step Sound first before xs frame.names referred own frame.numbers.arrays next.arrays
+            name base shape home from.storage copied.array sound parts.0 walked)))
 
 -- ---- local variables
 
-module _ (first : Numbering) (setup : Setup) (entry : CallEntry) (scope : Scope)
+module _ (Sound : ℕ → Region → Region → Type 0) (first : Numbering) (setup : Setup) (entry : CallEntry) (scope : Scope)
     (path : List ℕ) where
   abbrev own_of : Bracket → List Name → List Binding
   own_of NoBracket names = []
@@ -419,72 +466,75 @@ module _ (first : Numbering) (setup : Setup) (entry : CallEntry) (scope : Scope)
 
   names_walked : (shape : Bracket) (base : Base) (names others : List Name) (frame : Framed)
       (next : Next) (before : List Name) (xs : List Entry) (referred own : List Binding) →
-      repeated before (names ++ others) ≡ [] →
-      IsWalked first before xs frame.names referred own frame.numbers.arrays next.arrays →
+      repeated before (names ++ others) ≡ [] → SoundOver Sound setup.known setup.borders shape names →
+      IsWalked Sound first before xs frame.names referred own frame.numbers.arrays next.arrays →
       (let last = name_frames setup entry shape names frame next in
-      IsWalked first (seen before names) (xs ++ map (entry_for (variable_kind scope shape base)) names)
+      IsWalked Sound first (seen before names) (xs ++ map (entry_for (variable_kind scope shape base)) names)
       last.frame.names referred (own ++ own_of shape names) last.frame.numbers.arrays
       last.next.arrays)
-  names_walked NoBracket base [] others frame next before xs referred own once walked =
-      subst (λ ys. IsWalked first before ys frame.names referred (own ++ []) frame.numbers.arrays
+  names_walked NoBracket base [] others frame next before xs referred own once sound walked =
+      subst (λ ys. IsWalked Sound first before ys frame.names referred (own ++ []) frame.numbers.arrays
       next.arrays) (sym (append-nil xs))
-      (subst (λ bs. IsWalked first before xs frame.names referred bs frame.numbers.arrays
+      (subst (λ bs. IsWalked Sound first before xs frame.names referred bs frame.numbers.arrays
       next.arrays) (sym (append-nil own)) walked)
-  names_walked (Bracketed inner) base [] others frame next before xs referred own once walked =
-      subst (λ ys. IsWalked first before ys frame.names referred (own ++ []) frame.numbers.arrays
+  names_walked (Bracketed inner) base [] others frame next before xs referred own once sound walked =
+      subst (λ ys. IsWalked Sound first before ys frame.names referred (own ++ []) frame.numbers.arrays
       next.arrays) (sym (append-nil xs))
-      (subst (λ bs. IsWalked first before xs frame.names referred bs frame.numbers.arrays
+      (subst (λ bs. IsWalked Sound first before xs frame.names referred bs frame.numbers.arrays
       next.arrays) (sym (append-nil own)) walked)
-  names_walked NoBracket base (name ∷ names) others frame next before xs referred own once walked =
+  names_walked NoBracket base (name ∷ names) others frame next before xs referred own once sound walked =
       let parts = once_first before name (names ++ others) once in
       let one = entry_for (kind.Scalar base) name ∷ [] in
       let inner = local_frame setup entry NoBracket name frame next in
       let last = name_frames setup entry NoBracket names inner.frame inner.next in
-      subst (λ ys. IsWalked first (seen (name ∷ before) names) ys last.frame.names referred
+      subst (λ ys. IsWalked Sound first (seen (name ∷ before) names) ys last.frame.names referred
       (own ++ []) last.frame.numbers.arrays last.next.arrays)
       (append_assoc xs one (map (entry_for (kind.Scalar base)) names))
       (names_walked NoBracket base names others inner.frame inner.next (name ∷ before) (xs ++ one)
-      referred own parts.1
-      (subst (λ bound. IsWalked first (name ∷ before) (xs ++ one) inner.frame.names referred own
+      referred own parts.1 tt
+      (subst (λ bound. IsWalked Sound first (name ∷ before) (xs ++ one) inner.frame.names referred own
       inner.frame.numbers.arrays bound) (omega arith)
-      (scalar_step first before xs frame.names referred own frame.numbers.arrays next.arrays name
+      (scalar_step Sound first before xs frame.names referred own frame.numbers.arrays next.arrays name
       base (length frame.numbers.scalars) parts.0 walked)))
   names_walked (Bracketed region) base (name ∷ names) others frame next before xs referred own once
-      walked =
+      sound walked =
       let parts = once_first before name (names ++ others) once in
       let kind = variable_kind scope (Bracketed region) base in
       let one = entry_for kind name ∷ [] in
       let binding = binding_for name.text (array_at path name) in
       let inner = local_frame setup entry (Bracketed region) name frame next in
       let last = name_frames setup entry (Bracketed region) names inner.frame inner.next in
-      subst (λ ys. IsWalked first (seen (name ∷ before) names) ys last.frame.names referred
+      subst (λ ys. IsWalked Sound first (seen (name ∷ before) names) ys last.frame.names referred
       (own ++ own_of (Bracketed region) (name ∷ names)) last.frame.numbers.arrays last.next.arrays)
       (append_assoc xs one (map (entry_for kind) names))
-      (subst (λ bs. IsWalked first (seen (name ∷ before) names)
+      (subst (λ bs. IsWalked Sound first (seen (name ∷ before) names)
       ((xs ++ one) ++ map (entry_for kind) names) last.frame.names referred bs
       last.frame.numbers.arrays last.next.arrays)
       (append_assoc own (binding ∷ []) (own_of (Bracketed region) names))
       (names_walked (Bracketed region) base names others inner.frame inner.next (name ∷ before)
-      (xs ++ one) referred (own ++ binding ∷ []) parts.1
-      (array_step first before xs frame.names referred own frame.numbers.arrays next.arrays name
-      base _ _ _ (array_at path name) parts.0 walked)))
+      (xs ++ one) referred (own ++ binding ∷ []) parts.1 sound.1
+      (array_step Sound first before xs frame.names referred own frame.numbers.arrays next.arrays name
+      base _ _ _ (array_at path name) sound.0 parts.0 walked)))
 
   pub locals_walked : (vars : List VarDef) (frame : Framed) (next : Next) (before : List Name)
       (xs : List Entry) (referred own : List Binding) →
       repeated before (flat_map (λ var. var.names) vars) ≡ [] →
-      IsWalked first before xs frame.names referred own frame.numbers.arrays next.arrays →
+      SoundVars Sound setup.known setup.borders vars →
+      IsWalked Sound first before xs frame.names referred own frame.numbers.arrays next.arrays →
       (let last = local_frames setup entry vars frame next in
-      IsWalked first (seen before (flat_map (λ var. var.names) vars))
+      IsWalked Sound first (seen before (flat_map (λ var. var.names) vars))
       (xs ++ flat_map (λ var. map (entry_for (variable_kind scope var.shape var.base)) var.names)
       vars) last.frame.names referred (own ++ local_arrays path vars) last.frame.numbers.arrays
       last.next.arrays)
-  locals_walked [] frame next before xs referred own once walked =
-      subst (λ ys. IsWalked first before ys frame.names referred (own ++ []) frame.numbers.arrays
+  locals_walked [] frame next before xs referred own once sound walked =
+      subst (λ ys. IsWalked Sound first before ys frame.names referred (own ++ []) frame.numbers.arrays
       next.arrays) (sym (append-nil xs))
-      (subst (λ bs. IsWalked first before xs frame.names referred bs frame.numbers.arrays
+      (subst (λ bs. IsWalked Sound first before xs frame.names referred bs frame.numbers.arrays
       next.arrays) (sym (append-nil own)) walked)
-  locals_walked (var ∷ vars) frame next before xs referred own once walked =
-      by var.shape (locals_walked vars)
+  locals_walked (var ∷ vars) frame next before xs referred own once sound walked =
+      by var.shape sound.0
+      (λ frame next before xs referred own once walked.
+      locals_walked vars frame next before xs referred own once sound.1 walked)
     where
       others : List Name
       others = flat_map (λ var. var.names) vars
@@ -501,46 +551,46 @@ module _ (first : Numbering) (setup : Setup) (entry : CallEntry) (scope : Scope)
       seen_both before [] more = refl
       seen_both before (name ∷ names) more = seen_both (name ∷ before) names more
 
-      by : (shape : Bracket) →
+      by : (shape : Bracket) → SoundOver Sound setup.known setup.borders shape var.names →
           ((frame : Framed) (next : Next) (before : List Name) (xs : List Entry)
           (referred own : List Binding) → repeated before others ≡ [] →
-          IsWalked first before xs frame.names referred own frame.numbers.arrays next.arrays →
+          IsWalked Sound first before xs frame.names referred own frame.numbers.arrays next.arrays →
           (let last = local_frames setup entry vars frame next in
-          IsWalked first (seen before others) (xs ++ behind) last.frame.names referred
+          IsWalked Sound first (seen before others) (xs ++ behind) last.frame.names referred
           (own ++ local_arrays path vars) last.frame.numbers.arrays last.next.arrays)) →
           (let one = name_frames setup entry shape var.names frame next in
           let last = local_frames setup entry vars one.frame one.next in
-          IsWalked first (seen before (var.names ++ others)) (xs ++ (entries shape ++ behind))
+          IsWalked Sound first (seen before (var.names ++ others)) (xs ++ (entries shape ++ behind))
           last.frame.names referred
           (own ++ local_arrays path (record var { shape = shape } ∷ vars))
           last.frame.numbers.arrays last.next.arrays)
-      by NoBracket later =
+      by NoBracket good later =
           let one = name_frames setup entry NoBracket var.names frame next in
           let last = local_frames setup entry vars one.frame one.next in
-          subst (λ ns. IsWalked first ns (xs ++ (entries NoBracket ++ behind)) last.frame.names
+          subst (λ ns. IsWalked Sound first ns (xs ++ (entries NoBracket ++ behind)) last.frame.names
           referred (own ++ local_arrays path vars) last.frame.numbers.arrays last.next.arrays)
           (sym (seen_both before var.names others))
-          (subst (λ ys. IsWalked first (seen (seen before var.names) others) ys last.frame.names
+          (subst (λ ys. IsWalked Sound first (seen (seen before var.names) others) ys last.frame.names
           referred (own ++ local_arrays path vars) last.frame.numbers.arrays last.next.arrays)
           (append_assoc xs (entries NoBracket) behind)
           (later one.frame one.next (seen before var.names) (xs ++ entries NoBracket)
           referred own (once_rest before var.names others once)
-          (subst (λ bs. IsWalked first (seen before var.names) (xs ++ entries NoBracket)
+          (subst (λ bs. IsWalked Sound first (seen before var.names) (xs ++ entries NoBracket)
           one.frame.names referred bs one.frame.numbers.arrays one.next.arrays) (append-nil own)
           (names_walked NoBracket var.base var.names others frame next before xs referred own once
-          walked))))
-      by (Bracketed region) later =
+          good walked))))
+      by (Bracketed region) good later =
           let one = name_frames setup entry (Bracketed region) var.names frame next in
           let last = local_frames setup entry vars one.frame one.next in
           let mine = own_of (Bracketed region) var.names in
-          subst (λ ns. IsWalked first ns (xs ++ (entries (Bracketed region) ++ behind))
+          subst (λ ns. IsWalked Sound first ns (xs ++ (entries (Bracketed region) ++ behind))
           last.frame.names referred (own ++ (mine ++ local_arrays path vars))
           last.frame.numbers.arrays last.next.arrays)
           (sym (seen_both before var.names others))
-          (subst (λ ys. IsWalked first (seen (seen before var.names) others) ys last.frame.names
+          (subst (λ ys. IsWalked Sound first (seen (seen before var.names) others) ys last.frame.names
           referred (own ++ (mine ++ local_arrays path vars)) last.frame.numbers.arrays
           last.next.arrays) (append_assoc xs (entries (Bracketed region)) behind)
-          (subst (λ bs. IsWalked first (seen (seen before var.names) others)
+          (subst (λ bs. IsWalked Sound first (seen (seen before var.names) others)
           ((xs ++ entries (Bracketed region)) ++ behind) last.frame.names referred bs
           last.frame.numbers.arrays last.next.arrays)
           (append_assoc own mine (local_arrays path vars))
@@ -548,4 +598,4 @@ module _ (first : Numbering) (setup : Setup) (entry : CallEntry) (scope : Scope)
           (xs ++ entries (Bracketed region)) referred (own ++ mine)
           (once_rest before var.names others once)
           (names_walked (Bracketed region) var.base var.names others frame next before xs referred
-          own once walked))))
+          own once good walked))))

@@ -1,12 +1,12 @@
 -- The calls of a lowered program, each with what it is of the expanded program.
-use Rattle.std.specs.Prelude.{◌≡◌, ℕ, ◌≤◌, List, [], ◌++◌, length, Some, Contains, slice_get}
+use Rattle.std.specs.Prelude.{◌≡◌, ℕ, ◌+◌, ◌≤◌, List, [], ◌++◌, length, Some, Contains, slice_get}
 use Rattle.zpl_region.specs.declared.regions.Region.{Region}
 use Rattle.zpl_tree.specs.Syntax.{Name, Program}
 use Rattle.zpl_names.specs.Scope.{kind_of}
 use Rattle.zpl_names.specs.Shapes.{unknown_shapes}
 use Rattle.zpl_names.specs.Declared.{Routine, entry_of, routine_named, scope_of}
 use Rattle.zpl_names.specs.Sites.{CallSite, calls_under}
-use Rattle.zpl_names.specs.Expansion.{Instance, called_instance, entry_instance}
+use Rattle.zpl_names.specs.Expansion.{Binding, ExpandedArray, Instance, called_instance, entry_instance}
 use Rattle.zpl_binding.specs.Regions.{Known}
 use Rattle.zpl_binding.specs.Storages.{Border}
 use Rattle.zpl_meaning.specs.Calls.{formals_in}
@@ -59,3 +59,23 @@ pub record HasNumber (globals : Names) (framed : Framed) (name : Name) (number :
       Some (ArrayAt place home)
   pub has : slice_get framed.numbers.arrays place ≡ Some stored
   pub is : stored.array ≡ number
+
+-- ---- arrays that stand in a list
+
+-- the arrays of these bindings stand there from a number on, in order
+abbrev pub StandFrom : List ExpandedArray → ℕ → List Binding → Type 0
+StandFrom all first own =
+    (i : ℕ) (one : Binding) → slice_get own i ≡ Some one →
+    slice_get all (first + i) ≡ Some one.array
+
+-- so do the own arrays of a call, and of those that lead to it, each from the number on that was free
+module _ (all : List ExpandedArray) (setup : Setup) (start : Numbers) (first : ℕ) where
+  abbrev pub AreStanding : (instance : Instance) (framed : Framed) (arrays : ℕ) →
+      IsLoweredCall setup start first instance framed arrays → Type 0
+  AreStanding instance framed arrays (Entered routine entry calling next is none same below) =
+      StandFrom all next.arrays (entry_instance routine).own
+  AreStanding instance framed arrays
+      (Called caller frame before is call there routine found w environment numbers scalar entry
+      calling next actuals same below) =
+      AreStanding caller frame before is
+      × StandFrom all next.arrays (called_instance setup.program caller call routine).own

@@ -1,25 +1,31 @@
 //! The laws of the numbers of arrays.
-ghost use Rattle.std.specs.Prelude.{Bool, List, Option, Some, false, true, ℕ, ◌++◌, ◌<◌, ◌≡◌};
+ghost use Rattle.std.specs.Prelude.{Bool, List, Option, Some, false, length, slice_get, true, ℕ};
+ghost use Rattle.std.specs.Prelude.{◌++◌, ◌+◌, ◌<◌, ◌≡◌};
+ghost use Rattle.std.specs.Option.{option_map};
 ghost use Rattle.zpl_nums.specs.declared.operators.Op.{Op};
 ghost use Rattle.zpl_tree.specs.Grammar.{IsProgram};
 ghost use Rattle.zpl_tree.specs.Syntax.{Expr, Name, Program};
 ghost use Rattle.zpl_names.specs.Kinds.{Rank};
 ghost use Rattle.zpl_names.specs.Accepted.{IsFaultless};
-ghost use Rattle.zpl_names.specs.Expansion.{ExpandedArray, Instance, array_named, is_plain_target};
+ghost use Rattle.zpl_names.specs.Expansion.{ExpandedArray, Instance, array_named};
+ghost use Rattle.zpl_names.specs.Expansion.{expanded_arrays, is_plain_target};
 ghost use Rattle.zpl_binding.specs.Regions.{Known};
 ghost use Rattle.zpl_binding.specs.Storages.{Border};
-ghost use Rattle.zpl_meaning.specs.Program.{first_frame};
+ghost use Rattle.zpl_meaning.specs.Program.{first_frame, setup_of};
 ghost use Rattle.zpl_meaning.specs.Points.{assigned_expr};
 ghost use Rattle.node_form.specs.Expression.{words_of};
 ghost use Rattle.zpl_lowering.specs.Where.{Next, Stored, Where};
 ghost use Rattle.zpl_lowering.specs.Slate.{settled};
 ghost use Rattle.zpl_lowering.specs.Hoist.{Free, array_code, hoisted, mask_word};
-ghost use Rattle.zpl_lowering.specs.Program.{Framed};
-ghost use Rattle.array_numbers.specs.Calls.{HasNumber, IsCallOf};
+ghost use Rattle.zpl_lowering.specs.Program.{Framed, global_numbers};
+ghost use Rattle.array_numbers.specs.Calls.{AreStanding, HasNumber, IsCallOf};
 ghost use Rattle.array_numbers.specs.Plain.{reads_number};
 
 /// Wherever the body of a procedure is lowered, names that stand for an array with one number stand
-/// for one array of the expanded program, and the number is below those that are free.
+/// for one array of the expanded program, and the number is below those that are free. The call's
+/// own arrays have the last numbers below these, in order. Where the own arrays of each call that
+/// leads to it, and of the call itself, stand among all arrays of the expanded program from the
+/// number on that was free, each name stands for the array at its number.
 pub fn numbers_stand_for_arrays()
     ensures one { (program : Program) (known : Known) (borders : List Border) →
         IsProgram program → IsFaultless program →
@@ -37,6 +43,24 @@ pub fn numbers_stand_for_arrays()
         (name : Name) (number : ℕ) →
         HasNumber (first_frame program known borders).names framed name number →
         number < arrays }
+    ensures own { (program : Program) (known : Known) (borders : List Border) →
+        IsProgram program → IsFaultless program →
+        (instance : Instance) (framed : Framed) (arrays : ℕ) →
+        IsCallOf program known borders instance framed arrays →
+        (name : Name) (number : ℕ) →
+        HasNumber (first_frame program known borders).names framed name number →
+        (i : ℕ) → i < length instance.own → number + length instance.own ≡ arrays + i →
+        array_named program instance name ≡
+        option_map (λ binding. binding.array) (slice_get instance.own i) }
+    ensures placed { (program : Program) (known : Known) (borders : List Border) →
+        IsProgram program → IsFaultless program →
+        (instance : Instance) (framed : Framed) (arrays : ℕ)
+        (is : IsCallOf program known borders instance framed arrays) →
+        (let frame = first_frame program known borders in
+        AreStanding (expanded_arrays program) (setup_of program known borders frame)
+        (global_numbers frame) (length frame.store.arrays) instance framed arrays is →
+        (name : Name) (number : ℕ) → HasNumber frame.names framed name number →
+        array_named program instance name ≡ slice_get (expanded_arrays program) number) }
 {}
 
 /// So the words that a plain assignment puts read with a shift no array that has the number of the

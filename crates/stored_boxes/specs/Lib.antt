@@ -1,0 +1,4 @@
+pub mod Noted
+pub mod Declared
+pub mod Reads
+pub mod Different
