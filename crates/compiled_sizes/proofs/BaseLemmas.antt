@@ -64,7 +64,7 @@ module _ (tables : Tables) where
       ∙ sym (length-map (slice_index_or tables.groups group []) (member_inlined tables))
   members_same one = refl
 
-  words_same : (one : number.Member) →
+  pub words_same : (one : number.Member) →
       member_words (member_inlined tables one) ≡ map (words_at tables) (exprs_of one)
   words_same (member.Put array expr (Some mask) line) = refl
   words_same (member.Put array expr None line) = refl

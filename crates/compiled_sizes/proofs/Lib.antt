@@ -3,3 +3,4 @@ pub mod PassLemmas
 pub mod LayoutLemmas
 pub mod CheckLemmas
 pub mod PreparedLemmas
+pub mod ThemselvesLemmas

@@ -20,7 +20,8 @@ use Rattle.pass_sizes.proofs.FactorLemmas.{normal_factor}
 use Rattle.zpl_tree.specs.Syntax.{Program}
 use Rattle.zpl_binding.specs.Settings.{Setting}
 use Rattle.zpl_lowering.specs.Tables.{flat_tables}
-use Rattle.lowering_checks.specs.Prepared.{has_put, prepared_in, putting_in}
+use Rattle.zpl_lowering.specs.Statement.{has_put}
+use Rattle.lowering_checks.specs.Prepared.{prepared_in, putting_in}
 use Rattle.lowering_checks.proofs.PreparedLemmas.{rows_prepared}
 use Rattle.compiled_sizes.proofs.BaseLemmas.{found, members_once, read, shifts_once}
 

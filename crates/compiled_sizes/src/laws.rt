@@ -6,7 +6,7 @@ ghost use Rattle.grid_meaning.specs.Stored.{arrangement_of};
 ghost use Rattle.code_parts.specs.Counts.{GoesByTrees, code_size, count_of, is_counted, is_loop};
 ghost use Rattle.code_parts.specs.Counts.{is_vote};
 ghost use Rattle.code_parts.specs.Needs.{IsUndecided};
-ghost use Rattle.temp_norm.specs.Normalised.{loops_on_themselves, normalised};
+ghost use Rattle.temp_norm.specs.Normalised.{normalised};
 ghost use Rattle.zpl_lowering.specs.Tables.{flat_tables};
 ghost use Rattle.lowering_sizes.specs.Sizes.{HasTokens};
 ghost use Rattle.zpl_claims.specs.Build.{Build};
@@ -16,8 +16,9 @@ ghost use Rattle.compiled_sizes.specs.Lowered.{IsLowered};
 /// The code of a program is at most nine times as large as its lowered tables, and so at most 512
 /// times as large as the program with its calls expanded. Where values go through temporaries, it
 /// is at most twice as large as the lowered tables. Of its rows, those that statements are made of
-/// are as many as in these tables, and two more for each loop that reads with a shift what it puts.
-/// It has no more votes than loops.
+/// are at most one for each plain assignment, and 32 for each token, parameter and local name that
+/// stands in none, where there are at least as many tokens as words that the tree is written as. It
+/// has no more votes than loops.
 pub fn compiled_code_is_small()
     ensures factor { (build : Build) (program : Program) → IsLowered build program →
         code_size (compiled build program) ≤ 9 * code_size (flat_tables program build.settings) }
@@ -28,8 +29,7 @@ pub fn compiled_code_is_small()
         2 * code_size (flat_tables program build.settings) }
     ensures counted { (build : Build) (program : Program) (tokens : ℕ) → IsLowered build program →
         HasTokens program tokens → count_of is_counted (compiled build program) ≤
-        plain_assignments program + (32 * (other_size program tokens + 1)
-        + 2 * loops_on_themselves (flat_tables program build.settings)) }
+        plain_assignments program + 32 * (other_size program tokens + 1) }
     ensures votes { (build : Build) (program : Program) → IsLowered build program →
         count_of is_vote (compiled build program) ≤ count_of is_loop (compiled build program) }
 {}

@@ -1,6 +1,6 @@
 -- The code of an accepted text is tidy as far as its lowered tables are laid out tidily. What is said
 -- of its tables elsewhere is handed in: names of arrays that stand apart, tables that are a flat
--- program's, words that its text holds, and checks in front of its loops.
+-- program's, words that its text holds, checks in front of its loops, and loops that stand apart.
 use Rattle.std.proofs.Common.{◌≡◌, ℕ, ◌+◌, ◌*◌, ◌≤◌, true, List, length, arith}
 use Rattle.std.specs.Prelude.{None}
 use Rattle.zpl_text.specs.declared.tokens.Token.{Token}
@@ -18,6 +18,8 @@ use Rattle.pass_parts.specs.Checks.{ChecksWhatFollows}
 use Rattle.zpl_lowering.specs.Program.{lowered_program}
 use Rattle.zpl_lowering.specs.Tables.{flat_tables, rows_of}
 use Rattle.lowered_flat.specs.Apart.{NamesStandApart}
+use Rattle.lowering_checks.specs.Stands.{ReadsApart}
+use Rattle.lowering_checks.specs.Totals.{AreApart, FirstPuts, NoneAccumulates}
 use Rattle.lowering_checks.specs.Walked.{AreChecked}
 use Rattle.lowering_sizes.specs.Sizes.{HasTokens, HoldsItsWords}
 use Rattle.zpl_claims.specs.Build.{Build}
@@ -49,6 +51,16 @@ module _
     AreChecked None (rows_of (lowered_program program settings)))
     (follows : (tables : Tables) (rows : List Row) → all_inlined tables ≡ rows →
     AreChecked None rows → ChecksWhatFollows tables)
+    (stand_apart : (program : Program) (settings : List Setting) →
+    AreApart None (rows_of (lowered_program program settings)))
+    (none_accumulate : (tables : Tables) (rows : List Row) → all_inlined tables ≡ rows →
+    AreApart None rows → NoneAccumulates tables)
+    (first_puts : (tables : Tables) (rows : List Row) → all_inlined tables ≡ rows →
+    AreApart None rows → FirstPuts tables)
+    (read_apart : (program : Program) (settings : List Setting) → IsFaultless program →
+    all_inlined (flat_tables program settings) ≡ rows_of (lowered_program program settings) →
+    ChecksWhatFollows (flat_tables program settings) →
+    ReadsApart (flat_tables program settings))
     (text : List ℕ) (tokens : List Token) (program : Program) (build : Build)
     (accepted : IsAcceptedText text tokens program build) where
   grammar : IsProgram program
@@ -62,14 +74,25 @@ module _
         (apart text tokens program accepted.are_tokens accepted.tree) accepted.accepts;
   }
 
+  checks : ChecksWhatFollows (flat_tables program build.settings)
+  checks = follows (flat_tables program build.settings)
+      (rows_of (lowered_program program build.settings))
+      (read program build.settings accepted_lowered.flat)
+      (checked program build.settings grammar accepted.faultless accepted.accepts)
+
   pub accepted_tidily : (let origin = origin_of build program (length tokens) in
       IsLaidTidily origin → IsLoweredTidily origin)
   accepted_tidily laid = record {
     lowered = accepted_lowered;
     tokens = has text tokens program accepted.tree;
-    checks = follows (flat_tables program build.settings)
+    checks = checks;
+    totals = none_accumulate (flat_tables program build.settings)
         (rows_of (lowered_program program build.settings))
-        (read program build.settings accepted_lowered.flat)
-        (checked program build.settings grammar accepted.faultless accepted.accepts);
+        (read program build.settings accepted_lowered.flat) (stand_apart program build.settings);
+    puts = first_puts (flat_tables program build.settings)
+        (rows_of (lowered_program program build.settings))
+        (read program build.settings accepted_lowered.flat) (stand_apart program build.settings);
+    reads = read_apart program build.settings accepted.faultless
+        (read program build.settings accepted_lowered.flat) checks;
     laid = laid;
   }

@@ -1,9 +1,10 @@
--- Of a small text, computed: with `fuse` its code has two loops that could be one, since the first
--- one, a shattered statement that assigns nothing, puts nothing.
+-- Of a small text, computed: with `fuse` its code has no two loops that could be one. The first one,
+-- a shattered statement that assigns nothing, puts nothing, and a row that sets a scalar stands
+-- behind it.
 --
 --   program p; region R = [1..9]; var A, B : [R] integer;
 --   procedure p(); [R] begin if A > 0 then end; B := 1; end;
-use Rattle.std.proofs.Common.{◌≡◌, ℕ, Bool, true, false, List, [], ◌∷◌, Some, None, refl}
+use Rattle.std.proofs.Common.{◌≡◌, true, [], None, refl}
 use Rattle.std.specs.Fmt.{digits}
 use Rattle.std.specs.Int.{int_wrap}
 use Rattle.zpl_names.specs.Reached.{longest_chain}
@@ -20,6 +21,6 @@ build = record {
   settings = [];
 }
 
-two_loops : is_fused (compiled build example) ≡ false
+loops_apart : is_fused (compiled build example) ≡ true
 unfolding longest_chain int_wrap digits
-two_loops = refl
+loops_apart = refl

@@ -1,13 +1,13 @@
 -- What tidy code asks of the tables that a program is lowered to.
-use Rattle.std.specs.Prelude.{◌≡◌, true, ◌+◌, ◌*◌, ◌≤◌}
+use Rattle.std.specs.Prelude.{◌≡◌, true}
 use Rattle.zpl_tree.specs.Syntax.{Program}
-use Rattle.zpl_names.specs.Expansion.{other_size}
 use Rattle.node_form.specs.declared.tables.Tables.{Tables}
 use Rattle.grid_meaning.specs.Stored.{arrangement_of}
 use Rattle.zpl_lowering.specs.Tables.{flat_tables}
 use Rattle.lowering_sizes.specs.Sizes.{HasTokens}
-use Rattle.temp_norm.specs.Normalised.{loops_on_themselves}
-use Rattle.pass_parts.specs.Checks.{ChecksWhatFollows, StandsWithWhatFollows}
+use Rattle.pass_parts.specs.Checks.{ChecksWhatFollows}
+use Rattle.lowering_checks.specs.Stands.{PutsAlike, ReadsApart}
+use Rattle.lowering_checks.specs.Totals.{FirstPuts, NoneAccumulates}
 use Rattle.zpl_claims.specs.Build.{Build}
 use Rattle.zpl_claims.specs.Origin.{Origin}
 use Rattle.compiled_sizes.specs.Lowered.{IsLowered}
@@ -16,21 +16,23 @@ use Rattle.compiled_sizes.specs.Lowered.{IsLowered}
 abbrev pub lowered_for : Build → Program → Tables
 lowered_for build program = flat_tables program build.settings
 
--- What is asked of the lowered tables besides: the stored arrays are the program's; few of their
--- loops read with a shift what they put; and, where loops are joined, a loop with checks alone
--- between it and one before it over the same slot may stand wherever that one does.
+-- What is asked of the lowered tables besides: the stored arrays are the program's; and, where loops
+-- are joined, a loop with checks alone between it and one before it over the same slot puts arrays
+-- with the flood dimensions of what that one puts.
 pub record IsLaidTidily (origin : Origin) : Type 0 where
   pub boxes : (arrangement_of (lowered_for origin.build origin.program)).boxes ≡ origin.boxes
-  pub themselves : loops_on_themselves (lowered_for origin.build origin.program) ≤
-      16 * (other_size origin.program origin.tokens + 1)
-  pub stands : origin.build.options.fuse ≡ true →
-      StandsWithWhatFollows (lowered_for origin.build origin.program)
+  pub alike : origin.build.options.fuse ≡ true →
+      PutsAlike (lowered_for origin.build origin.program)
 
 -- The program is lowered to a flat program, and is written as at most so many tokens. Wherever
--- checks alone stand between two loops over one slot, the references of the second one are among
--- theirs.
+-- checks alone stand between two loops, neither accumulates, and the first one puts an array; and
+-- over one slot, the second one reads no scalar that some loop accumulates, and its references are
+-- among theirs.
 pub record IsLoweredTidily (origin : Origin) : Type 0 where
   pub lowered : IsLowered origin.build origin.program
   pub tokens : HasTokens origin.program origin.tokens
   pub checks : ChecksWhatFollows (lowered_for origin.build origin.program)
+  pub totals : NoneAccumulates (lowered_for origin.build origin.program)
+  pub puts : FirstPuts (lowered_for origin.build origin.program)
+  pub reads : ReadsApart (lowered_for origin.build origin.program)
   pub laid : IsLaidTidily origin

@@ -1,25 +1,26 @@
 //! The laws of compiled code.
-ghost use Rattle.std.specs.Prelude.{◌≡◌, ℕ, ◌+◌, ◌*◌, ◌≤◌, List, length, true};
+ghost use Rattle.std.specs.Prelude.{◌≡◌, ℕ, List, [], length, true, false};
 ghost use Rattle.zpl_text.specs.declared.tokens.Token.{Token};
 ghost use Rattle.zpl_tree.specs.Syntax.{Program};
-ghost use Rattle.zpl_names.specs.Expansion.{source_size};
 ghost use Rattle.flat_form.specs.Flat.{IsFlat};
 ghost use Rattle.code_parts.specs.Contracted.{IsContracted};
-ghost use Rattle.code_parts.specs.Counts.{code_size, count_of, is_loop, is_vote};
 ghost use Rattle.code_parts.specs.Early.{IsEarly};
 ghost use Rattle.code_parts.specs.Exchanged.{HasNoRepeats, IsMerged};
 ghost use Rattle.code_parts.specs.Fused.{IsFused};
 ghost use Rattle.pass_parts.specs.Checks.{ChecksWhatFollows, StandsWithWhatFollows};
 ghost use Rattle.zpl_claims.specs.Build.{Build};
 ghost use Rattle.zpl_claims.specs.Origin.{Origin, origin_of};
-ghost use Rattle.zpl_claims.specs.Tidy.{IsTidy};
+ghost use Rattle.zpl_claims.specs.Tidy.{IsLean, IsTidy};
 ghost use Rattle.zpl_compile.specs.Compile.{compiled};
 ghost use Rattle.compiled_tidy.specs.Accepted.{IsAcceptedText};
 ghost use Rattle.compiled_tidy.specs.Lowered.{IsLaidTidily, IsLoweredTidily, lowered_for};
 
 use lowered_flat::{lowered_programs_are_flat, parsed_names_stand_apart};
-use lowering_checks::{checks_say_what_follows, loops_are_checked};
+use lowering_checks::{
+    checks_say_what_follows, loops_are_checked, loops_read_apart, totals_stand_apart,
+};
 use lowering_sizes::texts_hold_their_words;
+use stored_boxes::arrays_are_as_many;
 
 /// The code of a program is free of what each optimisation leaves out that is asked for, whichever
 /// others are: of repeated exchanges, of exchanges that could be one, and of starts that could be
@@ -48,30 +49,30 @@ pub fn compiled_code_is_tidy()
         IsTidy origin (compiled origin.build origin.program) }
 {}
 
-/// Of each text whose program is accepted the code is no larger than is allowed, has no more votes
-/// than loops, and with `contract` no array that could be a cell; and it is tidy where the stored
-/// arrays are the program's, where few loops read with a shift what they put, and where, if loops
-/// are joined, they may stand where that puts them.
+/// Of each text whose program is accepted the code is for the grid that is asked for, no larger
+/// than is allowed, and free of what each optimisation but `fuse` leaves out (`lean`); and it is
+/// tidy where the stored arrays are the program's and where, if loops are joined, they may stand
+/// where that puts them. So it is where the program stores no arrays and no loops are joined.
 pub fn accepted_code_is_tidy()
-    ensures small { (text : List ℕ) (tokens : List Token) (program : Program) (build : Build) →
+    ensures lean { (text : List ℕ) (tokens : List Token) (program : Program) (build : Build) →
         IsAcceptedText text tokens program build →
-        code_size (compiled build program) ≤ 512 * (source_size program + 1) }
-    ensures votes { (text : List ℕ) (tokens : List Token) (program : Program) (build : Build) →
-        IsAcceptedText text tokens program build →
-        count_of is_vote (compiled build program) ≤ count_of is_loop (compiled build program) }
-    ensures contracted { (text : List ℕ) (tokens : List Token) (program : Program) (build : Build) →
-        IsAcceptedText text tokens program build → build.options.contract ≡ true →
-        IsContracted (compiled build program) }
+        IsLean (origin_of build program (length tokens)) (compiled build program) }
     ensures tidy { (text : List ℕ) (tokens : List Token) (program : Program) (build : Build) →
         IsAcceptedText text tokens program build →
         (let origin = origin_of build program (length tokens) in
         IsLaidTidily origin → IsTidy origin (compiled build program)) }
+    ensures without_arrays { (text : List ℕ) (tokens : List Token) (program : Program)
+        (build : Build) → IsAcceptedText text tokens program build →
+        (let origin = origin_of build program (length tokens) in
+        origin.boxes ≡ [] → build.options.fuse ≡ false → IsTidy origin (compiled build program)) }
 {
     lowered_programs_are_flat();
     parsed_names_stand_apart();
     texts_hold_their_words();
     loops_are_checked();
     checks_say_what_follows();
-    letters_are_kept();
+    totals_stand_apart();
+    loops_read_apart();
+    arrays_are_as_many();
     compiled_code_is_tidy();
 }

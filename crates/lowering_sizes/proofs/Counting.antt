@@ -1,35 +1,45 @@
--- How many rows of code are counted.
-use Rattle.std.proofs.Common.{◌≡◌, ℕ, ◌+◌, ◌≤◌, Bool, true, false, ◌&&◌, ℤ, List, [], ◌∷◌, ◌++◌, map, Option, Some, None, refl, ◌∙◌, arith}
-use Rattle.std.specs.Prelude.{cond, slice_get}
+-- How many rows of code are counted: each once, and a loop that reads with a shift what it puts twice
+-- more.
+use Rattle.std.proofs.Common.{◌≡◌, ℕ, ◌+◌, ◌*◌, ◌≤◌, ◌==◌, Bool, true, false, ◌&&◌, ◌||◌, ℤ, List, [], ◌∷◌, ◌++◌, map, length, Option, Some, None, refl, ap, arith, length-append}
+use Rattle.std.specs.Prelude.{cond, flat_map, slice_get}
+use Rattle.std.specs.List.{list_any}
 use Rattle.std.proofs.lemmas.List.Sums.{sum_by-append}
+use Rattle.zpl_region.specs.declared.regions.Region.{Region}
 use Rattle.zpl_nums.specs.declared.operators.Op.{Op}
 use Rattle.zpl_tree.specs.Syntax.{Name, Expr, Number, Truth, Coord, Named, Shifted, Around, Remap, Call, Paren, Neg, Not, Abs, Pair, Reduce, Scan, Flood, Form}
 use Rattle.zpl_names.specs.Kinds.{Rank}
 use Rattle.zpl_names.specs.Sites.{Role, Assigned, tests_rank}
 use Rattle.zpl_names.specs.Expansion.{is_plain_value}
 use Rattle.zpl_meaning.specs.Store.{Thing, Scalar, ArrayAt, Fixed, thing_of}
+use Rattle.zpl_meaning.specs.Context.{Mask}
 use Rattle.zpl_meaning.specs.Points.{assigned_expr}
-use Rattle.node_form.specs.Expression.{Expression}
+use Rattle.node_form.specs.Expression.{Expression, words_of}
+use Rattle.node_form.specs.declared.words.ExprOp.{ExprOp}
+use Rattle.node_form.specs.declared.words.ExprOp.TheVariants as word
 use Rattle.node_form.specs.declared.instructions.Instr.TheVariants as instr
 use Rattle.node_form.specs.declared.tables.Tables.{Tables}
 use Rattle.row_runs.specs.Code.{CodeRow, Straight, Jump, Unless}
 use Rattle.row_runs.specs.Structured as piece
 use Rattle.row_runs.specs.Structured.{Piece, flattened, size}
 use Rattle.flat_form.specs.Row as row
-use Rattle.flat_form.specs.Row.{Row, with_row, with_rows, coded}
+use Rattle.flat_form.specs.Row.{Member, Row, Words, mask_words, member_words, with_row, with_rows, coded}
 use Rattle.code_parts.specs.Counts.{count_of, is_counted}
+use Rattle.code_parts.specs.Uses.{share, shifted_in}
 use Rattle.zpl_lowering.specs.Check.{Check, flat_row}
 use Rattle.zpl_lowering.specs.Where.{Stored, Numbers, Slotted, slotted_at, Where, Next, rank_for, reach_of}
 use Rattle.zpl_lowering.specs.Reference.{Reference, need_of, each_once, needs, conforming, all_conforming, refer_to, over_reference, all_referred}
 use Rattle.zpl_lowering.specs.Slate as slate
 use Rattle.zpl_lowering.specs.Slate.{Slate, Slates, NoSlate, ThenSlate, Settled, Placed, named_slate, shifted_slate, settled, settled_each, behind}
-use Rattle.zpl_lowering.specs.Hoist.{Free, hoisted, behind as hoisted_behind, stored_element, mask_code}
+use Rattle.zpl_lowering.specs.Hoist.{Free, hoisted, array_code, behind as hoisted_behind, stored_element, mask_code, mask_word}
 use Rattle.zpl_lowering.specs.Lowered.{Lowered, phased_with, phased, first_left, free_at}
-use Rattle.zpl_lowering.specs.Statement.{Lowering, Inside, placed_in, set_row, put_row, lowered_to, lowered_assign, shattered, shattered_over, masked_members, form_inside}
+use Rattle.zpl_lowering.specs.Statement.{Lowering, Inside, placed_in, set_row, put_row, lowered_to, lowered_assign, has_put, kept_apart, shattered, shattered_over, masked_members, form_inside}
 use Rattle.zpl_lowering.specs.Tables.{rows_of, empty_tables, tables_of}
 use Rattle.zpl_meaning.specs.Regions.{vector_in}
+use Rattle.array_numbers.specs.Plain.{reads_number}
+use Rattle.array_numbers.proofs.PlainLemmas.{any_both, mask_free}
+use Rattle.lowering_sizes.specs.Themselves.{group_reads_itself, is_on_itself, put_in, rows_on_themselves, shifted_by}
 use Rattle.lowering_sizes.proofs.Costs.{no_text}
-use Rattle.lowering_sizes.proofs.Weights.{row_weight, rows_weight, piece_weight}
+use Rattle.lowering_sizes.proofs.Weights.{mask_weight, member_weight, members_weight, row_weight, rows_weight, piece_weight}
 use Rattle.lowering_sizes.proofs.LaidOut.{weight}
 use Rattle.lowering_sizes.proofs.Slates.{heft, AreNarrow, slate_weight}
 use Rattle.lowering_sizes.proofs.ProgramLemmas.{IsMeasure}
@@ -37,7 +47,7 @@ use Rattle.lowering_sizes.proofs.ProgramLemmas.{IsMeasure}
 abbrev pub row_count : Row → ℕ
 row_count (row.Set scalar expr line) = 1
 row_count (row.Dims slot parts line) = 1
-row_count (row.Loop slot group) = 1
+row_count (row.Loop slot group) = 1 + 2 * cond (group_reads_itself group) 1 0
 row_count (row.Print text) = 1
 row_count (row.Number expr) = 1
 row_count (row.Truth expr) = 1
@@ -121,7 +131,7 @@ laid_out at (piece.Repeat body head test) =
     )
 
 coded_count : (tables : Tables) (one : Row) →
-    cond (is_counted (coded tables one)) 1 0 ≡ row_count one
+    cond (is_counted (coded tables one)) 1 0 + 2 * cond (is_on_itself one) 1 0 ≡ row_count one
 coded_count tables (row.Set scalar expr line) = refl
 coded_count tables (row.Dims slot parts line) = refl
 coded_count tables (row.Loop slot group) = refl
@@ -129,26 +139,28 @@ coded_count tables (row.Print text) = refl
 coded_count tables (row.Number expr) = refl
 coded_count tables (row.Truth expr) = refl
 coded_count tables (row.Unless expr goal line) = refl
-coded_count tables (row.Plain one) = refl
+coded_count tables (row.Plain one) = omega arith
 
 counted_rows : (tables : Tables) (rows : List Row) →
-    count_of is_counted (with_rows tables rows) ≡ count_of is_counted tables + rows_count rows
+    count_of is_counted (with_rows tables rows) + 2 * rows_on_themselves rows
+    ≡ count_of is_counted tables + rows_count rows
 counted_rows tables [] = omega arith
 counted_rows tables (one ∷ rows) =
-    counted_rows (with_row tables one) rows
-    ∙ omega (
+    omega (
       arith,
+      counted_rows (with_row tables one) rows,
       coded_count tables one,
       sum_by-append (λ one. cond (is_counted one) 1 0) tables.code (coded tables one ∷ []),
     )
 
 pub tables_count : (grid : List ℕ) (lowered : Lowered) →
-    count_of is_counted (tables_of grid lowered) ≡ code_count lowered + 1
+    count_of is_counted (tables_of grid lowered) + 2 * rows_on_themselves (rows_of lowered)
+    ≡ code_count lowered + 1
 tables_count grid lowered =
     let code = map flat_row (flattened 0 lowered.code) in
-    counted_rows (empty_tables grid lowered) (rows_of lowered)
-    ∙ omega (
+    omega (
       arith,
+      counted_rows (empty_tables grid lowered) (rows_of lowered),
       count_both code (row.Plain instr.End ∷ []),
       flat_rows (flattened 0 lowered.code),
       laid_out 0 lowered.code,
@@ -160,10 +172,95 @@ once : (b : Bool) → cond b 1 0 ≤ 1
 once true = omega arith
 once false = omega arith
 
+one_shift : (one : ExprOp) → length (shifted_in one) ≤ 1
+one_shift (word.Shifted array shift) = omega arith
+one_shift one = omega arith
+
+words_shifts : (words : Words) → length (flat_map shifted_in words) ≤ length words
+words_shifts [] = omega arith
+words_shifts (one ∷ words) =
+    omega (
+      arith,
+      one_shift one,
+      words_shifts words,
+      length-append (shifted_in one) (flat_map shifted_in words),
+    )
+
+mask_shifts : (mask : Option Words) → length (shifted_by (mask_words mask)) ≤ mask_weight mask
+mask_shifts None = omega arith
+mask_shifts (Some mask) =
+    omega (arith, words_shifts mask, length-append (flat_map shifted_in mask) [])
+
+two_shifts : (expr : Words) (mask : Option Words) →
+    length (shifted_by (expr ∷ mask_words mask)) ≤ length expr + mask_weight mask
+two_shifts expr mask =
+    omega (
+      arith,
+      words_shifts expr,
+      mask_shifts mask,
+      length-append (flat_map shifted_in expr) (shifted_by (mask_words mask)),
+    )
+
+-- a member weighs at least what it puts and what it reads with a shift
+member_few : (one : Member) →
+    length (put_in one) + length (shifted_by (member_words one)) ≤ member_weight one
+member_few (row.Put array expr mask line) = omega (arith, two_shifts expr mask)
+member_few (row.Cell cell expr mask line) = omega (arith, two_shifts expr mask)
+member_few (row.Acc scalar operator expr mask line) = omega (arith, two_shifts expr mask)
+member_few (row.OpenIf expr mask line) = omega (arith, two_shifts expr mask)
+member_few row.Otherwise = omega arith
+member_few row.CloseIf = omega arith
+member_few (row.OpenWhile expr mask line) = omega (arith, two_shifts expr mask)
+member_few row.CloseWhile = omega arith
+member_few (row.OpenRepeat mask line) = omega (arith, mask_shifts mask)
+member_few (row.Until expr) = omega (arith, two_shifts expr None)
+
+shifts_both : (xs ys : List Words) →
+    length (shifted_by (xs ++ ys)) ≡ length (shifted_by xs) + length (shifted_by ys)
+shifts_both [] ys = omega arith
+shifts_both (x ∷ xs) ys =
+    omega (
+      arith,
+      shifts_both xs ys,
+      length-append (flat_map shifted_in x) (shifted_by (xs ++ ys)),
+      length-append (flat_map shifted_in x) (shifted_by xs),
+    )
+
+group_few : (group : List Member) →
+    length (flat_map put_in group) + length (shifted_by (flat_map member_words group))
+    ≤ members_weight group
+group_few [] = omega arith
+group_few (one ∷ group) =
+    omega (
+      arith,
+      member_few one,
+      group_few group,
+      length-append (put_in one) (flat_map put_in group),
+      shifts_both (member_words one) (flat_map member_words group),
+    )
+
+none_shared : (xs : List ℕ) → cond {A = ℕ} (share xs []) 1 0 ≡ 0
+none_shared [] = refl
+none_shared (x ∷ xs) = none_shared xs
+
+shared_few : (xs ys : List ℕ) → 2 * cond (share xs ys) 1 0 ≤ length xs + length ys
+shared_few [] ys = omega arith
+shared_few (x ∷ xs) [] = omega (arith, none_shared (x ∷ xs))
+shared_few (x ∷ xs) (y ∷ ys) = omega (arith, once (share (x ∷ xs) (y ∷ ys)))
+
+itself_few : (group : List Member) →
+    2 * cond (group_reads_itself group) 1 0 ≤ members_weight group
+itself_few group =
+    omega (
+      arith,
+      shared_few (flat_map put_in group) (shifted_by (flat_map member_words group)),
+      group_few group,
+    )
+
 row_few : (one : Row) → row_count one ≤ row_weight no_text one
 row_few (row.Set scalar expr line) = omega arith
 row_few (row.Dims slot parts line) = omega arith
-row_few (row.Loop slot group) = omega arith
+row_few (row.Loop slot group) = omega (arith, itself_few group)
 row_few (row.Print text) = omega arith
 row_few (row.Number expr) = omega arith
 row_few (row.Truth expr) = omega arith
@@ -345,15 +442,58 @@ pub set_once : (line : ℕ) (expr : Expression) (target : Option ℕ) →
 set_once line expr None = omega arith
 set_once line expr (Some scalar) = omega arith
 
+-- what an array is assigned is never read from it with a shift
+abbrev pub StandsApart : Where → Expr → Option Thing → Type 0
+StandsApart w value thing =
+    (place : ℕ) (home : Region) (stored : Stored) → thing ≡ Some (ArrayAt place home) →
+    slice_get w.numbers.arrays place ≡ Some stored →
+    (line : ℕ) (next : Next) (rank : Rank) (free : Free) →
+    reads_number stored.array
+    (words_of (hoisted w.numbers line free (settled w line next rank value).slate).left) ≡ false
+
+-- a group that puts an array alone, and reads it nowhere with a shift
+apart_alone : (array : ℕ) (expr : Words) (mask : Option Words) (line : ℕ) →
+    reads_number array expr ≡ false →
+    list_any (λ other. array == other) (shifted_by (mask_words mask)) ≡ false →
+    group_reads_itself (row.Put array expr mask line ∷ []) ≡ false
+apart_alone array expr mask line still masked =
+    ap (λ b. b || false) (by mask masked)
+  where
+    by : (mask : Option Words) →
+        list_any (λ other. array == other) (shifted_by (mask_words mask)) ≡ false →
+        list_any (λ other. array == other) (shifted_by ((expr ∷ mask_words mask) ++ [])) ≡ false
+    by None masked =
+        any_both (λ other. array == other) (flat_map shifted_in expr) [] still refl
+    by (Some mask) masked =
+        any_both (λ other. array == other) (flat_map shifted_in expr) (shifted_by (mask ∷ [])) still
+        masked
+
+mask_apart : (numbers : Numbers) (array : ℕ) (mask : Option Mask) →
+    list_any (λ other. array == other) (shifted_by (mask_words (mask_code numbers mask))) ≡ false
+mask_apart numbers array None = refl
+mask_apart numbers array (Some mask) =
+    let stored = slice_get numbers.arrays mask.array in
+    let words = words_of (mask_word mask.without (array_code stored)) in
+    any_both (λ other. array == other) (flat_map shifted_in words) []
+    (mask_free array mask.without stored) refl
+
 put_once : (w : Where) (line : ℕ) (over : Slotted) (expr : Expression) (target : Option Stored) →
+    ((stored : Stored) → target ≡ Some stored → reads_number stored.array (words_of expr) ≡ false) →
     rows_count (put_row w line over expr target) ≤ 1
-put_once w line over expr None = omega arith
-put_once w line over expr (Some stored) = omega arith
+put_once w line over expr None still = omega arith
+put_once w line over expr (Some stored) still =
+    omega (
+      arith,
+      ap (λ b. cond {A = ℕ} b 1 0)
+          (apart_alone stored.array (words_of expr) (mask_code w.numbers over.mask) line
+          (still stored refl) (mask_apart w.numbers stored.array over.mask)),
+    )
 
 to_once : (w : Where) (role : Role) (line : ℕ) (next : Next) (value : Expr)
     (thing : Option Thing) → AreNarrow w.numbers.arrays → is_plain_value value ≡ true →
+    StandsApart w value thing →
     code_count (lowered_to w role line next value thing) ≤ 1
-to_once w role line next value (Some (Scalar target)) narrow e =
+to_once w role line next value (Some (Scalar target)) narrow e apart =
     let placed = placed_in w role value in
     let phases = phased w line next (placed ∷ []) in
     omega (
@@ -361,7 +501,7 @@ to_once w role line next value (Some (Scalar target)) narrow e =
       plain_phases w line next [] [] placed narrow e,
       set_once line (first_left phases.left) (slice_get w.numbers.scalars target),
     )
-to_once w role line next value (Some (ArrayAt target home)) narrow e =
+to_once w role line next value (Some (ArrayAt target home)) narrow e apart =
     let over = slotted_at w.currents (rank_for w role) in
     let stored = slice_get w.numbers.arrays target in
     let own = refer_to over.slot [] stored in
@@ -371,69 +511,82 @@ to_once w role line next value (Some (ArrayAt target home)) narrow e =
     omega (
       arith,
       plain_phases w line next own last placed narrow e,
-      put_once w line over (first_left phases.left) stored,
+      put_once w line over (first_left phases.left) stored
+          (λ stored has. apart target home stored refl has line next placed.rank (free_at next 0)),
     )
-to_once w role line next value (Some (Fixed constant)) narrow e = omega arith
-to_once w role line next value None narrow e = omega arith
+to_once w role line next value (Some (Fixed constant)) narrow e apart = omega arith
+to_once w role line next value None narrow e apart = omega arith
 
 assign_once : (context : Lowering) (next : Next) (name : Name) (op : Option Op) (value : Expr)
     (line : ℕ) → AreNarrow context.place.numbers.arrays → is_plain_value value ≡ true →
+    StandsApart context.place (assigned_expr name op value)
+    (thing_of context.place.environment name.text) →
     code_count
     (lowered_to context.place (Assigned name op) line next (assigned_expr name op value)
     (thing_of context.place.environment name.text)) ≤ 1
-assign_once context next name op value line narrow e =
+assign_once context next name op value line narrow e apart =
     to_once context.place (Assigned name op) line next (assigned_expr name op value)
-    (thing_of context.place.environment name.text) narrow (plain_assigned name op value e)
+    (thing_of context.place.environment name.text) narrow (plain_assigned name op value e) apart
 
 pub plain_once : (context : Lowering) (next : Next) (name : Name) (op : Option Op) (value : Expr)
     (line : ℕ) → AreNarrow context.place.numbers.arrays → is_plain_value value ≡ true →
+    StandsApart context.place (assigned_expr name op value)
+    (thing_of context.place.environment name.text) →
     code_count (lowered_assign context next name op value line) ≤ 1
-plain_once context next name (Some op) value line narrow e =
-    assign_once context next name (Some op) value line narrow e
-plain_once context next name None (Number at value) line narrow e =
-    assign_once context next name None (Number at value) line narrow e
-plain_once context next name None (Truth at value) line narrow e =
-    assign_once context next name None (Truth at value) line narrow e
-plain_once context next name None (Coord at k) line narrow e =
-    assign_once context next name None (Coord at k) line narrow e
-plain_once context next name None (Named at other) line narrow e =
-    assign_once context next name None (Named at other) line narrow e
-plain_once context next name None (Shifted at other shift) line narrow e =
-    assign_once context next name None (Shifted at other shift) line narrow e
-plain_once context next name None (Paren at inside) line narrow e =
-    assign_once context next name None (Paren at inside) line narrow e
-plain_once context next name None (Neg at operand) line narrow e =
-    assign_once context next name None (Neg at operand) line narrow e
-plain_once context next name None (Not at operand) line narrow e =
-    assign_once context next name None (Not at operand) line narrow e
-plain_once context next name None (Abs at operand) line narrow e =
-    assign_once context next name None (Abs at operand) line narrow e
-plain_once context next name None (Pair at op left right) line narrow e =
-    assign_once context next name None (Pair at op left right) line narrow e
-plain_once context next name None (Around at other shift) line narrow e = cc
-plain_once context next name None (Remap at other indices) line narrow e = cc
-plain_once context next name None (Call at callee actuals) line narrow e = cc
-plain_once context next name None (Reduce at operator over operand) line narrow e = cc
-plain_once context next name None (Scan at operator along operand) line narrow e = cc
-plain_once context next name None (Flood at source operand) line narrow e = cc
+plain_once context next name (Some op) value line narrow e apart =
+    assign_once context next name (Some op) value line narrow e apart
+plain_once context next name None (Number at value) line narrow e apart =
+    assign_once context next name None (Number at value) line narrow e apart
+plain_once context next name None (Truth at value) line narrow e apart =
+    assign_once context next name None (Truth at value) line narrow e apart
+plain_once context next name None (Coord at k) line narrow e apart =
+    assign_once context next name None (Coord at k) line narrow e apart
+plain_once context next name None (Named at other) line narrow e apart =
+    assign_once context next name None (Named at other) line narrow e apart
+plain_once context next name None (Shifted at other shift) line narrow e apart =
+    assign_once context next name None (Shifted at other shift) line narrow e apart
+plain_once context next name None (Paren at inside) line narrow e apart =
+    assign_once context next name None (Paren at inside) line narrow e apart
+plain_once context next name None (Neg at operand) line narrow e apart =
+    assign_once context next name None (Neg at operand) line narrow e apart
+plain_once context next name None (Not at operand) line narrow e apart =
+    assign_once context next name None (Not at operand) line narrow e apart
+plain_once context next name None (Abs at operand) line narrow e apart =
+    assign_once context next name None (Abs at operand) line narrow e apart
+plain_once context next name None (Pair at op left right) line narrow e apart =
+    assign_once context next name None (Pair at op left right) line narrow e apart
+plain_once context next name None (Around at other shift) line narrow e apart = cc
+plain_once context next name None (Remap at other indices) line narrow e apart = cc
+plain_once context next name None (Call at callee actuals) line narrow e apart = cc
+plain_once context next name None (Reduce at operator over operand) line narrow e apart = cc
+plain_once context next name None (Scan at operator along operand) line narrow e apart = cc
+plain_once context next name None (Flood at source operand) line narrow e apart = cc
 
--- ---- a shattered statement: one loop
+-- ---- a shattered statement: one loop, and one row behind one that puts nothing
 
 over_count : (w : Where) (over : Slotted) (line : ℕ) (inside : Inside) →
-    code_count (shattered_over w over line inside) ≡ 1
+    code_count (shattered_over w over line inside) ≤ 3
 over_count w over line inside =
     let refers = inside.references ++ over_reference w.numbers over in
     omega (
       arith,
+      once (group_reads_itself (masked_members (mask_code w.numbers over.mask) line inside.members)),
       needs_count line (each_once refers),
       count_both (needs line refers) (row.Loop over.slot (masked_members
           (mask_code w.numbers over.mask) line inside.members) ∷ []),
     )
 
+apart_count : (put : Bool) (line scalar : ℕ) → code_count (kept_apart put line scalar) ≤ 1
+apart_count true line scalar = omega arith
+apart_count false line scalar = omega arith
+
 pub shattered_count : (w : Where) (line : ℕ) (next : Next) (form : Form) →
-    code_count (shattered w line next form) ≡ 1
+    code_count (shattered w line next form) ≤ 4
 shattered_count w line next form =
-    let rank = tests_rank
-    (reach_of w) form in
-    over_count w (slotted_at w.currents rank) line
-    (form_inside w line next rank form)
+    let rank = tests_rank (reach_of w) form in
+    let inside = form_inside w line next rank form in
+    omega (
+      arith,
+      over_count w (slotted_at w.currents rank) line inside,
+      apart_count (has_put inside.members) line next.scalars,
+    )

@@ -1,5 +1,5 @@
--- Shattered statements: one loop.
-use Rattle.std.proofs.Common.{◌≡◌, ℕ, ◌+◌, ◌≤◌, List, [], ◌∷◌, ◌++◌, length, Option, Some, None, refl, arith, length-append}
+-- Shattered statements: one loop, and a row behind one that puts nothing.
+use Rattle.std.proofs.Common.{◌≡◌, ℕ, Bool, true, false, ◌+◌, ◌≤◌, List, [], ◌∷◌, ◌++◌, length, Option, Some, None, refl, arith, length-append}
 use Rattle.std.specs.Prelude.{slice_get, flat_map}
 use Rattle.zpl_tokens.specs.declared.keywords.Key.TheVariants as key
 use Rattle.zpl_tokens.specs.declared.symbols.Sym.TheVariants as sym
@@ -14,7 +14,7 @@ use Rattle.zpl_lowering.specs.Where.{Stored, Slotted, slotted_at, Where, Next, r
 use Rattle.zpl_lowering.specs.Reference.{over_reference, needs}
 use Rattle.zpl_lowering.specs.Slate.{settled}
 use Rattle.zpl_lowering.specs.Hoist.{mask_code}
-use Rattle.zpl_lowering.specs.Statement.{Inside, both_inside, Elementwise, elementwise, put_member, put_thing, opening, otherwise_members, stmt_inside, stmts_inside, form_inside, arms_inside, arm_inside, otherwise_inside, masked_members, shattered_over, shattered}
+use Rattle.zpl_lowering.specs.Statement.{Inside, both_inside, Elementwise, elementwise, put_member, put_thing, opening, otherwise_members, stmt_inside, stmts_inside, form_inside, arms_inside, arm_inside, otherwise_inside, masked_members, shattered_over, has_put, kept_apart, shattered}
 use Rattle.zpl_names.specs.Sites.{tests_rank}
 use Rattle.lowering_sizes.proofs.Costs.{cost, cost_both}
 use Rattle.lowering_sizes.proofs.Weights.{mask_weight, member_weight, members_weight, members_both, rows_both}
@@ -108,7 +108,7 @@ mutual
 
   pub form_inside_cost : (text : List ℕ → ℕ) (w : Where) (line : ℕ) (next : Next) (rank : Rank)
       (form : Form) → HasThree w.setup.known → AreNarrow w.numbers.arrays →
-      inside_weight (form_inside w line next rank form) + 8 ≤ cost text (form_words form)
+      inside_weight (form_inside w line next rank form) + 9 ≤ cost text (form_words form)
   form_inside_cost text w line next rank (Assign name op value) three narrow =
       let taken = assigned_expr name op value in
       omega (
@@ -236,15 +236,21 @@ shattered_weight text w over line inside =
           (row.Loop over.slot (masked_members mask line inside.members) ∷ []),
     )
 
+-- a row behind a loop that puts nothing
+apart_weight : (text : List ℕ → ℕ) (put : Bool) (line scalar : ℕ) →
+    weight text (kept_apart put line scalar) ≤ 3
+apart_weight text true line scalar = omega arith
+apart_weight text false line scalar = omega arith
+
 pub shattered_cost : (text : List ℕ → ℕ) (w : Where) (line : ℕ) (next : Next) (form : Form) →
     HasThree w.setup.known → AreNarrow w.numbers.arrays →
     weight text (shattered w line next form) ≤ cost text (form_words form)
 shattered_cost text w line next form three narrow =
-    let rank = tests_rank (reach_of w)
-    form in
+    let rank = tests_rank (reach_of w) form in
+    let inside = form_inside w line next rank form in
     omega (
       arith,
       form_inside_cost text w line next rank form three narrow,
-      shattered_weight text w (slotted_at w.currents rank) line
-          (form_inside w line next rank form),
+      shattered_weight text w (slotted_at w.currents rank) line inside,
+      apart_weight text (has_put inside.members) line next.scalars,
     )

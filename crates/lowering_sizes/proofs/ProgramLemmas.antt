@@ -1,5 +1,5 @@
 -- Calls expanded weigh no more than the words of their bodies and their names pay for.
-use Rattle.std.proofs.Common.{◌≡◌, ℕ, zero, suc, ◌+◌, ◌*◌, ◌≤◌, Bool, true, false, if◌then◌else◌, List, [], ◌∷◌, ◌++◌, map, length, Option, Some, None, refl, arith, length-append}
+use Rattle.std.proofs.Common.{◌≡◌, ℕ, zero, suc, ◌+◌, ◌*◌, ◌≤◌, Bool, true, false, if◌then◌else◌, List, [], ◌∷◌, ◌++◌, map, length, Option, Some, None, refl, subst, arith, length-append}
 use Rattle.std.specs.Prelude.{flat_map, filter_map, sum_by}
 use Rattle.std.specs.List.{cons_option}
 use Rattle.std.proofs.lemmas.List.{length-map}
@@ -17,6 +17,7 @@ use Rattle.zpl_lowering.specs.Where.{Stored, Next}
 use Rattle.zpl_lowering.specs.Lowered.{Lowered, rows_alone, behind, both}
 use Rattle.zpl_lowering.specs.Statement.{Given, Valued, Copied, Referring, Calling, Lowering, lowered, lowered_all, lowered_form}
 use Rattle.zpl_lowering.specs.Program.{Framed, with_scalar, with_array, Entry, zero_row, clear_row, made_copy, given_code, givens_code, local_code, names_code, locals_code, where_in, body_code, reads_round, in_call, out_of_call, routine_code, call_code}
+use Rattle.lowering_fits.specs.Whole.{Frames, body_frames, given_frame, given_frames, local_frame, local_frames, name_frames}
 use Rattle.lowering_sizes.proofs.Costs.{cost, cost_both}
 use Rattle.lowering_sizes.proofs.Weights.{rows_weight}
 use Rattle.lowering_sizes.proofs.LaidOut.{weight}
@@ -45,10 +46,10 @@ weight_measures text = record {
   few = λ one. omega arith;
 }
 
--- what comes behind a frame, whatever that is
-abbrev Goes : (Lowered → ℕ) → (Framed → Next → Lowered) → ℕ → Type 0
-Goes measure rest n =
-    (frame : Framed) (next : Next) → AreNarrow frame.numbers.arrays → measure (rest frame next) ≤ n
+-- what comes behind these names and numbers
+abbrev pub Goes : (Lowered → ℕ) → (Framed → Next → Lowered) → ℕ → Frames → Type 0
+Goes measure rest n last =
+    AreNarrow last.frame.numbers.arrays → measure (rest last.frame last.next) ≤ n
 
 copy_weight : (text : List ℕ → ℕ) (line : ℕ) (next : Next) (from : Stored) →
     weight text (made_copy line next from) ≡ 6
@@ -56,15 +57,13 @@ copy_weight text line next from = omega arith
 
 given_most : (text : List ℕ → ℕ) (measure : Lowered → ℕ) → IsMeasure text measure → (line : ℕ)
     (name : Name) (given : Given) (frame : Framed) (next : Next) (rest : Framed → Next → Lowered)
-    (n : ℕ) → AreNarrow frame.numbers.arrays → GivenNarrow given → Goes measure rest n →
+    (n : ℕ) → AreNarrow frame.numbers.arrays → GivenNarrow given →
+    Goes measure rest n (given_frame line name given frame next) →
     measure (given_code line name given frame next rest) ≤ 6 + n
 given_most text measure is line name (Valued scalar) frame next rest n narrow given goes =
-    omega (arith, goes (with_scalar frame name scalar) next narrow)
+    omega (arith, goes narrow)
 given_most text measure is line name (Referring thing) frame next rest n narrow given goes =
-    omega (
-      arith,
-      goes (record frame { names = frame.names ++ (name.text, thing) ∷ [] }) next narrow,
-    )
+    omega (arith, goes narrow)
 given_most text measure is line name (Copied from home) frame next rest n narrow given goes =
     let stored : Stored = record { array = next.arrays; storage = from.storage } in
     let first = made_copy line next from in
@@ -74,28 +73,30 @@ given_most text measure is line name (Copied from home) frame next rest n narrow
       arith,
       copy_weight text line next from,
       is.few first,
-      goes framed after (narrow_more frame.numbers.arrays stored narrow given),
+      goes (narrow_more frame.numbers.arrays stored narrow given),
       is.parts first (rest framed after),
     )
 
 givens_most : (text : List ℕ → ℕ) (measure : Lowered → ℕ) → IsMeasure text measure → (line : ℕ)
     (formals : List FormalName) (actuals : List Given) (frame : Framed) (next : Next)
     (rest : Framed → Next → Lowered) (n : ℕ) → AreNarrow frame.numbers.arrays →
-    GivensNarrow actuals → Goes measure rest n →
+    GivensNarrow actuals → Goes measure rest n (given_frames line formals actuals frame next) →
     measure (givens_code line formals actuals frame next rest) ≤ 6 * length formals + n
 givens_most text measure is line [] actuals frame next rest n narrow given goes =
-    omega (arith, goes frame next narrow)
+    omega (arith, goes narrow)
 givens_most text measure is line (formal ∷ formals) [] frame next rest n narrow given goes =
-    omega (arith, goes frame next narrow)
+    omega (arith, goes narrow)
 givens_most text measure is line (formal ∷ formals) (actual ∷ actuals) frame next rest n narrow
     given goes =
+    let one = given_frame line formal.name actual frame next in
     omega (
       arith,
       given_most text measure is line formal.name actual frame next
           (λ frame after. givens_code line formals actuals frame after rest) (6 * length formals + n)
           narrow given.0
-          (λ frame after narrow.
-          givens_most text measure is line formals actuals frame after rest n narrow given.1 goes),
+          (λ narrow.
+          givens_most text measure is line formals actuals one.frame one.next rest n narrow given.1
+          goes),
     )
 
 pub none_given : (measure : Lowered → ℕ) (line : ℕ) (formals : List FormalName) (frame : Framed)
@@ -127,7 +128,8 @@ clear_weight text entry array = by entry.clears
 local_most : (text : List ℕ → ℕ) (measure : Lowered → ℕ) → IsMeasure text measure →
     (setup : Setup) (entry : Entry) (shape : Bracket) (name : Name) (frame : Framed) (next : Next)
     (rest : Framed → Next → Lowered) (n : ℕ) → HasThree setup.known →
-    AreNarrow frame.numbers.arrays → Goes measure rest n →
+    AreNarrow frame.numbers.arrays →
+    Goes measure rest n (local_frame setup entry shape name frame next) →
     measure (local_code setup entry shape name frame next rest) ≤ 3 + n
 local_most text measure is setup entry NoBracket name frame next rest n three narrow goes =
     let first : Lowered = record (rows_alone (zero_row entry next.scalars)) { scalars = 1 } in
@@ -137,7 +139,7 @@ local_most text measure is setup entry NoBracket name frame next rest n three na
       arith,
       zero_weight text entry next.scalars,
       is.few first,
-      goes framed after narrow,
+      goes narrow,
       is.parts first (rest framed after),
     )
 local_most text measure is setup entry (Bracketed inner) name frame next rest n three narrow goes =
@@ -151,7 +153,7 @@ local_most text measure is setup entry (Bracketed inner) name frame next rest n 
       arith,
       clear_weight text entry next.arrays,
       is.few first,
-      goes framed after
+      goes
           (narrow_more frame.numbers.arrays stored narrow
           (storage_three setup.known setup.borders inner three)),
       is.parts first (rest framed after),
@@ -160,18 +162,21 @@ local_most text measure is setup entry (Bracketed inner) name frame next rest n 
 names_most : (text : List ℕ → ℕ) (measure : Lowered → ℕ) → IsMeasure text measure →
     (setup : Setup) (entry : Entry) (shape : Bracket) (names : List Name) (frame : Framed)
     (next : Next) (rest : Framed → Next → Lowered) (n : ℕ) → HasThree setup.known →
-    AreNarrow frame.numbers.arrays → Goes measure rest n →
+    AreNarrow frame.numbers.arrays →
+    Goes measure rest n (name_frames setup entry shape names frame next) →
     measure (names_code setup entry shape names frame next rest) ≤ 3 * length names + n
 names_most text measure is setup entry shape [] frame next rest n three narrow goes =
-    omega (arith, goes frame next narrow)
+    omega (arith, goes narrow)
 names_most text measure is setup entry shape (name ∷ names) frame next rest n three narrow goes =
+    let one = local_frame setup entry shape name frame next in
     omega (
       arith,
       local_most text measure is setup entry shape name frame next
           (λ frame after. names_code setup entry shape names frame after rest) (3 * length names + n)
           three narrow
-          (λ frame after narrow.
-          names_most text measure is setup entry shape names frame after rest n three narrow goes),
+          (λ narrow.
+          names_most text measure is setup entry shape names one.frame one.next rest n three narrow
+          goes),
     )
 
 abbrev pub local_names : List VarDef → List Name
@@ -180,20 +185,22 @@ local_names vars = flat_map (λ var. var.names) vars
 pub locals_most : (text : List ℕ → ℕ) (measure : Lowered → ℕ) → IsMeasure text measure →
     (setup : Setup) (entry : Entry) (vars : List VarDef) (frame : Framed) (next : Next)
     (rest : Framed → Next → Lowered) (n : ℕ) → HasThree setup.known →
-    AreNarrow frame.numbers.arrays → Goes measure rest n →
+    AreNarrow frame.numbers.arrays →
+    Goes measure rest n (local_frames setup entry vars frame next) →
     measure (locals_code setup entry vars frame next rest)
     ≤ 3 * length (local_names vars) + n
 locals_most text measure is setup entry [] frame next rest n three narrow goes =
-    omega (arith, goes frame next narrow)
+    omega (arith, goes narrow)
 locals_most text measure is setup entry (var ∷ vars) frame next rest n three narrow goes =
+    let one = name_frames setup entry var.shape var.names frame next in
     omega (
       arith,
       length-append var.names (local_names vars),
       names_most text measure is setup entry var.shape var.names frame next
           (λ frame after. locals_code setup entry vars frame after rest)
           (3 * length (local_names vars) + n) three narrow
-          (λ frame after narrow.
-          locals_most text measure is setup entry vars frame after rest n three narrow goes),
+          (λ narrow.
+          locals_most text measure is setup entry vars one.frame one.next rest n three narrow goes),
     )
 
 -- ---- bodies
@@ -443,11 +450,14 @@ pub call_most : (text : List ℕ → ℕ) (measure : Lowered → ℕ) → IsMeas
     (setup : Setup) (entry : Entry) (call : Calling → Next → Lowered) (routine : Routine)
     (calling : Calling) (next : Next) (n : ℕ) → HasThree setup.known →
     AreNarrow calling.numbers.arrays → GivensNarrow calling.actuals →
-    Goes measure (lowered_body setup call routine calling) n →
+    Goes measure (lowered_body setup call routine calling) n
+    (body_frames setup entry routine calling next) →
     measure (body_code setup entry call routine calling next) ≤ 6 * names_count routine + n
 call_most text measure is setup entry call routine calling next n three narrow given goes =
     let params = routine.procedure.params in
     let locals = local_names routine.procedure.locals in
+    let first = given_frames entry.line (formal_names params) calling.actuals
+    (record { names = []; numbers = calling.numbers }) next in
     omega (
       arith,
       givens_most text measure is entry.line (formal_names params) calling.actuals
@@ -455,31 +465,41 @@ call_most text measure is setup entry call routine calling next n three narrow g
           (λ frame after.
           locals_code setup entry routine.procedure.locals frame after
           (lowered_body setup call routine calling)) (3 * length locals + n) narrow given
-          (λ frame after narrow.
-          locals_most text measure is setup entry routine.procedure.locals frame after
+          (λ narrow.
+          locals_most text measure is setup entry routine.procedure.locals first.frame first.next
           (lowered_body setup call routine calling) n three narrow goes),
       formals_count params,
       length-append (flat_map (λ (param : Param). param.names) params) locals,
     )
 
+none_frames : (line : ℕ) (formals : List FormalName) (frame : Framed) (next : Next) →
+    given_frames line formals [] frame next ≡ record { frame = frame; next = next }
+none_frames line [] frame next = refl
+none_frames line (formal ∷ formals) frame next = refl
+
 -- the same of the entry procedure, which takes nothing
 pub entered_most : (text : List ℕ → ℕ) (measure : Lowered → ℕ) → IsMeasure text measure →
     (setup : Setup) (entry : Entry) (call : Calling → Next → Lowered) (routine : Routine)
     (calling : Calling) (next : Next) (n : ℕ) → HasThree setup.known →
-    AreNarrow calling.numbers.arrays → Goes measure (lowered_body setup call routine calling) n →
+    AreNarrow calling.numbers.arrays →
+    Goes measure (lowered_body setup call routine calling) n
+    (body_frames setup entry routine (record calling { actuals = [] }) next) →
     measure
     (body_code setup entry call routine (record calling { actuals = [] }) next)
     ≤ 3 * length (local_names routine.procedure.locals) + n
 entered_most text measure is setup entry call routine calling next n three narrow goes =
-    none_given measure entry.line (formal_names routine.procedure.params)
-    (record { names = []; numbers = calling.numbers }) next
+    let first : Framed = record { names = []; numbers = calling.numbers } in
+    let formals = formal_names routine.procedure.params in
+    none_given measure entry.line formals first next
     (λ frame after.
     locals_code setup entry routine.procedure.locals frame after
     (lowered_body setup call routine calling))
     (3 * length (local_names routine.procedure.locals) + n)
-    (locals_most text measure is setup entry routine.procedure.locals
-    (record { names = []; numbers = calling.numbers }) next
-    (lowered_body setup call routine calling) n three narrow goes)
+    (locals_most text measure is setup entry routine.procedure.locals first next
+    (lowered_body setup call routine calling) n three narrow
+    (subst (λ (given : Frames). Goes measure (lowered_body setup call routine calling) n
+    (local_frames setup entry routine.procedure.locals given.frame given.next))
+    (none_frames entry.line formals first next) goes))
 
 pub out_weight : (text : List ℕ → ℕ) (one : Lowered) → weight text (out_of_call one) ≡ weight text one
 out_weight text one = omega (arith, length-append one.copies one.later)
@@ -507,14 +527,15 @@ call_weight_most text one setup three there (suc depth) calling next narrow give
     by (Some routine) there few =
         let entry : Entry = record { clears = true; line = calling.line } in
         let inside = in_call (reads_round setup.program routine) next in
+        let last = body_frames setup entry routine calling inside in
         omega (
           arith,
           call_most text (weight text) (weight_measures text) setup entry (call_code setup depth)
               routine calling inside
               (expanded setup.program (own_cost text setup.program) (suc depth) routine) three narrow given
-              (λ frame after narrow.
-              lowered_body_cost text one setup depth (call_code setup depth) routine calling frame after
-              three narrow (there routine refl) few),
+              (λ narrow.
+              lowered_body_cost text one setup depth (call_code setup depth) routine calling last.frame
+              last.next three narrow (there routine refl) few),
           out_weight text
               (body_code setup entry (call_code setup depth) routine calling inside),
         )

@@ -30,6 +30,7 @@ use Rattle.zpl_lowering.specs.Lowered.{behind}
 use Rattle.zpl_lowering.specs.Program.{Entry, body_code, reads_round, in_call, routine_code, call_code, region_rows, global_numbers, globals_made, first_next, entry_calling, entry_code, lowered_program}
 use Rattle.zpl_lowering.specs.Tables.{flat_tables, unshared_tables}
 use Rattle.lowering_sizes.specs.Sizes.{HoldsItsWords}
+use Rattle.lowering_fits.specs.Whole.{body_frames}
 use Rattle.lowering_sizes.proofs.Costs.{cost, no_text}
 use Rattle.lowering_sizes.proofs.Weights.{rows_weight}
 use Rattle.lowering_sizes.proofs.LaidOut.{weight, tables_size}
@@ -67,14 +68,15 @@ entry_most text one setup frame three there narrow (suc depth) next =
         let calling = entry_calling setup.program frame in
         let entry : Entry = record { clears = false; line = calling.line } in
         let inside = in_call (reads_round setup.program routine) next in
+        let last = body_frames setup entry routine calling inside in
         omega (
           arith,
           entered_most text (weight text) (weight_measures text) setup entry (call_code setup depth)
               routine calling inside
               (expanded setup.program (own_cost text setup.program) (suc depth) routine) three narrow
-              (λ frame after narrow.
-              lowered_body_cost text one setup depth (call_code setup depth) routine calling frame after
-              three narrow (there routine refl) (call_weight_most text one setup three every depth)),
+              (λ narrow.
+              lowered_body_cost text one setup depth (call_code setup depth) routine calling last.frame
+              last.next three narrow (there routine refl) (call_weight_most text one setup three every depth)),
           out_weight text (body_code setup entry (call_code setup depth) routine calling inside),
         )
 

@@ -10,9 +10,11 @@ ghost use Rattle.zpl_names.specs.Accepted.{IsFaultless};
 ghost use Rattle.zpl_names.specs.Expansion.{other_size, plain_assignments, source_size};
 ghost use Rattle.zpl_binding.specs.Settings.{Setting};
 ghost use Rattle.code_parts.specs.Counts.{code_size, count_of, is_counted};
-ghost use Rattle.zpl_lowering.specs.Tables.{flat_tables};
+ghost use Rattle.zpl_lowering.specs.Program.{lowered_program};
+ghost use Rattle.zpl_lowering.specs.Tables.{flat_tables, rows_of};
 ghost use Rattle.lowering_sizes.specs.Sizes.{HasTokens, HoldsItsWords};
 ghost use Rattle.lowering_sizes.specs.Texts.{texts_of};
+ghost use Rattle.lowering_sizes.specs.Themselves.{rows_on_themselves};
 
 use zpl_grammar::words_fit_their_text;
 
@@ -35,13 +37,15 @@ pub fn texts_are_strings()
         sum_by length texts ≤ length program.source + 1 }
 {}
 
-/// Of its rows, those that statements are made of are at most one for each plain assignment, and 32
-/// for each token, parameter and local name that stands in none, where there are at least as many
-/// tokens as words that the tree is written as.
+/// Of its rows, those that statements are made of, and two more for each loop that reads with a
+/// shift what it puts, are at most one for each plain assignment, and 32 for each token, parameter
+/// and local name that stands in none, where there are at least as many tokens as words that the
+/// tree is written as.
 pub fn counted()
     ensures { (program : Program) (settings : List Setting) (tokens : ℕ) → IsFaultless program →
         HasTokens program tokens →
-        count_of is_counted (flat_tables program settings) ≤
+        count_of is_counted (flat_tables program settings) +
+        2 * rows_on_themselves (rows_of (lowered_program program settings)) ≤
         plain_assignments program + 32 * (other_size program tokens + 1) }
 {}
 

@@ -13,6 +13,7 @@ use Rattle.compiled_sizes.specs.Lowered.{IsLowered}
 use Rattle.compiled_sizes.proofs.BaseLemmas.{members_once, none_unflat, shifts_once}
 use Rattle.compiled_sizes.proofs.PassLemmas.{IsEnded, all_compiled}
 use Rattle.compiled_sizes.proofs.PreparedLemmas.{normal_twice}
+use Rattle.compiled_sizes.proofs.ThemselvesLemmas.{themselves_read}
 use Rattle.compiled_sizes.proofs.laws.compiled_code_is_small.Goals as goal
 
 ended : (build : Build) (program : Program) → IsLowered build program →
@@ -37,13 +38,13 @@ small build program is =
 few : (build : Build) (program : Program) (tokens : ℕ) → IsLowered build program →
     HasTokens program tokens →
     count_of is_counted (compiled build program) ≤
-    plain_assignments program + (32 * (other_size program tokens + 1)
-    + 2 * loops_on_themselves (flat_tables program build.settings))
+    plain_assignments program + 32 * (other_size program tokens + 1)
 few build program tokens is fit =
     omega (
       arith,
       (ended build program is).few_rows,
       count_law program build.settings tokens is.faultless fit,
+      themselves_read program build.settings is.flat,
     )
 
 pub returns : goal.returns
