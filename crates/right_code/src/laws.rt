@@ -13,7 +13,7 @@ ghost use Rattle.zpl_claims.specs.Bound.{EndsInBound};
 ghost use Rattle.zpl_claims.specs.Build.{Build, OverAllLinks};
 ghost use Rattle.zpl_claims.specs.Good.{IsGood};
 ghost use Rattle.zpl_claims.specs.LockStep.{HasLockSteps};
-ghost use Rattle.zpl_claims.specs.Compiled.{IsCompiled};
+ghost use Rattle.zpl_claims.specs.Compiled.{IsCompiled, IsFaithful};
 ghost use Rattle.zpl_claims.specs.Origin.{origin_of};
 ghost use Rattle.zpl_compile.specs.Compile.{compiled};
 ghost use Rattle.compiled_tidy.specs.Accepted.{IsAcceptedText};
@@ -81,22 +81,12 @@ pub fn code_of_shown_programs_is_right()
 }
 
 /// So is that of a text, all of whose statements are of such forms (`HasShownForms`), whatever its
-/// numbers are. All that is claimed of code (`IsCompiled`) holds of it where it is tidy as
-/// `IsLaidTidily` asks for.
+/// numbers are (`faithful`). All that is claimed of code (`IsCompiled`) holds of it where it is
+/// tidy as `IsLaidTidily` asks for.
 pub fn code_of_shown_texts_is_right()
-    ensures in_step { (text : List ℕ) (tokens : List Token) (program : Program) (build : Build) →
+    ensures faithful { (text : List ℕ) (tokens : List Token) (program : Program) (build : Build) →
         IsAcceptedText text tokens program build → IsGrid build.grid → HasShownForms program →
-        OverAllLinks build (λ links.
-        HasLockSteps (compiled build program) links (mean_of program build.settings)) }
-    ensures good { (text : List ℕ) (tokens : List Token) (program : Program) (build : Build) →
-        IsAcceptedText text tokens program build → IsGrid build.grid → HasShownForms program →
-        OverAllLinks build (λ links.
-        IsGood (compiled build program) links (mean_of program build.settings)) }
-    ensures in_time { (text : List ℕ) (tokens : List Token) (program : Program) (build : Build) →
-        IsAcceptedText text tokens program build → IsGrid build.grid → HasShownForms program →
-        OverAllLinks build (λ links.
-        EndsInBound (compiled build program) links (mean_of program build.settings)
-        (steps_of program build.settings) (shattered_loops program)) }
+        IsFaithful (origin_of build program (length tokens)) (compiled build program) }
     ensures compiled { (text : List ℕ) (tokens : List Token) (program : Program) (build : Build) →
         IsAcceptedText text tokens program build → IsGrid build.grid → HasShownForms program →
         IsLaidTidily (origin_of build program (length tokens)) →

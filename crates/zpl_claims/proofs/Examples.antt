@@ -76,12 +76,12 @@ size_limit = refl
 -- padded with a million slots, or scalars
 million_slots : (code : Tables) → length code.slots ≡ 1000000 → ¬ IsTidy origin code
 million_slots code many tidy =
-    let small : code_size code ≤ 58368 = subst (λ n. code_size code ≤ n) size_limit tidy.small in
+    let small : code_size code ≤ 58368 = subst (λ n. code_size code ≤ n) size_limit tidy.lean.small in
     absurd (omega (arith, small, many))
 
 million_scalars : (code : Tables) → code.scalars ≡ 1000000 → ¬ IsTidy origin code
 million_scalars code many tidy =
-    let small : code_size code ≤ 58368 = subst (λ n. code_size code ≤ n) size_limit tidy.small in
+    let small : code_size code ≤ 58368 = subst (λ n. code_size code ≤ n) size_limit tidy.lean.small in
     absurd (omega (arith, small, many))
 
 -- with one array more, such as one far away for whose sake one processor owns all others
@@ -89,6 +89,6 @@ far_array : (code : Tables) (far : ArrayBox) → map box_of (stored code.arrays)
     → ¬ IsTidy origin code
 far_array code far more tidy =
     let same : far ∷ boxes ≡ boxes =
-    sym more ∙ ap (λ (a : Arrangement). a.boxes) tidy.laid_out ∙ boxes_of_calls in
+    sym more ∙ tidy.boxes ∙ boxes_of_calls in
     let six : 6 ≡ 5 = ap length same in
     absurd (omega (arith, six))

@@ -9,10 +9,14 @@ use Rattle.zpl_claims.specs.Bound.{EndsInBound}
 use Rattle.zpl_claims.specs.Tidy.{IsTidy}
 
 -- Over all links that it is built for the code is right after every order of turns, has an order in
--- step for every bound, and comes to its end in time where the meaning ends; and it is tidy.
-pub record IsCompiled (origin : Origin) (code : Tables) : Type 0 where
+-- step for every bound, and comes to its end in time where the meaning ends.
+pub record IsFaithful (origin : Origin) (code : Tables) : Type 0 where
   pub good : OverAllLinks origin.build (λ links. IsGood code links origin.mean)
   pub in_step : OverAllLinks origin.build (λ links. HasLockSteps code links origin.mean)
   pub in_time : OverAllLinks origin.build (λ links.
       EndsInBound code links origin.mean origin.steps (shattered_loops origin.program))
+
+-- And it is tidy.
+pub record IsCompiled (origin : Origin) (code : Tables) : Type 0 where
+  pub faithful : IsFaithful origin code
   pub tidy : IsTidy origin code

@@ -5,5 +5,4 @@ pub mod Compiled
 pub mod Good
 pub mod LockStep
 pub mod Origin
-pub mod Small
 pub mod Tidy

@@ -14,23 +14,27 @@ use Rattle.code_parts.specs.Fused.{IsFused}
 use Rattle.code_parts.specs.Needs.{IsUndecided}
 use Rattle.zpl_claims.specs.Origin.{Origin}
 
--- The grid is the one that is asked for, and the stored arrays are the program's, in their order,
--- with their storages and fringes. The size is at most a multiple of the source with its calls
+-- The grid is the one that is asked for. The size is at most a multiple of the source with its calls
 -- expanded. Rows other than checks, exchanges, votes and traps are at most one for each plain
 -- assignment, and so many for each token, parameter and local name that stands in none. There are
--- no more votes than loops. No check is left that always passes. And for each optimisation that is
--- asked for the code is free of what it leaves out.
-pub record IsTidy (origin : Origin) (code : Tables) : Type 0 where
-  pub laid_out : arrangement_of code ≡
-      record { grid = origin.build.grid; boxes = origin.boxes }
+-- no more votes than loops. No check is left that always passes. And for each optimisation but
+-- `fuse` that is asked for the code is free of what it leaves out.
+pub record IsLean (origin : Origin) (code : Tables) : Type 0 where
+  pub grid : code.grid ≡ origin.build.grid
   pub small : code_size code ≤ 512 * (source_size origin.program + 1)
   pub few : count_of is_counted code ≤
       plain_assignments origin.program + 64 * (other_size origin.program origin.tokens + 1)
   pub votes : count_of is_vote code ≤ count_of is_loop code
   pub undecided : IsUndecided code
-  pub fused : origin.build.options.fuse ≡ true → IsFused code
   pub contracted : origin.build.options.contract ≡ true → IsContracted code
   pub not_redundant : origin.build.options.redundant ≡ true → HasNoRepeats code
   pub merged : origin.build.options.merge ≡ true → IsMerged code
   pub early : origin.build.options.early ≡ true → IsEarly origin.build.links code
   pub by_trees : origin.build.options.tree ≡ true → GoesByTrees code
+
+-- The stored arrays are the program's besides, in their order, with their storages and fringes; and
+-- with `fuse` no loops are left that could be one.
+pub record IsTidy (origin : Origin) (code : Tables) : Type 0 where
+  pub lean : IsLean origin code
+  pub boxes : (arrangement_of code).boxes ≡ origin.boxes
+  pub fused : origin.build.options.fuse ≡ true → IsFused code

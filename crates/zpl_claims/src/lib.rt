@@ -4,8 +4,6 @@
 //! The definitions stand in `specs/`; what runs is elsewhere.
 #![tactic(auto)]
 
-mod limits;
 mod options;
 
-pub use limits::MOST_LOOPS;
 pub use options::Options;

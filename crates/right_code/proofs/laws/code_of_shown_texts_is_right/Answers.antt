@@ -1,11 +1,13 @@
-use Rattle.std.proofs.Common.{List, ℕ}
+use Rattle.std.proofs.Common.{List, ℕ, length}
 use Rattle.zpl_text.specs.declared.tokens.Token.{Token}
 use Rattle.zpl_tree.specs.Syntax.{Program}
 use Rattle.node_form.specs.Grid.{IsGrid}
 use Rattle.shown_programs.specs.Text.{IsShownProgram}
 use Rattle.shown_texts.specs.Forms.{HasShownForms}
 use Rattle.zpl_claims.specs.Build.{Build}
+use Rattle.zpl_claims.specs.Compiled.{IsFaithful}
 use Rattle.zpl_claims.specs.Origin.{origin_of}
+use Rattle.zpl_compile.specs.Compile.{compiled}
 use Rattle.compiled_tidy.specs.Accepted.{IsAcceptedText}
 use Rattle.compiled_tidy.proofs.AcceptedLemmas.{grammar_of}
 use Rattle.right_code.specs.Accepted.{IsAccepted}
@@ -13,24 +15,12 @@ use Rattle.right_code.proofs.laws.code_of_shown_texts_is_right.Goals as goal
 
 pub returns : goal.returns
 returns c = record {
-  in_step = λ text tokens program build accepted grid forms.
-      c.code_of_shown_programs_is_right.ensures.in_step program build
-      (is text tokens program build accepted grid) (shown text tokens program build accepted forms);
-  good = λ text tokens program build accepted grid forms.
-      c.code_of_shown_programs_is_right.ensures.good program build
-      (is text tokens program build accepted grid) (shown text tokens program build accepted forms);
-  in_time = λ text tokens program build accepted grid forms.
-      c.code_of_shown_programs_is_right.ensures.in_time program build
-      (is text tokens program build accepted grid) (shown text tokens program build accepted forms);
-  compiled = λ text tokens program build accepted grid forms laid.
-      let one = is text tokens program build accepted grid in
-      let shows = shown text tokens program build accepted forms in
-      record {
-        good = c.code_of_shown_programs_is_right.ensures.good program build one shows;
-        in_step = c.code_of_shown_programs_is_right.ensures.in_step program build one shows;
-        in_time = c.code_of_shown_programs_is_right.ensures.in_time program build one shows;
-        tidy = c.accepted_code_is_tidy.ensures.tidy text tokens program build accepted laid;
-      };
+  faithful = λ text tokens program build accepted grid forms.
+      faithful text tokens program build accepted grid forms;
+  compiled = λ text tokens program build accepted grid forms laid. record {
+    faithful = faithful text tokens program build accepted grid forms;
+    tidy = c.accepted_code_is_tidy.ensures.tidy text tokens program build accepted laid;
+  };
 }
   where
     is : (text : List ℕ) (tokens : List Token) (program : Program) (build : Build)
@@ -50,3 +40,15 @@ returns c = record {
     shown text tokens program build accepted forms =
         c.texts_of_shown_forms_are_shown.ensures text tokens program build.settings
         accepted.are_tokens accepted.tree forms
+
+    faithful : (text : List ℕ) (tokens : List Token) (program : Program) (build : Build)
+        → IsAcceptedText text tokens program build → IsGrid build.grid → HasShownForms program
+        → IsFaithful (origin_of build program (length tokens)) (compiled build program)
+    faithful text tokens program build accepted grid forms =
+        let one = is text tokens program build accepted grid in
+        let shows = shown text tokens program build accepted forms in
+        record {
+          good = c.code_of_shown_programs_is_right.ensures.good program build one shows;
+          in_step = c.code_of_shown_programs_is_right.ensures.in_step program build one shows;
+          in_time = c.code_of_shown_programs_is_right.ensures.in_time program build one shows;
+        }
