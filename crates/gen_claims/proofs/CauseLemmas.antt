@@ -4,7 +4,6 @@ use Rattle.std.proofs.Common.{refl, sym, ◌∙◌, ap, subst, inl, inr, arith}
 use Rattle.std.specs.Str.Parse.{digits_value}
 use Rattle.zpl_nums.specs.declared.ends.End.TheVariants.{Done, Trap}
 use Rattle.node_form.specs.declared.tables.Tables.{Tables}
-use Rattle.grid_layout.specs.Layout.{Arrangement}
 use Rattle.grid_meaning.specs.Grid.{EndsAs}
 use Rattle.grid_runs.specs.Run.{IsLimitedAt, Run, grid_at}
 use Rattle.zpl_claims.specs.Build.{Build}
@@ -21,7 +20,6 @@ use Rattle.exec_claims.proofs.OneCause.{run_one}
 use Rattle.list_claims.specs.Cause.{TextFault}
 use Rattle.list_claims.specs.Cause.TextFault.{refused, unbound}
 use Rattle.list_claims.specs.Code.{IsCodeOf}
-use Rattle.list_claims.specs.Code.IsCodeOf.{of_small, of_other}
 use Rattle.program_texts.specs.Text.{drawn_program}
 use Rattle.gen_claims.specs.Cause.{Cause, GenCause, Gens}
 use Rattle.gen_claims.specs.Cause.Cause.{no_memory, gen}
@@ -90,9 +88,7 @@ not_five (a ∷ b ∷ c ∷ d ∷ more) grid next rest e = λ same.
 -- code is for the grid that it was built for
 pub grid_of_code : {text : List ℕ} {build : Build} {code : Tables} → IsCodeOf text build code
     → code.grid ≡ build.grid
-grid_of_code (of_small small) =
-    ap (λ (a : Arrangement). a.grid) small.compiled.tidy.laid_out
-grid_of_code (of_other other) = ap (λ (t : Tables). t.grid) other.compiled.is
+grid_of_code of_text = ap (λ (t : Tables). t.grid) of_text.compiled.is
 
 -- ---- the last run, where all ended normally
 same_code : (code other : Tables) → Some code ≡ Some other → code ≡ other

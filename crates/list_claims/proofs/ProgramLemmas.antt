@@ -12,7 +12,6 @@ use Rattle.list_claims.specs.Decided.{HasNoProgramIn, HasUnboundIn}
 use Rattle.call_claims.specs.Execution.{Execution, HasNoRun}
 use Rattle.list_claims.specs.Refusal.{HasUnbound, IsRefused}
 use Rattle.list_claims.specs.Code.{HasNoProgram, IsCodeOf}
-use Rattle.list_claims.specs.Code.IsCodeOf.{of_small, of_other}
 use Rattle.call_claims.specs.Source.{Source}
 use Rattle.call_claims.specs.declared.status.TheConstants.{TOO_LONG, REFUSED, UNBOUND, UNREADABLE}
 
@@ -27,12 +26,11 @@ one_made execution {code} {other} e f = let same : Some code ≡ Some other = sy
 -- code is made of texts without such faults
 pub has_program : {text : List ℕ} {build : Build} {code : Tables}
     → IsCodeOf text build code → ¬ HasNoProgram text build
-has_program (of_small of_text) none = none.none of_text.program of_text.small
-has_program (of_other of_text) none = none.no_other of_text.program of_text.accepted
+has_program of_text none = none of_text.program of_text.accepted
 
 -- ---- what is wrong with a text
 module _ {text : List ℕ} {build : Build} where
-  fault_none : {n : ℕ} {told : List ℕ} → TextFault text build n told → HasNoProgram text build
+  pub fault_none : {n : ℕ} {told : List ℕ} → TextFault text build n told → HasNoProgram text build
   fault_none (refused told is) = is.none
   fault_none (unbound told is) = is.none
 

@@ -26,13 +26,13 @@ HasUnboundIn call file build =
 
 -- ---- list FILE: each status comes just where its own cause is
 pub record IsExact (call : Call) (execution : Execution) (status : ℕ) : Type 0 where
-  -- 0: the words list a file, and code was made
+  -- 0: the words list a file, and code was made (and then out took its whole listing)
   pub done : IsDecided status
       → (status ≡ DONE) ↔ Lists call (λ file asked. HasCode execution)
   -- 3: they list one that tells a text that is too long
   pub too_long : IsSettled call status
       → (status ≡ TOO_LONG) ↔ Lists call (λ file asked. IsTooLong call file)
-  -- 4: they list one whose text has no program
+  -- 4: they list one whose text has no program, with nothing wrong in what it is built for
   pub refused : IsSettled call status
       → (status ≡ REFUSED) ↔ Lists call (λ file asked. HasNoProgramIn call file (build_of asked))
   -- 5: they list one for no grid, with a fault of settings or declarations, or without room

@@ -3,3 +3,4 @@ pub mod Code
 pub mod Decided
 pub mod Listing
 pub mod Refusal
+pub mod Whole

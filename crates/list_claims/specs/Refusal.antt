@@ -33,7 +33,7 @@ pub data IsCodeless (text : List ℕ) (build : Build) : List ℕ → Type 0 wher
 -- Something is wrong with what it is built for, and this is told of it: the grid is none; or it is
 -- one, the text is accepted, and its settings, or its declarations under them, have a fault; or
 -- they have none, the program isn't too much to compile, and what the processors of the grid would
--- hold of its arrays is.
+-- hold of the arrays in its compiled tables is.
 pub data IsSetWrong (text : List ℕ) (build : Build) : List ℕ → Type 0 where
   bad_shape : ¬ IsGrid build.grid → IsSetWrong text build bad_shape_text
   declared : (program : Program) (fault : BindFault) → IsGrid build.grid

@@ -1,9 +1,12 @@
 //! The law of causes.
 ghost use Rattle.std.specs.Prelude.{ℕ, List};
 ghost use Rattle.call_claims.specs.Call.{call_of};
+ghost use Rattle.call_claims.specs.Command.{Asked, IsList};
+ghost use Rattle.call_claims.specs.Decided.{IsSettled};
 ghost use Rattle.call_claims.specs.Execution.{Execution};
 ghost use Rattle.list_claims.specs.Cause.{Cause};
 ghost use Rattle.list_claims.specs.Decided.{IsExact};
+ghost use Rattle.list_claims.specs.Whole.{CanList, HasListed};
 
 use zpl_io::Files;
 
@@ -14,4 +17,16 @@ pub fn list_statuses_are_exact<F: Files>()
         let call = call_of words (F.tells files) (F.may_fail files)
         (F.may_fail_later files) in
         Cause call ran n told → IsExact call ran n }
+{}
+
+/// A call of `list` whose file tells an accepted program has listed it: code was made of the file's
+/// text, and the status is that of work that was done, where it has its cause, memory wasn't
+/// wanting, no put and no fetch failed, and the files tell one text a name.
+pub fn accepted_programs_are_listed<F: Files>()
+    ensures { (files : F) (words : List (List ℕ)) (ran : Execution) (status : ℕ) (told : List ℕ) →
+        let call = call_of words (F.tells files) (F.may_fail files)
+        (F.may_fail_later files) in
+        Cause call ran status told → IsSettled call status → (file : List ℕ) (asked : Asked) →
+        IsList words file asked → CanList call file asked →
+        HasListed call file asked ran status }
 {}

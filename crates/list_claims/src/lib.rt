@@ -6,7 +6,5 @@
 #![tactic(auto)]
 
 mod laws;
-mod limits;
 
-pub use laws::list_statuses_are_exact;
-pub use limits::MOST_TOKENS;
+pub use laws::{accepted_programs_are_listed, list_statuses_are_exact};

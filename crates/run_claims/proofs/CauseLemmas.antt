@@ -15,9 +15,9 @@ use Rattle.call_claims.specs.declared.status.TheConstants.{DONE, UNREADABLE, TOO
 use Rattle.call_claims.specs.declared.status.TheConstants.{UNBOUND, TRAPPED, TURN_LIMIT, NO_MEMORY}
 use Rattle.list_claims.proofs.ProgramLemmas.{IsOther, fault_other, none_made, one_made, refused_of}
 use Rattle.list_claims.proofs.ProgramLemmas.{unbound_of, was_refused_in, was_too_long_in, was_unbound_in}
-use Rattle.call_claims.specs.Command.{Asked, IsRun, RunTakes, build_of, limit_of}
-use Rattle.list_claims.specs.Code.{HasNoSmall, IsCodeOf, IsSmallCode}
-use Rattle.list_claims.specs.Code.IsCodeOf.{of_small, of_other}
+use Rattle.call_claims.specs.Command.{Asked, IsRun, RunTakes, build_of}
+use Rattle.list_claims.specs.Code.{IsCodeOf}
+use Rattle.shown_texts.specs.Forms.{HasShownForms}
 use Rattle.call_claims.proofs.MetLemmas.{is_met}
 use Rattle.call_claims.proofs.OneLemmas.{as_asked}
 use Rattle.exec_claims.specs.Cause.{OrderCause, OrderFileCause, RunCause, run_of}
@@ -36,7 +36,7 @@ use Rattle.exec_claims.proofs.OrderExact.{bad_order_file, long_order, was_bad_or
 use Rattle.run_claims.specs.Cause.{Cause, RunFileCause, Runs}
 use Rattle.run_claims.specs.Cause.Cause.{no_memory, run}
 use Rattle.run_claims.specs.Decided.{HasCodeOf, HasLongFile, IsCutShort, IsExact, IsStopped}
-use Rattle.run_claims.specs.Decided.{IsTooFewFor, IsUnder}
+use Rattle.run_claims.specs.Decided.{IsUnder}
 use Rattle.run_claims.proofs.CodeLemmas.{Laws, never_idle, never_stuck, too_few}
 
 -- ---- statuses of orders and of runs
@@ -264,27 +264,20 @@ module _ (call : Call) (ex : Execution) where
       }
 
   module _ (laws : Laws) where
-    -- the code of a small program is never stuck
-    small_goes_on : {text : List ℕ} {code : Tables} (asked : Asked)
-        → IsSmallCode text (build_of asked) code → IsCapacity asked.links
-        → (u : IsUnder call asked ex.turns IsStuckOrIdleAt code) → ⊥
-    small_goes_on asked of_text met u = elim u.holds [
-      | inl is ↦ never_stuck laws of_text asked met u.text u.order u.read ex.turns is.0 is.1 is.2
-      | inr is ↦ never_idle laws of_text asked met u.text u.order u.read ex.turns is.0 is.1
+    -- the code of a program with the forms that are proved is never stuck
+    goes_on : {text : List ℕ} {code : Tables} (asked : Asked)
+        → (of_text : IsCodeOf text (build_of asked) code) → HasShownForms of_text.program
+        → IsCapacity asked.links → IsUnder call asked ex.turns IsStuckOrIdleAt code → ⊥
+    goes_on asked of_text shown met u = elim u.holds [
+      | inl is ↦ never_stuck laws asked of_text shown met u.text u.order u.read ex.turns is.0 is.1 is.2
+      | inr is ↦ never_idle laws asked of_text shown met u.text u.order u.read ex.turns is.0 is.1
     ]
-
-    -- so the text of code that is has no small program
-    no_small_of : {text : List ℕ} {code : Tables} (asked : Asked) → IsCapacity asked.links
-        → IsUnder call asked ex.turns IsStuckOrIdleAt code → IsCodeOf text (build_of asked) code
-        → HasNoSmall text (build_of asked)
-    no_small_of asked met u (of_small of_text) = absurd (small_goes_on asked of_text met u)
-    no_small_of asked met u (of_other of_text) = of_text.none
 
     stopped : (file : List ℕ) (asked : Asked) → IsRun call.words file asked
         → Under IsStuckOrIdleAt file asked → IsStopped call file asked ex
     stopped file asked given h = record {
       of_code = h;
-      no_small = no_small_of asked (is_met given.worded).links h.holds h.of_text;
+      not_shown = λ shown. goes_on asked h.of_text shown (is_met given.worded).links h.holds;
     }
 
     stuck_of : {n : ℕ} {told : List ℕ} → Cause call ex n told → n ≡ STUCK
@@ -294,20 +287,13 @@ module _ (call : Call) (ex : Execution) where
         (run_to STUCK IsStuckOrIdleAt is_stuck (λ a report k m t. run_stuck a report k)
         file asked c e))
 
-    too_few_of : {text : List ℕ} {code : Tables} (asked : Asked) → IsCapacity asked.links
-        → IsUnder call asked ex.turns IsLimitedAt code
-        → (of_text : IsCodeOf text (build_of asked) code)
-        → IsTooFewFor (limit_of asked) of_text
-    too_few_of asked met u (of_small of_text) =
-        too_few laws of_text asked met u.text u.order u.read ex.turns u.holds
-    too_few_of asked met u (of_other of_text) = tt
-
     cut_short : (file : List ℕ) (asked : Asked)
         → IsRun call.words file asked → Under IsLimitedAt file asked
         → IsCutShort call file asked ex
     cut_short file asked given h = record {
       of_code = h;
-      too_few = too_few_of asked (is_met given.worded).links h.holds h.of_text;
+      too_few = λ shown. too_few laws asked h.of_text shown (is_met given.worded).links h.holds.text
+          h.holds.order h.holds.read ex.turns h.holds.holds;
     }
 
 pub exactly : (call : Call) (ex : Execution) → Laws → (n : ℕ) (told : List ℕ)

@@ -1,10 +1,11 @@
--- Runs of the code of small programs: they are never stuck nor idle, and come to their end in time.
-use Rattle.std.proofs.Common.{◌≡◌, ℕ, false, true, zero, suc, ◌+◌, ◌-◌, ◌<◌, ◌≤◌, List, [], ◌∷◌, ◌++◌, length, Option, All}
-use Rattle.std.proofs.Common.{Ok, sym, ◌∙◌, ap, subst, inl, arith, add-zero, add-suc}
+-- Runs of faithful code: they are never stuck nor idle, and come to their end in time.
+use Rattle.std.proofs.Common.{◌≡◌, ℕ, zero, suc, ◌+◌, ◌-◌, ◌<◌, ◌≤◌, List, [], ◌∷◌, ◌++◌, length, Option, Some, None, All}
+use Rattle.std.proofs.Common.{Ok, sym, subst, inl, arith, add-zero, add-suc}
 use Rattle.std.proofs.lemmas.List.Elements.{All-head, All-tail}
 use Rattle.node_form.specs.declared.tables.Tables.{Tables}
-use Rattle.zpl_claims.specs.Build.{Build, IsBuiltFor}
-use Rattle.grid_layout.specs.Layout.{Arrangement}
+use Rattle.zpl_claims.specs.Build.{HoldAsMany, IsBuiltFor}
+use Rattle.zpl_claims.specs.Compiled.{IsFaithful}
+use Rattle.zpl_claims.specs.Good.{IsRight}
 use Rattle.zpl_meaning.specs.Program.{mean_of, steps_of}
 use Rattle.zpl_names.specs.Expansion.{shattered_loops}
 use Rattle.zpl_claims.specs.Bound.{turn_bound}
@@ -13,8 +14,10 @@ use Rattle.grid_meaning.specs.Grid.{processors, after, IsOver, IsCapacity}
 use Rattle.grid_meaning.specs.Order.{IsOrder, given, turn_number}
 use Rattle.grid_order.specs.Reading.{reading}
 use Rattle.grid_runs.specs.Run.{grid_at, IsIdleAt, IsLimitedAt, IsStuckAt}
-use Rattle.list_claims.specs.Code.{IsSmallCode}
-use Rattle.call_claims.specs.Command.{Asked, limit_of}
+use Rattle.list_claims.specs.Code.{IsCodeOf, origin_for}
+use Rattle.shown_texts.specs.Forms.{HasShownForms}
+use Rattle.needs_runs.proofs.HoldsLemmas.{some_processors}
+use Rattle.call_claims.specs.Command.{Asked, build_of, limit_of}
 use Rattle.exec_claims.specs.Cause.{run_of}
 use Rattle.run_claims.specs.Decided.{IsTooFew}
 
@@ -69,27 +72,23 @@ the_rest : (few bound limit k : ℕ) → bound ≤ limit → k ≡ few + limit
     → few + bound + (limit - bound) ≡ k
 the_rest few bound limit k within all = omega arith
 
--- code of a small program is for one processor, without optimisations
-alone_of : {text : List ℕ} {build : Build} {code : Tables} → IsSmallCode text build code
-    → processors code ≡ 1
-alone_of {code = code} of_text =
-    ap (λ (a : Arrangement). processors (record code { grid = a.grid })) of_text.compiled.tidy.laid_out
-    ∙ ap (λ (b : Build). processors (record code { grid = b.grid })) of_text.small.plain
+-- the links that the words ask for are those that the code is for
+many_enough : (links : Option ℕ) → HoldAsMany links links
+many_enough None = tt
+many_enough (Some capacity) = omega arith
 
--- so it is for all links
-built_for : {text : List ℕ} {build : Build} {code : Tables} → IsSmallCode text build code
-    → (links : Option ℕ) → IsCapacity links → IsBuiltFor build links
-built_for of_text links capacity = (
-  capacity,
-  λ early. absurd (let no : false ≡ true =
-      sym (ap (λ (b : Build). b.options.early) of_text.small.plain) ∙ early in cc),
-)
+module _ (laws : Laws) {text : List ℕ} {code : Tables} (asked : Asked)
+    (of_text : IsCodeOf text (build_of asked) code) (shown : HasShownForms of_text.program)
+    (capacity : IsCapacity asked.links) (more : List ℕ) (order : List ℕ)
+    (read : reading (processors code) more ≡ Ok order) where
+  faithful : IsFaithful (origin_for of_text.accepted) code
+  faithful = of_text.faithful shown
 
-module _ (laws : Laws) {text : List ℕ} {build : Build} {code : Tables}
-    (of_text : IsSmallCode text build code) (asked : Asked) (capacity : IsCapacity asked.links)
-    (more : List ℕ) (order : List ℕ) (read : reading (processors code) more ≡ Ok order) where
+  built_for : IsBuiltFor (build_of asked) asked.links
+  built_for = (capacity, λ early. many_enough asked.links)
+
   some_there : 0 < processors code
-  some_there = omega (arith, alone_of of_text)
+  some_there = some_processors code
 
   is_order : (k : ℕ) → IsOrder (processors code) (given order (processors code) k)
   is_order k = laws.orders order (processors code) k some_there
@@ -100,10 +99,14 @@ module _ (laws : Laws) {text : List ℕ} {build : Build} {code : Tables}
       last_of (λ p. p < processors code) (given order (processors code) k)
       (turn_number order (processors code) k) (is_order (suc k))
 
+  pub right_at : (k : ℕ)
+      → IsRight code asked.links (mean_of of_text.program (build_of asked).settings
+      (length (given order (processors code) k))) (grid_at (run_of code asked order) k)
+  right_at k = faithful.good asked.links built_for (given order (processors code) k) (is_order k)
+
   pub never_stuck : (k p : ℕ) (kind : StuckKind) → ¬ IsStuckAt (run_of code asked order) k p kind
   never_stuck k p kind is =
-      (of_text.compiled.good asked.links (built_for of_text asked.links capacity) (given order (processors code) k)
-      (is_order k)).not_stuck (record {
+      (right_at k).not_stuck (record {
         processor = p;
         there = subst (λ q. q < processors code) (sym is.processor) (is_processor k);
         kind = kind;
@@ -112,20 +115,19 @@ module _ (laws : Laws) {text : List ℕ} {build : Build} {code : Tables}
 
   pub never_idle : (k p : ℕ) → ¬ IsIdleAt (run_of code asked order) k p
   never_idle k p is =
-      (of_text.compiled.good asked.links (built_for of_text asked.links capacity) (given order (processors code) k)
-      (is_order k)).not_idle is.idle
+      (right_at k).not_idle is.idle
 
   -- a grid that isn't over was given fewer turns behind the order than the bound
   pub too_few : (k : ℕ) → IsLimitedAt (run_of code asked order) k
-      → IsTooFew (limit_of asked) code (mean_of of_text.program build.settings)
-      (steps_of of_text.program build.settings) (shattered_loops of_text.program)
+      → IsTooFew (limit_of asked) code (mean_of of_text.program (build_of asked).settings)
+      (steps_of of_text.program (build_of asked).settings) (shattered_loops of_text.program)
   too_few k is = λ n ends.
       let limit : ℕ = limit_of asked in
-      let bound : ℕ = turn_bound code (steps_of of_text.program build.settings)
+      let bound : ℕ = turn_bound code (steps_of of_text.program (build_of asked).settings)
       (shattered_loops of_text.program) n in
       let there : IsOver (after code asked.links
       (given order (processors code) (length order + bound))) =
-      of_text.compiled.in_time asked.links (built_for of_text asked.links capacity) n order ends
+      faithful.in_time asked.links built_for n order ends
       (laws.below (processors code) more order read) in
       not_within bound limit (λ within. is.goes_on (inl
       (subst (λ b. IsOver (grid_at (run_of code asked order) b))

@@ -1,3 +1,4 @@
 pub mod CodeLemmas
 pub mod CauseLemmas
 pub mod RunLemmas
+pub mod WholeLemmas

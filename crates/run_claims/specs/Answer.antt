@@ -13,11 +13,8 @@ use Rattle.exec_claims.specs.Answer as orders
 use Rattle.run_claims.specs.Cause.{Runs}
 
 -- ---- the code and the counts
--- The code is made of the file's text, for the build. That of a small program is over links of every
--- capacity right after every order of turns, some order brings it in step to each bound of the
--- meaning, and it comes to its end in time; and it is tidy. That of any other one is what the
--- program is compiled to. It was not run, or it was run under the order that the words ask for, and
--- the counts are those of its grid after the given turns.
+-- The code is made of the file's text, for the build. It was not run, or it was run under the order
+-- that the words ask for, and the counts are those of its grid after the given turns.
 pub record IsMade (call : Call) (ran : Ran) (file : List ℕ) (asked : Asked) (code : Tables)
     : Type 0 where
   pub made : IsMadeOf call file (build_of asked) code

@@ -3,10 +3,10 @@
 --   IsRunSettled      no put failed, memory wasn't wanting, and the order is one
 --   HasCodeOf         code was made of the file's text
 --   IsUnder           it was run under the order that the words ask for
---   IsTooFew          so few turns that no bound on those of the code is within them
---   IsStopped         the code, which is no small program's, is stuck, or none of its processors moves
+--   IsTooFew          fewer turns than the bound on those of the code, wherever the meaning ends
+--   IsStopped         the code is stuck, or none of its processors moves
 --   IsExact           each status comes just where its own cause is
-use Rattle.std.specs.Prelude.{◌≡◌, ◌≢◌, ◌⊎◌, ◌↔◌, ℕ, ◌<◌, List, Some, Ok, ⊤}
+use Rattle.std.specs.Prelude.{◌≡◌, ◌≢◌, ◌⊎◌, ◌↔◌, ℕ, ◌<◌, List, Some, Ok}
 use Rattle.zpl_nums.specs.declared.ends.End.TheVariants.{More}
 use Rattle.node_form.specs.declared.tables.Tables.{Tables}
 use Rattle.zpl_claims.specs.Build.{Build}
@@ -21,8 +21,8 @@ use Rattle.call_claims.specs.Cause.{IsTooLong}
 use Rattle.list_claims.specs.Decided.{HasNoProgramIn, HasUnboundIn}
 use Rattle.call_claims.specs.Decided.{IsDecided, IsSettled}
 use Rattle.call_claims.specs.Execution.{Execution}
-use Rattle.list_claims.specs.Code.{HasNoSmall, IsCodeOf}
-use Rattle.list_claims.specs.Code.IsCodeOf.{of_small, of_other}
+use Rattle.list_claims.specs.Code.{IsCodeOf}
+use Rattle.shown_texts.specs.Forms.{HasShownForms}
 use Rattle.call_claims.specs.Source.{Source}
 use Rattle.call_claims.specs.declared.status.TheConstants.{DONE, TOO_LONG, REFUSED}
 use Rattle.call_claims.specs.declared.status.TheConstants.{UNBOUND, TRAPPED, TURN_LIMIT}
@@ -72,22 +72,22 @@ abbrev pub IsLast : Run → ℕ → Type 0
 IsLast run k = Stops run k ⊎ (k ≡ turns_in run)
 
 -- ---- too few turns
--- No bound that brings the meaning to its end brings the code to its end within so many turns
--- behind any order.
+-- Wherever the meaning ends within n turns of each loop, so many turns are fewer than the bound for
+-- n.
 abbrev pub IsTooFew : ℕ → Tables → (ℕ → Meaning) → (ℕ → ℕ) → ℕ → Type 0
 IsTooFew limit code mean steps loops =
     (n : ℕ) → (mean n).ending ≢ More → limit < turn_bound code steps loops n
 
--- so where the code is that of a small program
+-- so where the statements of the code's program are of the forms that are proved
 abbrev pub IsTooFewFor : {text : List ℕ} {build : Build} {code : Tables} → ℕ
     → IsCodeOf text build code → Type 0
-IsTooFewFor {build = build} {code = code} limit (of_small of_text) =
-    IsTooFew limit code (mean_of of_text.program build.settings)
+IsTooFewFor {build = build} {code = code} limit of_text =
+    HasShownForms of_text.program → IsTooFew limit code (mean_of of_text.program build.settings)
     (steps_of of_text.program build.settings) (shattered_loops of_text.program)
-IsTooFewFor limit (of_other of_text) = ⊤
 
--- 8: all turns of the order, and all that may follow it, were given, and the run isn't over. Of the
--- code of a small program those that may follow are fewer than the bound wherever the meaning ends.
+-- 8: all turns of the order, and all that may follow it, were given, and the run isn't over. Those
+-- that may follow are fewer than the bound wherever the meaning ends, where the forms of the
+-- program's statements are proved.
 pub record IsCutShort (call : Call) (file : List ℕ) (asked : Asked) (execution : Execution)
     : Type 0 where
   pub of_code : HasCodeOf call file (build_of asked) execution
@@ -95,12 +95,12 @@ pub record IsCutShort (call : Call) (file : List ℕ) (asked : Asked) (execution
   pub too_few : IsTooFewFor (limit_of asked) of_code.of_text
 
 -- ---- 12: a processor is stuck, or none can move
--- The code is that of a program which isn't a small one.
+-- The code is that of a program whose statements aren't all of the forms that are proved.
 pub record IsStopped (call : Call) (file : List ℕ) (asked : Asked) (execution : Execution)
     : Type 0 where
   pub of_code : HasCodeOf call file (build_of asked) execution
       (IsUnder call asked execution.turns IsStuckOrIdleAt)
-  pub no_small : HasNoSmall of_code.source.text (build_of asked)
+  pub not_shown : ¬ HasShownForms of_code.of_text.program
 
 -- ---- 3: the program's file is too long, or that of the order, where code was made
 abbrev pub HasLongFile : Call → List ℕ → Asked → Execution → Type 0
@@ -123,8 +123,8 @@ pub record IsExact (call : Call) (execution : Execution) (status : ℕ) : Type 0
   pub trap : IsRunSettled call status → (status ≡ TRAPPED) ↔ RunsTo call execution IsTrapAt
   pub turn_limit : IsRunSettled call status
       → (status ≡ TURN_LIMIT) ↔ Runs call (λ file asked. IsCutShort call file asked execution)
-  -- 12 never comes of a small program: over links of every capacity its code goes on until it is
-  -- over.
+  -- 12 never comes of a program whose statements are of the forms that are proved: its code goes on
+  -- until it is over.
   pub stuck : IsRunSettled call status
       → (status ≡ STUCK) ↔ Runs call (λ file asked. IsStopped call file asked execution)
   pub never_stuck : status ≡ STUCK

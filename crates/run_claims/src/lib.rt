@@ -7,4 +7,4 @@
 
 mod laws;
 
-pub use laws::{run_causes_are_exact, runs_are_one};
+pub use laws::{run_causes_are_exact, runs_are_one, runs_print_what_is_meant};

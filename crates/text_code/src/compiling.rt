@@ -1,17 +1,15 @@
 //! From the bytes of a text to its node code.
-ghost use Rattle.std.specs.Prelude.{◌≡◌, ◌≤◌, ◌↔◌, [], length, IfOk, IfErr, IfSome, IsTrue};
-ghost use Rattle.std.specs.Prelude.{MatchOption};
+ghost use Rattle.std.specs.Prelude.{◌≡◌, ◌≤◌, length, IfOk, IfErr};
 ghost use Rattle.zpl_text.specs.Tokens.{IsTokens};
 ghost use Rattle.zpl_text.specs.declared.TheConstants.{MOST_SOURCE};
 ghost use Rattle.zpl_tree.specs.View.{syntax_of};
 ghost use Rattle.zpl_grammar.specs.Texts.{IsShallowTree};
 ghost use Rattle.node_form.specs.Grid.{IsGrid};
 ghost use Rattle.code_layout.specs.Room.{HasRoom};
-ghost use Rattle.zpl_claims.specs.Build.{no_options, plain_build};
 ghost use Rattle.bound_texts.specs.Refused.{IsOnlyTree};
 ghost use Rattle.call_claims.specs.Command.{build_of};
 ghost use Rattle.call_words.specs.Reading.{asked_in};
-ghost use Rattle.list_claims.specs.Code.{HasNoSmall, IsCodeOf};
+ghost use Rattle.list_claims.specs.Code.{IsCodeOf};
 ghost use Rattle.call_answers.specs.declared.refusals.Refusal.TheVariants.{NoMemory};
 ghost use Rattle.text_code.specs.Refusals.{answer_for, of_compile, Refuses};
 ghost use Rattle.text_code.specs.declared.compiling.Uncoded.TheVariants.{Refused};
@@ -19,15 +17,13 @@ ghost use Rattle.text_code.specs.declared.compiling.Uncoded.TheVariants.{Refused
 use bound_texts::{accepted_tree, tokens_of, tree_of};
 use bumpalo::Bump;
 use call_answers::{Answer, BuildFault, Refusal};
-use call_words::{Asked, sets_nothing};
-use list_claims::MOST_TOKENS;
+use call_words::Asked;
+use compiled_tidy::accepted_code_is_tidy;
 use lowered_flat::parsed_names_stand_apart;
 use node_form::{NodeProgram, is_grid};
 use program_code::{Build, CompileFault, compile as compile_program};
-use small_code::{CodeFault, code_of_small};
+use right_code::code_of_shown_texts_is_right;
 use std::alloc::{AllocError, Global};
-use zpl_claims::Options;
-use zpl_grammar::words_fit_their_text;
 use zpl_text::{Token, text_is_cut_one_way};
 use zpl_tree::Program;
 
@@ -84,9 +80,8 @@ impl From<CompileFault> for Uncoded {
 
 /// The code of a text as the words ask for it.
 ///
-/// The grid is looked at first, then the text is read. A small program for one processor without
-/// optimisations is compiled by itself. Any other one is judged, bound by the settings and compiled
-/// for the grid. Where its tokens are no text of the grammar, that is told, however many they are.
+/// The grid is looked at first, then the text is read. Its program is judged, bound by the settings
+/// and compiled for the grid.
 pub fn compile(alloc: Global, text: &[u8], asked: Asked<'_>) -> Result<NodeProgram, Uncoded>
     requires { length text.now ≤ MOST_SOURCE }
     ensures code { IfOk result (IsCodeOf text.now (build_of (asked_in asked.entry))) }
@@ -103,7 +98,8 @@ pub fn compile(alloc: Global, text: &[u8], asked: Asked<'_>) -> Result<NodeProgr
     code_of_tree(alloc, &arena, text, tokens.as_slice(), program, asked)
 }
 
-/// The code of a text with these tokens and this tree, as the words ask for it.
+/// The code of a text with these tokens and this tree, as the words ask for it: it is judged, bound
+/// and compiled.
 fn code_of_tree<'a>(
     alloc: Global,
     arena: &'a Bump<Global>,
@@ -122,87 +118,10 @@ fn code_of_tree<'a>(
     ensures refused { IfErr result (Refuses text.now
         (build_of (asked_in asked.entry))) }
 {
-    match code_of_small_tree(alloc, text, tokens, program, asked)? {
-        Some(code) => Ok(code),
-        None => code_of_other_tree(alloc, arena, text, tokens, program, asked),
-    }
-}
-
-/// Whether the words ask for code for one processor without optimisations, and set nothing.
-fn is_plain(asked: Asked<'_>) -> bool
-    ensures { let build = build_of (asked_in asked.entry) in
-        IsTrue result ↔ (build ≡ plain_build build.links []) }
-{
-    asked.factors() == [1, 0, 0] && are_none(asked.chosen()) && sets_nothing(asked.words)
-}
-
-/// Whether none of the optimisations is asked for.
-fn are_none(options: Options) -> bool
-    ensures { IsTrue result ↔ (options ≡ no_options) }
-{
-    !(options.fuse
-        || options.contract
-        || options.redundant
-        || options.merge
-        || options.early
-        || options.tree)
-}
-
-/// The code of a small program that is built for one processor without optimisations, where the
-/// text has one.
-fn code_of_small_tree(
-    alloc: Global,
-    text: &[u8],
-    tokens: &[Token],
-    program: &Program<'_>,
-    asked: Asked<'_>,
-) -> Result<Option<NodeProgram>, AllocError>
-    requires tokens { IsTokens text.now tokens.now }
-    requires tree { IsShallowTree text.now tokens.now (syntax_of program.now) }
-    requires only { IsOnlyTree text.now tokens.now (syntax_of program.now) }
-    ensures code { let build = build_of (asked_in asked.entry) in
-        IfOk result (λ made. MatchOption made (HasNoSmall text.now build)
-        (IsCodeOf text.now build)) }
-    ensures room { IfOk result (λ made. IfSome made HasRoom) }
-{
-    text_is_cut_one_way();
-    words_fit_their_text();
-    if !is_plain(asked) {
-        return Ok(None);
-    }
-    if tokens.len() > MOST_TOKENS {
-        return Ok(None);
-    }
-    match code_of_small(alloc, program) {
-        Ok(code) => Ok(Some(code)),
-        Err(CodeFault::NotBuilt) => Ok(None),
-        Err(CodeFault::NoMemory) => Err(AllocError),
-    }
-}
-
-/// The code of a text that has no small program for what the words ask for: it is judged, bound
-/// and compiled.
-fn code_of_other_tree<'a>(
-    alloc: Global,
-    arena: &'a Bump<Global>,
-    text: &[u8],
-    tokens: &[Token],
-    program: &'a Program<'a>,
-    asked: Asked<'_>,
-) -> Result<NodeProgram, Uncoded>
-    requires short { length text.now ≤ MOST_SOURCE }
-    requires grid { IsGrid (build_of (asked_in asked)).grid }
-    requires none { HasNoSmall text.now (build_of (asked_in asked)) }
-    requires tokens { IsTokens text.now tokens.now }
-    requires tree { IsShallowTree text.now tokens.now (syntax_of program.now) }
-    requires only { IsOnlyTree text.now tokens.now (syntax_of program.now) }
-    ensures code { IfOk result (IsCodeOf text.now (build_of (asked_in asked.entry))) }
-    ensures room { IfOk result HasRoom }
-    ensures refused { IfErr result (Refuses text.now
-        (build_of (asked_in asked.entry))) }
-{
     text_is_cut_one_way();
     parsed_names_stand_apart();
+    code_of_shown_texts_is_right();
+    accepted_code_is_tidy();
     let found = accepted_tree(alloc, arena, text, tokens, program, asked.words)?;
     let build = Build {
         grid: asked.factors(),

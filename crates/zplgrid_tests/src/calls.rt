@@ -7,7 +7,7 @@ const SUM: &str = "program sum; var i, s : integer; procedure sum(); begin i := 
 
 /// Texts that run to their end.
 const RUNS: [Row; 5] = [
-    (&["run", "a"], SUM, (0, "sum 55\n", "", 46)),
+    (&["run", "a"], SUM, (0, "sum 55\n", "", 47)),
     (
         &["run", "a"],
         "program t; procedure t(); begin end;",
@@ -22,17 +22,17 @@ const RUNS: [Row; 5] = [
         &["run", "a"],
         "program t; var x : integer; procedure t(); begin x := 9223372036854775807; x := x + 1; \
          writeln(x); end;",
-        (0, "-9223372036854775808\n", "", 5),
+        (0, "-9223372036854775808\n", "", 6),
     ),
     (
         &["run", "a"],
         "program t; /* a comment */ var x, y : integer; procedure t(); begin y := 3; \
          while y > x do x := x + 1; writeln(x * 2, \" \", y - x); end; end; -- ends\n",
-        (0, "2 2\n4 1\n6 0\n", "", 24),
+        (0, "2 2\n4 1\n6 0\n", "", 30),
     ),
 ];
 
-/// Words for the turns of the sum, which takes 46.
+/// Words for the turns of the sum, which takes 47.
 const LIMITS: [Row; 6] = [
     (&["run", "a", "turns=0"], SUM, (8, "", "turn limit\n", 0)),
     (
@@ -41,20 +41,20 @@ const LIMITS: [Row; 6] = [
         (8, "", "turn limit\n", 20),
     ),
     (
-        &["run", "a", "turns=43"],
+        &["run", "a", "turns=44"],
         SUM,
-        (8, "sum ", "turn limit\n", 43),
+        (8, "sum ", "turn limit\n", 44),
     ),
     (
-        &["run", "a", "turns=45"],
+        &["run", "a", "turns=46"],
         SUM,
-        (8, "sum 55\n", "turn limit\n", 45),
+        (8, "sum 55\n", "turn limit\n", 46),
     ),
-    (&["run", "a", "turns=46"], SUM, (0, "sum 55\n", "", 46)),
+    (&["run", "a", "turns=47"], SUM, (0, "sum 55\n", "", 47)),
     (
         &["run", "a", "turns=2305843009213693952"],
         SUM,
-        (0, "sum 55\n", "", 46),
+        (0, "sum 55\n", "", 47),
     ),
 ];
 
@@ -110,22 +110,22 @@ const FAILING: [Failing; 4] = [
     (
         [0, NEVER, NEVER],
         (
-            &["run", "a", "turns=44"],
+            &["run", "a", "turns=45"],
             SUM,
             (2, "", "cannot read a\n", 0),
         ),
     ),
     (
         [NEVER, 0, NEVER],
-        (&["run", "a", "turns=44"], SUM, (9, "", "", 42)),
+        (&["run", "a", "turns=45"], SUM, (9, "", "", 43)),
     ),
     (
         [NEVER, 1, NEVER],
-        (&["run", "a", "turns=44"], SUM, (9, "sum ", "", 43)),
+        (&["run", "a", "turns=45"], SUM, (9, "sum ", "", 44)),
     ),
     (
         [NEVER, NEVER, 0],
-        (&["run", "a", "turns=44"], SUM, (9, "sum 55", "", 44)),
+        (&["run", "a", "turns=45"], SUM, (9, "sum 55", "", 45)),
     ),
 ];
 

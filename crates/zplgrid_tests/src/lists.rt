@@ -6,14 +6,14 @@ const NOTHING: &str = "program t; procedure t(); begin end;";
 
 const COUNT: &str = "program t;\nvar x : integer;\nprocedure t();\nbegin\nx := 7;\nend;";
 
-/// Texts, and the listings of their code. The first text of each is the newline.
+/// Texts, and the listings of their code.
 const LISTINGS: [Row; 2] = [
     (
         &["list", "a"],
         NOTHING,
         (
             0,
-            "zplnode 1\ngrid 1\nscalars 0\nslots\ncells 0\ntext 0a\ncode\nend\n",
+            "zplnode 1\ngrid 1\nscalars 0\nslots\ncells 0\ncode\nend\n",
             "",
             0,
         ),
@@ -23,7 +23,7 @@ const LISTINGS: [Row; 2] = [
         COUNT,
         (
             0,
-            "zplnode 1\ngrid 1\nscalars 1\nslots\ncells 0\ntext 0a\nexpr n7\ncode\nset 0 0 5\nend\n",
+            "zplnode 1\ngrid 1\nscalars 1\nslots\ncells 0\nexpr n7\ncode\nset 0 0 5\nend\n",
             "",
             0,
         ),

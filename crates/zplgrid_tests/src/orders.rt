@@ -2,7 +2,7 @@
 use super::rows::{USAGE, Wanted, expect};
 use std::test::Fail;
 
-/// A program that takes 46 turns.
+/// A program that takes 47 turns.
 const SUM: &[u8] = b"program sum; var i, s : integer; procedure sum(); begin i := 1; \
     while i <= 10 do s := s + i; i := i + 1; end; writeln(\"sum \", s); end;";
 
@@ -11,22 +11,22 @@ const CASES: [(&str, &[&str], Wanted<'static>); 12] = [
     (
         "",
         &["run", "a", "report"],
-        (0, "sum 55\n", "turns 46 sends 0 words 0\n", 46),
+        (0, "sum 55\n", "turns 47 sends 0 words 0\n", 47),
     ),
     (
         "0x50",
         &["run", "a", "links=1", "report", "order=o"],
-        (0, "sum 55\n", "turns 46 sends 0 words 0\n", 46),
+        (0, "sum 55\n", "turns 47 sends 0 words 0\n", 47),
     ),
     (
         "0x3 0",
-        &["run", "a", "order=o", "turns=40", "report"],
-        (8, "sum 55", "turn limit\nturns 44 sends 0 words 0\n", 44),
+        &["run", "a", "order=o", "turns=41", "report"],
+        (8, "sum 55", "turn limit\nturns 45 sends 0 words 0\n", 45),
     ),
     (
         "0x3 0",
-        &["run", "a", "order=o", "turns=42"],
-        (0, "sum 55\n", "", 46),
+        &["run", "a", "order=o", "turns=43"],
+        (0, "sum 55\n", "", 47),
     ),
     (
         "0x3 1",

@@ -1,0 +1,187 @@
+-- A run that has all that it needs is over at last, with what its program means.
+use Rattle.std.proofs.Common.{◌≡◌, ◌≢◌, ℕ, ◌<◌, ◌≤◌, List, [], length, Option, Some, None, Result, Ok, codes, refl, sym, ◌∙◌, ap, subst, inl, inr, arith}
+use Rattle.std.proofs.lemmas.Bool.{cases_lt}
+use Rattle.zpl_nums.specs.declared.ends.End.{End}
+use Rattle.zpl_nums.specs.declared.ends.End.TheVariants.{Done, Trap, More}
+use Rattle.zpl_tree.specs.Syntax.{Program}
+use Rattle.zpl_binding.specs.Settings.{Setting}
+use Rattle.zpl_names.specs.Expansion.{shattered_loops}
+use Rattle.zpl_meaning.specs.Program.{Meaning, mean_of, steps_of}
+use Rattle.node_form.specs.declared.tables.Tables.{Tables}
+use Rattle.grid_meaning.specs.Grid.{EndsAs, Grid, IsCapacity, IsOver, first_ending, processors}
+use Rattle.grid_meaning.specs.Order.{given}
+use Rattle.grid_order.specs.Reading.{reading}
+use Rattle.grid_runs.specs.Run.{grid_at}
+use Rattle.zpl_claims.specs.Bound.{turn_bound}
+use Rattle.zpl_claims.specs.Good.{Finishes}
+use Rattle.call_claims.specs.Call.{Call}
+use Rattle.call_claims.specs.Cause.FileCause.{unreadable, too_long, work}
+use Rattle.call_claims.specs.Command.{Asked, IsRun, RunTakes, build_of, limit_of}
+use Rattle.call_claims.specs.Decided.{IsSettled}
+use Rattle.call_claims.specs.Execution.{Execution}
+use Rattle.call_claims.specs.declared.status.TheConstants.{DONE, TRAPPED}
+use Rattle.call_claims.proofs.MetLemmas.{is_met}
+use Rattle.call_claims.proofs.OneLemmas.{as_asked}
+use Rattle.exec_claims.specs.Cause.{OrderCause, OrderFileCause, RunCause, run_of}
+use Rattle.exec_claims.specs.Cause.RunCause.{done, trap, turn_limit, stuck, idle}
+use Rattle.exec_claims.specs.Cause.OrderCause.{bad_item, ran}
+use Rattle.exec_claims.specs.Cause.TextCause.{unreadable as order_unreadable, too_long as order_long, work as of_order}
+use Rattle.exec_claims.specs.Decided.{IsOrderText}
+use Rattle.exec_claims.proofs.OneCause.{not_long, read_one}
+use Rattle.list_claims.specs.Cause.CodeCause.{faulty, made}
+use Rattle.list_claims.specs.Code.{IsAcceptedFor, IsCodeOf}
+use Rattle.list_claims.proofs.ProgramLemmas.{fault_none, text_short, texts_same}
+use Rattle.run_claims.specs.Cause.{Cause, RunFileCause, Runs}
+use Rattle.run_claims.specs.Cause.Cause.{no_memory, run}
+use Rattle.run_claims.specs.Whole.{CanFinish, HasFinished, HasTurns, IsStatusOf, normal, trapped}
+use Rattle.run_claims.proofs.CodeLemmas.{Laws, never_idle, never_stuck, right_at, too_few}
+
+-- a meaning that has ended stays so for greater bounds
+abbrev pub EndingsStay : Type 0
+EndingsStay = (program : Program) (settings : List Setting) (n m : ℕ) → n ≤ m
+    → (mean_of program settings n).ending ≢ More
+    → mean_of program settings m ≡ mean_of program settings n
+
+-- so it has one that ends
+one_meaning : EndingsStay → (program : Program) (settings : List Setting) (n m : ℕ)
+    → (mean_of program settings n).ending ≢ More → (mean_of program settings m).ending ≢ More
+    → mean_of program settings n ≡ mean_of program settings m
+one_meaning stay program settings n m one other = elim (cases_lt n m) [
+  | inl less ↦ sym (stay program settings n m (omega (arith, less)) one)
+  | inr more ↦ stay program settings m n more other
+]
+
+same_ok : (read : Result (List ℕ) ℕ) (order other : List ℕ) → read ≡ Ok order → read ≡ Ok other
+    → order ≡ other
+same_ok read order other a b = let same : Ok order ≡ Ok other = sym a ∙ b in cc
+
+same_end : (found : Option End) (one other : End) → found ≡ Some one → found ≡ Some other
+    → one ≡ other
+same_end found one other a b = let same : Some one ≡ Some other = sym a ∙ b in cc
+
+-- ---- the order
+module _ (call : Call) (code : Tables) (asked : Asked) (turns : ℕ) (order : List ℕ) where
+  under_text : (text : List ℕ) {n : ℕ} {told : List ℕ} → reading (processors code) text ≡ Ok order
+      → OrderCause code asked turns text n told
+      → RunCause (run_of code asked order) asked.report turns n told
+  under_text text read (bad_item at e z) = absurd (read_one at order e read)
+  under_text text {n = n} {told = told} read (ran other e goes c) =
+      subst (λ o. RunCause (run_of code asked o) asked.report turns n told)
+      (same_ok _ other order e read) c
+
+  under_order : (file : Option (List ℕ)) (text : List ℕ) {n : ℕ} {told : List ℕ}
+      → IsSettled call n → IsOrderText call file text → reading (processors code) text ≡ Ok order
+      → OrderFileCause call code asked turns file n told
+      → RunCause (run_of code asked order) asked.report turns n told
+  under_order None text settled is read c =
+      under_text [] (subst (λ t. reading (processors code) t ≡ Ok order) is read) c
+  under_order (Some file) text settled is read (order_unreadable may ends) =
+      absurd (settled.read refl)
+  under_order (Some file) text settled is read (order_long long ends) =
+      absurd (not_long call file (settled.one file) long is.0)
+  under_order (Some file) text settled is read (of_order source w) =
+      under_text source.text (subst (λ t. reading (processors code) t ≡ Ok order)
+      (sym is.1 ∙ settled.one file is.0.text source.text is.0.told source.told) read) w
+
+not_both : (limit needed : ℕ) → limit < needed → needed ≤ limit → ⊥
+not_both limit needed less enough = omega (arith, less, enough)
+
+-- ---- the run
+module _ (laws : Laws) (stay : EndingsStay) {text : List ℕ} {code : Tables} (asked : Asked)
+    (of_text : IsCodeOf text (build_of asked) code) (bound : ℕ)
+    (turns : HasTurns (build_of asked) of_text.program bound (limit_of asked))
+    (capacity : IsCapacity asked.links) (more : List ℕ) (order : List ℕ)
+    (read : reading (processors code) more ≡ Ok order) where
+  abbrev meant : Meaning
+  meant = mean_of of_text.program asked.settings bound
+
+  abbrev grid : ℕ → Grid
+  grid k = grid_at (run_of code asked order) k
+
+  record Ended (k n : ℕ) : Type 0 where
+    printed : (grid k).printed ≡ meant.bytes
+    ends : EndsAs (grid k) meant.ending
+    status : IsStatusOf meant.ending n
+
+  finished : (k : ℕ) → IsOver (grid k) → Finishes meant (grid k)
+  finished k over =
+      let right = right_at laws asked of_text turns.shown capacity more order read k in
+      let done = right.finishes over in
+      subst (λ m. Finishes m (grid k))
+      (one_meaning stay of_text.program asked.settings
+      (length (given order (processors code) k)) bound done.within turns.ends) done
+
+  over_so : (k n : ℕ) (ending : End) → IsOver (grid k) → first_ending (grid k) ≡ Some ending
+      → IsStatusOf ending n → Ended k n
+  over_so k n ending over first is =
+      let done = finished k over in
+      record {
+        printed = done.all;
+        ends = done.ending;
+        status = subst (λ e. IsStatusOf e n)
+            (same_end (first_ending (grid k)) ending meant.ending first done.ending.first) is;
+      }
+
+  ended : (k n : ℕ) (told : List ℕ) → RunCause (run_of code asked order) asked.report k n told
+      → Ended k n
+  ended k _ _ (done e) = over_so k DONE Done e.over e.first normal
+  ended k _ _ (trap kind line e) = over_so k TRAPPED (Trap kind line) e.over e.first trapped
+  ended k _ _ (turn_limit e) =
+      absurd (not_both (limit_of asked)
+      (turn_bound code (steps_of of_text.program asked.settings) (shattered_loops of_text.program)
+      bound) (too_few laws asked of_text turns.shown capacity more order read k e bound turns.ends)
+      (subst (λ (c : Tables). turn_bound c (steps_of of_text.program asked.settings)
+      (shattered_loops of_text.program) bound ≤ limit_of asked) (sym of_text.compiled.is)
+      turns.enough))
+  ended k _ _ (stuck p kind e) =
+      absurd (never_stuck laws asked of_text turns.shown capacity more order read k p kind e)
+  ended k _ _ (idle p e) =
+      absurd (never_idle laws asked of_text turns.shown capacity more order read k p e)
+
+-- ---- any call
+module _ (laws : Laws) (stay : EndingsStay) (call : Call) (ex : Execution) where
+  of_file : {n : ℕ} {told : List ℕ} (file : List ℕ) (asked : Asked) (bound : ℕ)
+      → IsCapacity asked.links → IsSettled call n → (can : CanFinish call file asked bound)
+      → RunFileCause call file asked ex n told
+      → HasFinished call file asked ex n bound can.order
+  of_file file asked bound capacity settled can (unreadable may none) = absurd (settled.read refl)
+  of_file file asked bound capacity settled can (too_long long none) =
+      absurd (text_short call file (settled.one file) long can.source)
+  of_file file asked bound capacity settled can (work source (faulty fault none)) =
+      absurd (fault_none fault can.program
+      (subst (λ t. IsAcceptedFor t (build_of asked) can.program)
+      (texts_same call file (settled.one file) can.source source) can.accepted))
+  of_file {n = n} {told = told} file asked bound capacity settled can
+      (work source (made code of_text is does)) =
+      let same = texts_same call file (settled.one file) source can.source in
+      let mine : IsAcceptedFor can.source.text (build_of asked) of_text.program =
+      subst (λ t. IsAcceptedFor t (build_of asked) of_text.program) same of_text.accepted in
+      let read : reading (processors code) can.order_text ≡ Ok can.order =
+      subst (λ (c : Tables). reading (processors c) can.order_text ≡ Ok can.order)
+      (sym of_text.compiled.is) (can.read of_text.program mine) in
+      let c = under_order call code asked ex.turns can.order asked.order can.order_text settled
+      can.told read does in
+      let e = ended laws stay asked of_text bound (can.turns of_text.program mine) capacity
+      can.order_text can.order read ex.turns n told c in
+      record {
+        source = source;
+        program = of_text.program;
+        accepted = of_text.accepted;
+        made = is ∙ ap (λ (c : Tables). Some c) of_text.compiled.is;
+        printed = subst (λ (c : Tables). (grid_at (run_of c asked can.order) ex.turns).printed
+            ≡ (mean_of of_text.program asked.settings bound).bytes) of_text.compiled.is e.printed;
+        ends = subst (λ (c : Tables). EndsAs (grid_at (run_of c asked can.order) ex.turns)
+            (mean_of of_text.program asked.settings bound).ending) of_text.compiled.is e.ends;
+        status_is = e.status;
+      }
+
+  pub finishes : {n : ℕ} {told : List ℕ} (file : List ℕ) (asked : Asked) (bound : ℕ)
+      → IsSettled call n → IsRun call.words file asked → (can : CanFinish call file asked bound)
+      → Cause call ex n told → HasFinished call file asked ex n bound can.order
+  finishes file asked bound settled given can no_memory = absurd (settled.decided.memory refl)
+  finishes {n = n} {told = told} file asked bound settled given can (run r) =
+      of_file file asked bound (is_met given.worded).links settled can
+      (as_asked (codes "run") RunTakes call.words mine r)
+    where
+      mine : Runs call (λ file asked. Unit {0})
+      mine = record { file = file; asked = asked; given = given; holds = tt }
