@@ -1,3 +1,4 @@
+pub mod Boxes
 pub mod Fault
 pub mod Kept
 pub mod Reads
