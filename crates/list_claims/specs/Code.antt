@@ -14,7 +14,6 @@ use Rattle.zpl_claims.specs.Tidy.{IsLean, IsTidy}
 use Rattle.zpl_compile.specs.Compilable.{IsCompilable, IsCompiledTo}
 use Rattle.call_claims.specs.Accepted.{IsAcceptedUnder}
 use Rattle.compiled_tidy.specs.Lowered.{IsLaidTidily}
-use Rattle.shown_texts.specs.Forms.{HasShownForms}
 
 -- The text is accepted with the settings of the build, the grid is one, and the program can be
 -- compiled for it: it isn't too much, and there is room for the arrays of its compiled
@@ -30,9 +29,8 @@ abbrev pub origin_for : {text : List ℕ} {build : Build} {program : Program}
 origin_for {build = build} {program = program} accepted =
     origin_of build program (length accepted.under.accepted.tokens)
 
--- The text has such a program, and the code is what it is compiled to. It is lean. It is faithful,
--- where the statements of the program are of the forms for which that is proved; and it is tidy,
--- where the lowered program is laid out tidily: its stored arrays are those of the text, and, with
+-- The text has such a program, and the code is what it is compiled to. It is faithful
+-- and lean. It is tidy where the lowered program is laid out tidily: its stored arrays are those of the text, and, with
 -- `fuse`, loops may stand where they are joined; and where the program stores no arrays and no loops
 -- are joined.
 pub record IsCodeOf (text : List ℕ) (build : Build) (code : Tables) : Type 0 where
@@ -40,7 +38,7 @@ pub record IsCodeOf (text : List ℕ) (build : Build) (code : Tables) : Type 0 w
   pub accepted : IsAcceptedFor text build program
   pub compiled : IsCompiledTo build program code
   pub lean : IsLean (origin_for accepted) code
-  pub faithful : HasShownForms program → IsFaithful (origin_for accepted) code
+  pub faithful : IsFaithful (origin_for accepted) code
   pub tidy : IsLaidTidily (origin_for accepted) → IsTidy (origin_for accepted) code
   pub without_arrays : (origin_for accepted).boxes ≡ [] → build.options.fuse ≡ false
       → IsTidy (origin_for accepted) code

@@ -8,7 +8,6 @@ ghost use Rattle.node_form.specs.Grid.{IsGrid};
 ghost use Rattle.zpl_lowering.specs.Tables.{flat_tables};
 ghost use Rattle.lock_steps.specs.Meant.{IsMeant};
 ghost use Rattle.shown_programs.specs.Text.{IsShownProgram};
-ghost use Rattle.shown_texts.specs.Forms.{HasShownForms};
 ghost use Rattle.zpl_claims.specs.Bound.{EndsInBound};
 ghost use Rattle.zpl_claims.specs.Build.{Build, OverAllLinks};
 ghost use Rattle.zpl_claims.specs.Good.{IsGood};
@@ -23,6 +22,7 @@ ghost use Rattle.right_code.specs.Accepted.{IsAccepted};
 use arranged_runs::plan_passes_keep_runs;
 use compiled_runs::compiled_plans_keep_runs;
 use compiled_tidy::accepted_code_is_tidy;
+use every_form::faultless_programs_have_shown_forms;
 use lock_steps::emitted_code_comes_in_step;
 use lowered_flat::{lowered_programs_are_flat, lowered_tables_are_typed, parsed_names_stand_apart};
 use lowering_loops::groups_turn_as_statements_do;
@@ -80,20 +80,21 @@ pub fn code_of_shown_programs_is_right()
     array_programs_are_shown();
 }
 
-/// So is that of a text, all of whose statements are of such forms (`HasShownForms`), whatever its
-/// numbers are (`faithful`). All that is claimed of code (`IsCompiled`) holds of it where it is
-/// tidy as `IsLaidTidily` asks for.
-pub fn code_of_shown_texts_is_right()
+/// So is that of every accepted text (`faithful`): a program without faults is of the forms of which
+/// that is proved, and its numbers are of 64 bits. All that is claimed of code (`IsCompiled`) holds
+/// of it where it is tidy as `IsLaidTidily` asks for.
+pub fn code_of_accepted_texts_is_right()
     ensures faithful { (text : List ℕ) (tokens : List Token) (program : Program) (build : Build) →
-        IsAcceptedText text tokens program build → IsGrid build.grid → HasShownForms program →
+        IsAcceptedText text tokens program build → IsGrid build.grid →
         IsFaithful (origin_of build program (length tokens)) (compiled build program) }
     ensures compiled { (text : List ℕ) (tokens : List Token) (program : Program) (build : Build) →
-        IsAcceptedText text tokens program build → IsGrid build.grid → HasShownForms program →
+        IsAcceptedText text tokens program build → IsGrid build.grid →
         IsLaidTidily (origin_of build program (length tokens)) →
         IsCompiled (origin_of build program (length tokens)) (compiled build program) }
 {
     accepted_code_is_tidy();
     code_of_shown_programs_is_right();
+    faultless_programs_have_shown_forms();
     parsed_names_stand_apart();
     texts_of_shown_forms_are_shown();
 }

@@ -105,7 +105,7 @@ module _ (laws : Laws) (stay : EndingsStay) {text : List ℕ} {code : Tables} (a
 
   finished : (k : ℕ) → IsOver (grid k) → Finishes meant (grid k)
   finished k over =
-      let right = right_at laws asked of_text turns.shown capacity more order read k in
+      let right = right_at laws asked of_text capacity more order read k in
       let done = right.finishes over in
       subst (λ m. Finishes m (grid k))
       (one_meaning stay of_text.program asked.settings
@@ -129,14 +129,14 @@ module _ (laws : Laws) (stay : EndingsStay) {text : List ℕ} {code : Tables} (a
   ended k _ _ (turn_limit e) =
       absurd (not_both (limit_of asked)
       (turn_bound code (steps_of of_text.program asked.settings) (shattered_loops of_text.program)
-      bound) (too_few laws asked of_text turns.shown capacity more order read k e bound turns.ends)
+      bound) (too_few laws asked of_text capacity more order read k e bound turns.ends)
       (subst (λ (c : Tables). turn_bound c (steps_of of_text.program asked.settings)
       (shattered_loops of_text.program) bound ≤ limit_of asked) (sym of_text.compiled.is)
       turns.enough))
   ended k _ _ (stuck p kind e) =
-      absurd (never_stuck laws asked of_text turns.shown capacity more order read k p kind e)
+      absurd (never_stuck laws asked of_text capacity more order read k p kind e)
   ended k _ _ (idle p e) =
-      absurd (never_idle laws asked of_text turns.shown capacity more order read k p e)
+      absurd (never_idle laws asked of_text capacity more order read k p e)
 
 -- ---- any call
 module _ (laws : Laws) (stay : EndingsStay) (call : Call) (ex : Execution) where

@@ -1,6 +1,6 @@
 -- Calls of `run` that have all that they need, and what they then answer.
 --
---   HasTurns      a program has the forms that are proved, and so many turns are enough for its code
+--   HasTurns      a program's meaning ends, and so many turns are enough for its code
 --   CanFinish     the files tell an accepted program and an order, and the turns are enough
 --   HasFinished   the run is over, with what the program means
 use Rattle.std.specs.Prelude.{◌≡◌, ◌≢◌, ℕ, ◌≤◌, List, Some, Ok}
@@ -24,12 +24,10 @@ use Rattle.call_claims.specs.declared.status.TheConstants.{DONE, TRAPPED}
 use Rattle.exec_claims.specs.Cause.{run_of}
 use Rattle.exec_claims.specs.Decided.{IsOrderText}
 use Rattle.list_claims.specs.Code.{IsAcceptedFor}
-use Rattle.shown_texts.specs.Forms.{HasShownForms}
 
--- The statements of the program are of the forms that are proved, its meaning ends within n turns of
--- each loop, and the bound on the turns of its code for that is at most so many.
+-- The program's meaning ends within n turns of each loop, and the bound on the turns of its code for
+-- that is at most so many.
 pub record HasTurns (build : Build) (program : Program) (n most : ℕ) : Type 0 where
-  pub shown : HasShownForms program
   pub ends : (mean_of program build.settings n).ending ≢ More
   pub enough : turn_bound (compiled build program) (steps_of program build.settings)
       (shattered_loops program) n ≤ most

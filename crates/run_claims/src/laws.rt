@@ -16,8 +16,7 @@ use zpl_meaning::endings_stay;
 
 /// A status of `run` that has its cause comes just where its own cause is, where memory wasn't
 /// wanting, no put failed and the order is one; for some, where no fetch failed and the files tell
-/// one text a name. That a processor is stuck, or that none can move, never comes of a program
-/// whose statements are of the forms that are proved.
+/// one text a name. That a processor is stuck, or that none can move, never comes.
 pub fn run_causes_are_exact<F: Files>()
     ensures { (files : F) (words : List (List ℕ)) (ran : Execution) (n : ℕ) (told : List ℕ) →
         let call = call_of words (F.tells files) (F.may_fail files)
@@ -29,11 +28,10 @@ pub fn run_causes_are_exact<F: Files>()
     orders_have_their_bounds();
 }
 
-/// A call of `run` whose file tells an accepted program with the forms that are proved, whose
-/// words name an order of its processors, if any, and whose turns are enough for what the program
-/// means, has finished: what its run has printed is what the program means, and the status is that
-/// of the meaning's end. So it is where the status has its cause, memory wasn't wanting, no put
-/// and no fetch failed, and the files tell one text a name.
+/// A call of `run` whose file tells an accepted program, whose words name an order of its
+/// processors, if any, and whose turns are enough for what the program means, has finished: what its run has printed is what the program means, and the status is that of the
+/// meaning's end. So it is where the status has its cause, memory wasn't wanting, no put and no fetch
+/// failed, and the files tell one text a name.
 pub fn runs_print_what_is_meant<F: Files>()
     ensures { (files : F) (words : List (List ℕ)) (ran : Execution) (status : ℕ) (told : List ℕ) →
         let call = call_of words (F.tells files) (F.may_fail files)

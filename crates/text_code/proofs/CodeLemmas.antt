@@ -23,7 +23,6 @@ use Rattle.list_claims.specs.Refusal.IsSetWrong.{bad_shape, declared, no_room}
 use Rattle.list_claims.specs.Code.{HasNoProgram, IsCodeOf}
 use Rattle.compiled_tidy.specs.Accepted.{IsAcceptedText}
 use Rattle.compiled_tidy.specs.Lowered.{IsLaidTidily}
-use Rattle.shown_texts.specs.Forms.{HasShownForms}
 use Rattle.call_claims.specs.Accepted.{IsAccepted, IsAcceptedUnder, IsFaulty}
 use Rattle.zpl_compile.specs.Compilable.{IsCompilable, IsCompiledTo, IsCounted}
 use Rattle.program_code.specs.Outcome.{IsUncompiled}
@@ -45,10 +44,10 @@ abbrev pub OneWay : Type 0
 OneWay = (text : List ℕ) (tokens others : List Token) → IsTokens text tokens → IsTokens text others
     → tokens ≡ others
 
--- the code that the program of a text is compiled to is faithful, where its forms are proved
+-- the code that the program of a text is compiled to is faithful
 abbrev pub AreFaithful : Type 0
 AreFaithful = (text : List ℕ) (tokens : List Token) (program : Program) (build : Build)
-    → IsAcceptedText text tokens program build → IsGrid build.grid → HasShownForms program
+    → IsAcceptedText text tokens program build → IsGrid build.grid
     → IsFaithful (origin_of build program (length tokens)) (compiled build program)
 
 -- it is lean
@@ -152,9 +151,9 @@ module _ (text : List ℕ) (build : Build) (grid : IsGrid build.grid) where
       compiled = is;
       lean = subst (IsLean (origin_of build program (length under.accepted.tokens))) (sym is.is)
           (lean text under.accepted.tokens program build accepted_text);
-      faithful = λ shown. subst
+      faithful = subst
           (IsFaithful (origin_of build program (length under.accepted.tokens))) (sym is.is)
-          (faithful text under.accepted.tokens program build accepted_text grid shown);
+          (faithful text under.accepted.tokens program build accepted_text grid);
       tidy = λ laid. subst
           (IsTidy (origin_of build program (length under.accepted.tokens))) (sym is.is)
           (tidy text under.accepted.tokens program build accepted_text laid);

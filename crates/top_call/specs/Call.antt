@@ -42,10 +42,9 @@ AsksGen words = (n : ℕ) × (asked : Asked) × IsGen words n asked
 -- ---- run
 pub record IsRan (call : Call) (answered : Ran) (out errs : Stream) : Type 0 where
   -- The code is made of the text that the file of the words tells, for the build that they ask for.
-  -- It is what the program is compiled to, and lean. Where the program's statements are of the forms
-  -- that are proved, it is over all links that it is for right after every order of turns, some order
-  -- brings it in step to each bound of the meaning, and it comes to its end in time; and it is tidy
-  -- where it is laid out tidily. It was not run, or it was under the order that the words ask for, and
+  -- It is what the program is compiled to: over all links that it is for it is right after every order
+  -- of turns, some order brings it in step to each bound of the meaning, and it comes to its end in
+  -- time; it is lean, and tidy where it is laid out tidily. It was not run, or it was under the order that the words ask for, and
   -- the counts are those of the grid after the given turns, before which it is neither over nor idle.
   pub code : MatchOption answered.code (HasNoCounts answered) (IsMadeFor call answered)
   -- Out took what that grid has printed.

@@ -52,7 +52,7 @@ returns-clause-code c =
     (record { accepted = found.accepted; bound = found.with_settings })
     (λ other is. one_accepted text c.args.tokens.now (syntax_of c.args.program.now)
     c.text_is_cut_one_way.ensures.tokens c.requires.tokens c.requires.only program other
-    found.accepted is) c.code_of_shown_texts_is_right.ensures.faithful
+    found.accepted is) c.code_of_accepted_texts_is_right.ensures.faithful
     c.accepted_code_is_tidy.ensures.lean c.accepted_code_is_tidy.ensures.tidy
     c.accepted_code_is_tidy.ensures.without_arrays code
     (with_parts (λ build. IsCompiledTo build program code) c.factors.result _ c.chosen.result _

@@ -3,7 +3,6 @@ use Rattle.zpl_text.specs.declared.tokens.Token.{Token}
 use Rattle.zpl_tree.specs.Syntax.{Program}
 use Rattle.node_form.specs.Grid.{IsGrid}
 use Rattle.shown_programs.specs.Text.{IsShownProgram}
-use Rattle.shown_texts.specs.Forms.{HasShownForms}
 use Rattle.zpl_claims.specs.Build.{Build}
 use Rattle.zpl_claims.specs.Compiled.{IsFaithful}
 use Rattle.zpl_claims.specs.Origin.{origin_of}
@@ -11,14 +10,14 @@ use Rattle.zpl_compile.specs.Compile.{compiled}
 use Rattle.compiled_tidy.specs.Accepted.{IsAcceptedText}
 use Rattle.compiled_tidy.proofs.AcceptedLemmas.{grammar_of}
 use Rattle.right_code.specs.Accepted.{IsAccepted}
-use Rattle.right_code.proofs.laws.code_of_shown_texts_is_right.Goals as goal
+use Rattle.right_code.proofs.laws.code_of_accepted_texts_is_right.Goals as goal
 
 pub returns : goal.returns
 returns c = record {
-  faithful = λ text tokens program build accepted grid forms.
-      faithful text tokens program build accepted grid forms;
-  compiled = λ text tokens program build accepted grid forms laid. record {
-    faithful = faithful text tokens program build accepted grid forms;
+  faithful = λ text tokens program build accepted grid.
+      faithful text tokens program build accepted grid;
+  compiled = λ text tokens program build accepted grid laid. record {
+    faithful = faithful text tokens program build accepted grid;
     tidy = c.accepted_code_is_tidy.ensures.tidy text tokens program build accepted laid;
   };
 }
@@ -35,18 +34,18 @@ returns c = record {
     }
 
     shown : (text : List ℕ) (tokens : List Token) (program : Program) (build : Build)
-        → IsAcceptedText text tokens program build → HasShownForms program
-        → IsShownProgram program build.settings
-    shown text tokens program build accepted forms =
+        → IsAcceptedText text tokens program build → IsShownProgram program build.settings
+    shown text tokens program build accepted =
         c.texts_of_shown_forms_are_shown.ensures text tokens program build.settings
-        accepted.are_tokens accepted.tree forms
+        accepted.are_tokens accepted.tree
+        (c.faultless_programs_have_shown_forms.ensures program accepted.faultless)
 
     faithful : (text : List ℕ) (tokens : List Token) (program : Program) (build : Build)
-        → IsAcceptedText text tokens program build → IsGrid build.grid → HasShownForms program
+        → IsAcceptedText text tokens program build → IsGrid build.grid
         → IsFaithful (origin_of build program (length tokens)) (compiled build program)
-    faithful text tokens program build accepted grid forms =
+    faithful text tokens program build accepted grid =
         let one = is text tokens program build accepted grid in
-        let shows = shown text tokens program build accepted forms in
+        let shows = shown text tokens program build accepted in
         record {
           good = c.code_of_shown_programs_is_right.ensures.good program build one shows;
           in_step = c.code_of_shown_programs_is_right.ensures.in_step program build one shows;
