@@ -38,7 +38,7 @@ shaped_offsets (name ∷ names) inner = ap (λ all. name.at ∷ all) (shaped_off
 
 -- ---- lexemes that are words of declarations
 
-reads_front : (xs ys : List Word) (lexemes : List Lexeme) → Reads lexemes (xs ++ ys) →
+pub reads_front : (xs ys : List Word) (lexemes : List Lexeme) → Reads lexemes (xs ++ ys) →
     Reads lexemes xs
 reads_front [] ys lexemes reads = tt
 reads_front (x ∷ xs) ys [] reads = absurd reads
@@ -50,7 +50,7 @@ next_of [] one words wanted b is reads = absurd reads
 next_of (first ∷ rest) one words wanted b is reads = ap (λ k. same k wanted) reads.0 ∙ is
 
 -- a group of local variables, with its `var` or without one
-group_read : (var : VarDef) (words others back : List Word) (lexemes : List Lexeme) →
+pub group_read : (var : VarDef) (words others back : List Word) (lexemes : List Lexeme) →
     HasAny var.names →
     (words ≡ var_words var ++ others) ⊎ (words ≡ keyword key.Var ++ var_words var ++ others) →
     Reads lexemes (words ++ back) → Reads (grouped lexemes) (var_words var ++ (others ++ back))
@@ -80,12 +80,12 @@ group_read var words others back lexemes any (inr e) reads =
         ∙ ap (λ (all : List Word). word.Keyword key.Var ∷ all)
         (append_assoc (var_words var) others back)) reads
 
-locals_spelled : (vars : List VarDef) (words : List Word) → SpellsLocals vars words →
+pub locals_spelled : (vars : List VarDef) (words : List Word) → SpellsLocals vars words →
     SpellsMoreLocals vars words
 locals_spelled [] words spells = spells
 locals_spelled (var ∷ vars) words spells = (spells.0, spells.1, inr spells.2)
 
-locals_read : (vars : List VarDef) (words back : List Word) (lexemes : List Lexeme) →
+pub locals_read : (vars : List VarDef) (words back : List Word) (lexemes : List Lexeme) →
     AllByRecursion IsVar vars → SpellsMoreLocals vars words → Reads lexemes (words ++ back) →
     Reads (past_locals vars lexemes) back
 locals_read [] words back lexemes are spells reads =
@@ -95,7 +95,7 @@ locals_read (var ∷ vars) words back lexemes are spells reads =
     (reads_past (var_words var) (spells.0 ++ back) (grouped lexemes)
     (group_read var words spells.0 back lexemes are.0.0 spells.2 reads))
 
-procedure_words_are : (heading locals body front back : List Word) →
+pub procedure_words_are : (heading locals body front back : List Word) →
     front ≡ heading ++ locals ++ body →
     front ++ back ≡ heading ++ (locals ++ (body ++ back))
 procedure_words_are heading locals body front back e =
@@ -120,7 +120,7 @@ third_is (x ∷ []) one two three words b is reads = absurd reads.1
 third_is (x ∷ y ∷ rest) one two three words b is reads =
     next_of rest three words (kind.Symbol sym.OpenBracket) b is reads.1.1
 
-region_read : (region : RegionDef) (front back : List Word) (lexemes : List Lexeme) →
+pub region_read : (region : RegionDef) (front back : List Word) (lexemes : List Lexeme) →
     SpellsRegion region front → Reads lexemes (front ++ back) →
     Reads (past_region region lexemes) back
 region_read region front back lexemes (inl e) reads =
@@ -147,7 +147,7 @@ region_read region front back lexemes (inr bare) reads =
         third_is lexemes (word.Name region.name.text) (word.Symbol sym.Equal)
         (word.Name pre.dir.text) _ false refl reads
 
-regions_read : (regions : List RegionDef) (words back : List Word) (lexemes : List Lexeme) →
+pub regions_read : (regions : List RegionDef) (words back : List Word) (lexemes : List Lexeme) →
     SpellsEach SpellsRegion regions words → Reads lexemes (words ++ back) →
     Reads (past_regions regions lexemes) back
 regions_read [] words back lexemes spells reads =
@@ -166,7 +166,7 @@ plain_read words front back lexemes e reads =
     reads_past words back lexemes
     (subst (λ (all : List Word). Reads lexemes (all ++ back)) e reads)
 
-decl_read : (decl : Decl) (front back : List Word) (lexemes : List Lexeme) → IsDecl decl →
+pub decl_read : (decl : Decl) (front back : List Word) (lexemes : List Lexeme) → IsDecl decl →
     SpellsDecl decl front → Reads lexemes (front ++ back) → Reads (past_decl decl lexemes) back
 decl_read (Config defines) front back lexemes is spells reads =
     plain_read (decl_words (Config defines)) front back lexemes spells reads
@@ -196,7 +196,7 @@ module _ (Taken : List Lexeme → List ℕ → Type 0)
     Taken rest ats → Taken (first ∷ rest) (first.at ∷ ats))
     (skips : (first : Lexeme) (rest : List Lexeme) (ats : List ℕ) → Taken rest ats →
     Taken (first ∷ rest) ats) where
-  skip_behind : (lexemes : List Lexeme) (ats : List ℕ) → Taken (behind lexemes) ats →
+  pub skip_behind : (lexemes : List Lexeme) (ats : List ℕ) → Taken (behind lexemes) ats →
       Taken lexemes ats
   skip_behind [] ats taken = taken
   skip_behind (first ∷ rest) ats taken = skips first rest ats taken
@@ -207,13 +207,13 @@ module _ (Taken : List Lexeme → List ℕ → Type 0)
   skip_past (one ∷ words) lexemes ats taken =
       skip_behind lexemes ats (skip_past words (behind lexemes) ats taken)
 
-  name_taken : (name : Name) (first : Lexeme) (rest : List Lexeme) (ats : List ℕ) →
+  pub name_taken : (name : Name) (first : Lexeme) (rest : List Lexeme) (ats : List ℕ) →
       first.kind ≡ kind.Name → name.at ≡ first.at → Taken rest ats →
       Taken (first ∷ rest) (name.at ∷ ats)
   name_taken name first rest ats named at taken =
       subst (λ n. Taken (first ∷ rest) (n ∷ ats)) (sym at) (takes first rest ats named taken)
 
-  more_taken : (names : List Name) (lexemes : List Lexeme) (ats : List ℕ) →
+  pub more_taken : (names : List Name) (lexemes : List Lexeme) (ats : List ℕ) →
       Reads lexemes (each_after (symbol sym.Comma) name_words names) →
       SeparatedAt NameAt name_words (behind lexemes) names →
       Taken (past (each_after (symbol sym.Comma) name_words names) lexemes) ats →
@@ -226,7 +226,7 @@ module _ (Taken : List Lexeme → List ℕ → Type 0)
       (name_taken name first rest (map (λ name. name.at) names ++ ats) reads.1.0 at.0
       (more_taken names rest ats reads.1.1 at.1 taken))
 
-  names_taken : (names : List Name) (lexemes : List Lexeme) (ats : List ℕ) →
+  pub names_taken : (names : List Name) (lexemes : List Lexeme) (ats : List ℕ) →
       Reads lexemes (names_words names) → NamesAt lexemes names →
       Taken (past (names_words names) lexemes) ats →
       Taken lexemes (map (λ name. name.at) names ++ ats)
@@ -238,7 +238,7 @@ module _ (Taken : List Lexeme → List ℕ → Type 0)
 
   -- ---- variables
 
-  skip_more : (xs ys : List Word) (lexemes : List Lexeme) (ats : List ℕ) →
+  pub skip_more : (xs ys : List Word) (lexemes : List Lexeme) (ats : List ℕ) →
       Taken (past (xs ++ ys) lexemes) ats → Taken (past xs lexemes) ats
   skip_more xs ys lexemes ats taken =
       skip_past ys (past xs lexemes) ats
@@ -292,7 +292,7 @@ module _ (Taken : List Lexeme → List ℕ → Type 0)
 
   -- ---- local variables
 
-  skip_group : (lexemes : List Lexeme) (ats : List ℕ) → Taken (grouped lexemes) ats →
+  pub skip_group : (lexemes : List Lexeme) (ats : List ℕ) → Taken (grouped lexemes) ats →
       Taken lexemes ats
   skip_group lexemes ats = by (next_is (kind.Word key.Var) lexemes)
     where
@@ -320,7 +320,7 @@ module _ (Taken : List Lexeme → List ℕ → Type 0)
 
   -- ---- regions
 
-  skip_regions : (regions : List RegionDef) (lexemes : List Lexeme) (ats : List ℕ) →
+  pub skip_regions : (regions : List RegionDef) (lexemes : List Lexeme) (ats : List ℕ) →
       Taken (past_regions regions lexemes) ats → Taken lexemes ats
   skip_regions [] lexemes ats taken = taken
   skip_regions (region ∷ regions) lexemes ats taken =

@@ -29,7 +29,7 @@ use Rattle.meaning_ranks.proofs.RegionLemmas.{globals_fit, inner_fits, names_onc
 use Rattle.node_form.specs.Fits.{IsRank}
 use Rattle.lowering_fits.specs.Slates.{AllRanges, FitsBox}
 use Rattle.lowering_fits.specs.Reach.{IsStoredAs}
-use Rattle.lowering_fits.specs.Storages.{IsStorage}
+use Rattle.lowering_fits.specs.Storages.{IsHomeIn, IsStorage}
 use Rattle.lowering_fits.specs.Declarations.{FitsDeclared}
 use Rattle.lowering_fits.proofs.BracketLemmas.{LimitsAreTold}
 use Rattle.lowering_fits.proofs.FrameLemmas.{storage_region}
@@ -37,7 +37,7 @@ use Rattle.lowering_fits.proofs.HullLemmas.{storage_like}
 use Rattle.lowering_fits.proofs.RegionLemmas.{IsGoodRegion, inner_good, known_good}
 use Rattle.lowering_fits.proofs.RegionRankLemmas.{given_rank}
 use Rattle.lowering_fits.proofs.StorageLemmas.{IsHull, hull_is, padded_from, storage_is, three_of}
-use Rattle.lowered_flat.proofs.LimitLemmas.{home_limit}
+use Rattle.lowered_flat.proofs.LimitLemmas.{home_in, home_limit}
 use Rattle.lowered_flat.proofs.ShapeLemmas.{SameName, same_shape}
 
 -- ---- flood dimensions
@@ -65,6 +65,7 @@ abbrev pub AreParts : Option Shape → Region → Region → Type 0
 AreParts shape home storage =
     IsStoredAs shape (record { array = 0; storage = storage })
     × FitsBox home × (option_map length shape ≡ Some home.rank) × IsStorage storage
+    × IsHomeIn storage home
 
 stored_as : (shape : Option Shape) (region storage : Region) → Fits shape (Gives region) →
     IsArrayRank (option_map length shape) → storage.rank ≡ region.rank →
@@ -138,15 +139,17 @@ module _ (program : Program) (settings : List Setting) (clean : IsFaultless prog
 
   home_fits : (inner : Inner) (region storage : Region) → inner_of known inner ≡ Gives region →
       storage_of known borders inner ≡ Gives storage → IsRank region.rank → IsStorage storage →
-      FitsBox (hull region)
+      FitsBox (hull region) × IsHomeIn storage (hull region)
   home_fits inner region storage is given rank kept =
       by (subst IsGoodRegion is (inner_good known inner (known_good program settings)))
     where
-      by : IsGoodRegion (Gives region) → FitsBox (hull region)
+      by : IsGoodRegion (Gives region) → FitsBox (hull region) × IsHomeIn storage (hull region)
       by good =
-          storage_region (hull region)
-          (hull_kept inner region is rank
-          (home_limit known borders inner region storage good.0 is given kept))
+          let home = hull_kept inner region is rank
+          (home_limit known borders inner region storage good.0 is given kept) in (
+            storage_region (hull region) home,
+            home_in known borders inner region storage good.0 is given home,
+          )
 
   -- the home box of an array that fits is a box within the limit
   pub home_kept : (inner : Inner) → IsGiven Region (home_of known inner) →
@@ -185,12 +188,9 @@ module _ (program : Program) (settings : List Setting) (clean : IsFaultless prog
       storage_is limits known borders inner (known_good program settings) storage given.given
       (subst IsRank (sym like.0) rank) in
       let stored = stored_as shape region storage fits ranked like.0 like.1 like.2 in
-      let parts : AreParts shape (hull region) storage = (
-        stored.0,
-        home_fits inner region storage one.given given.given rank kept,
-        stored.1,
-        kept,
-      ) in
+      let home = home_fits inner region storage one.given given.given rank kept in
+      let parts : AreParts shape (hull region) storage =
+      (stored.0, home.0, stored.1, kept, home.1) in
       subst (λ home. AreParts shape home (storage_box known borders inner)) (sym one.home)
       (subst (λ storage. AreParts shape (hull region) storage)
       (sym (ap (value_or no_region) given.given)) parts)

@@ -8,13 +8,12 @@ use Rattle.zpl_names.specs.Expansion.{FormalName}
 use Rattle.zpl_names.proofs.ListLemmas.{Among}
 use Rattle.zpl_binding.specs.Formals.{Handed, each_handed}
 use Rattle.zpl_binding.specs.Regions.{Known}
-use Rattle.zpl_meaning.specs.Context.{Currents, Edge}
+use Rattle.zpl_meaning.specs.Context.{Place}
 use Rattle.zpl_meaning.specs.Store.{Thing, Scalar, ArrayAt, Fixed, Environment, thing_of}
 use Rattle.zpl_meaning.specs.Calls.{actual_thing}
 use Rattle.zpl_meaning.specs.Proper.{AreProperActuals, IsArray, IsVariable}
 use Rattle.zpl_lowering.specs.Where.{Stored, Where}
 use Rattle.zpl_lowering.specs.Statement.{Given, Copied, copying, given_to, referring}
-use Rattle.lowering_fits.specs.Reach.{place_at}
 use Rattle.lowered_flat.proofs.HomeLemmas.{IsToldHome}
 use Rattle.lowered_flat.proofs.CalledLemmas.{AreGiven}
 
@@ -84,23 +83,29 @@ later_handed formal formals (Flood at source operand) rest handed m = m
 
 -- ---- what parameters take
 
-module _ (program : Program) (known : Known) (caller callee : List ℕ) (w : Where) (result : ℕ)
-    (currents : Currents) (edge : Option Edge)
+-- what is handed on may be what its parameter stands for
+abbrev pub AreHandedOn : Program → Known → List ℕ → List ℕ → List FormalName → Exprs → Type 0
+AreHandedOn program known caller callee formals actuals =
+    (handed : Handed) → Among (each_handed formals actuals) handed → (home : Region) →
+    IsToldHome program known caller handed.actual home →
+    IsToldHome program known callee handed.formal home
+
+module _ (program : Program) (known : Known) (caller callee : List ℕ) (w : Where) (place : Place)
+    (variables : (actual : Expr) → IsVariable (actual_thing place.environment actual) →
+    IsVariable (actual_thing w.environment actual))
+    (arrays : (actual : Expr) → IsArray (actual_thing place.environment actual) →
+    IsArray (actual_thing w.environment actual))
     (told : (name : List ℕ) (place : ℕ) (home : Region) →
     thing_of w.environment name ≡ Some (ArrayAt place home) →
     IsToldHome program known caller name home)
     (has : (name : List ℕ) (place : ℕ) (home : Region) →
     thing_of w.environment name ≡ Some (ArrayAt place home) →
     (stored : Stored) × (slice_get w.numbers.arrays place ≡ Some stored)) where
-  -- what is handed on may be what its parameter stands for
-  abbrev pub AreHandedOn : List FormalName → Exprs → Type 0
-  AreHandedOn formals actuals =
-      (handed : Handed) → Among (each_handed formals actuals) handed → (home : Region) →
-      IsToldHome program known caller handed.actual home →
-      IsToldHome program known callee handed.formal home
+  abbrev OnTo : List FormalName → Exprs → Type 0
+  OnTo = AreHandedOn program known caller callee
 
   handed_later : (formal : FormalName) (formals : List FormalName) (first : Expr) (rest : Exprs) →
-      AreHandedOn (formal ∷ formals) (ThenExpr first rest) → AreHandedOn formals rest
+      OnTo (formal ∷ formals) (ThenExpr first rest) → OnTo formals rest
   handed_later formal formals first rest on handed m =
       on handed (later_handed formal formals first rest handed m)
 
@@ -114,7 +119,7 @@ module _ (program : Program) (known : Known) (caller callee : List ℕ) (w : Whe
 
   array_told : (formal : FormalName) (formals : List FormalName) (first : Expr) (rest : Exprs)
       (one : IsArrayName w.environment first) →
-      AreHandedOn (formal ∷ formals) (ThenExpr first rest) →
+      OnTo (formal ∷ formals) (ThenExpr first rest) →
       IsToldHome program known callee formal.name.text one.home
   array_told formal formals first rest one on =
       let handed : Handed = record { formal = formal.name.text; actual = one.name.text } in
@@ -135,8 +140,8 @@ module _ (program : Program) (known : Known) (caller callee : List ℕ) (w : Whe
 
   pub givens_told : (scalar : ℕ) (names : List FormalName) (formals : List Formal)
       (actuals : Exprs) → length names ≡ length formals →
-      AreProperActuals (place_at w result currents edge) formals actuals →
-      AreHandedOn names actuals →
+      AreProperActuals place formals actuals →
+      OnTo names actuals →
       AreGiven program known callee names (given_to w scalar formals actuals)
   givens_told scalar [] formals actuals same proper on = tt
   givens_told scalar (name ∷ names) [] actuals same proper on =
@@ -151,12 +156,12 @@ module _ (program : Program) (known : Known) (caller callee : List ℕ) (w : Whe
   givens_told scalar (name ∷ names) (ScalarFormal true base ∷ formals) (ThenExpr first rest) same
       proper on =
       scalar_given name names (actual_thing w.environment first) (given_to w scalar formals rest)
-      proper.0
+      (variables first proper.0)
       (givens_told scalar names formals rest (omega (arith, same)) proper.1
       (handed_later name names first rest on))
   givens_told scalar (name ∷ names) (ArrayFormal true base shape ∷ formals) (ThenExpr first rest)
       same proper on =
-      let one = array_name w.environment first proper.0 in
+      let one = array_name w.environment first (arrays first proper.0) in
       subst (λ (thing : Option Thing). AreGiven program known callee (name ∷ names)
       (referring thing ++ given_to w scalar formals rest)) (thing_is first one) (
         array_told name names first rest one on,
@@ -165,7 +170,7 @@ module _ (program : Program) (known : Known) (caller callee : List ℕ) (w : Whe
       )
   givens_told scalar (name ∷ names) (ArrayFormal false base shape ∷ formals) (ThenExpr first rest)
       same proper on =
-      let one = array_name w.environment first proper.0 in
+      let one = array_name w.environment first (arrays first proper.0) in
       let kept = has one.name.text one.place one.home one.there in
       subst (λ (thing : Option Thing). AreGiven program known callee (name ∷ names)
       (copying w.numbers thing ++ given_to w scalar formals rest)) (thing_is first one)

@@ -8,6 +8,7 @@ pub mod DeclarationLemmas
 pub mod CopyLemmas
 pub mod GlobalLemmas
 pub mod GivenLemmas
+pub mod ToldLemmas
 pub mod StorageLemmas
 pub mod WholeLemmas
 pub mod TypedLemmas

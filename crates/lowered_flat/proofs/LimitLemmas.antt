@@ -1,8 +1,10 @@
--- A home box is within the limit where the storage around it is.
-use Rattle.std.proofs.Common.{◌≡◌, ℕ, zero, suc, ◌*◌, ◌-◌, ◌<◌, ◌≤◌, Bool, true, false, cond, ℤ, pos, ◌≤ℤ◌, List, [], ◌∷◌, map, refl, sym, subst, arith, true≢false}
-use Rattle.std.specs.Prelude.{All, int_lt}
+-- A home box is within the limit where the storage around it is, and lies in it.
+use Rattle.std.proofs.Common.{◌≡◌, ℕ, zero, suc, ◌*◌, ◌-◌, ◌<◌, ◌≤◌, Bool, true, false, ◌||◌, ◌&&◌, cond, ℤ, pos, ◌≤ℤ◌, List, [], ◌∷◌, map, refl, sym, ap, subst, arith, true≢false}
+use Rattle.std.specs.Prelude.{◌==◌, All, int_lt}
+use Rattle.std.specs.Int.RustNames.{int_le}
 use Rattle.std.specs.Int.{int_max, int_min}
 use Rattle.std.specs.List.{AllByRecursion, AllZip}
+use Rattle.std.proofs.lemmas.Bool.{and_from, eq-eqb, eqb-true}
 use Rattle.std.proofs.lemmas.Int.{ints, clamps}
 use Rattle.std.proofs.lemmas.Nat.{mul-le}
 use Rattle.std.proofs.lemmas.List.Elements.{All-from_recursion, recursion_from_All}
@@ -13,19 +15,24 @@ use Rattle.zpl_region.specs.Dim.{HasStep, IsDimWithinLimit, dim_outside_of, exte
 use Rattle.zpl_region.specs.Region.{IsWithinLimit, components, each, outside_of, padding}
 use Rattle.zpl_region.specs.Ends.{coordinate_count, first_of, has_none, last_of, tuple_count}
 use Rattle.zpl_region.specs.Hull.{IsBoxed, IsSameKind, all_from, dim_hull, dim_hull_with, each_hull_with, emptied, hull, hull_with}
-use Rattle.zpl_region.specs.Tests.{is_within_limit}
+use Rattle.zpl_region.specs.Tests.{is_dim_in_box, is_within_limit}
 use Rattle.zpl_region.proofs.DimLemmas.{pos-extent}
 use Rattle.zpl_region.proofs.EndLemmas.{Among-first, between_ends, length-tuple_count, positive_left, positive_right}
+use Rattle.zpl_region.proofs.ListLemmas.{test_from_le}
 use Rattle.zpl_region.proofs.HullLemmas.{count-all_from, first-all_from, last-all_from, no_count, some-all_from, some_from}
+use Rattle.zpl_arrays.specs.Reference.{dim_lies_in, each_lies_in, lies_in}
 use Rattle.zpl_tree.specs.Syntax.{Inner}
+use Rattle.zpl_names.specs.Kinds.{Shape}
 use Rattle.zpl_binding.specs.Outcome.{Outcome, Gives, Fails, RegionLimit, and_then, outcome_of}
 use Rattle.zpl_binding.specs.Vectors.{three_components}
 use Rattle.zpl_binding.specs.Regions.{Known, inner_of, limited}
 use Rattle.zpl_binding.specs.Storages.{Border, shape_borders, storage_of, widened}
+use Rattle.meaning_ranks.specs.Shaped.{AreFloods}
 use Rattle.lowering_fits.specs.Reach.{IsBox}
-use Rattle.lowering_fits.specs.Storages.{AllBoxed, IsStorage}
+use Rattle.lowering_fits.specs.Storages.{AllBoxed, IsHomeIn, IsStorage}
 use Rattle.lowering_fits.proofs.ArrayLemmas.{PadsFrom, pads}
 use Rattle.lowering_fits.proofs.FrameLemmas.{boxed_steps}
+use Rattle.lowering_fits.proofs.HullLemmas.{storage_like}
 use Rattle.lowering_fits.proofs.StorageLemmas.{emptied_boxed, hulls_boxed}
 
 -- ---- a box with coordinates, and one around it
@@ -411,3 +418,120 @@ home_limit known borders inner region storage box is given kept =
         (all_limit hs storage.dims boxed over
         (recursion_from_All IsDimWithinLimit storage.dims kept.limit.dims))
         (omega (arith, few, less))
+
+-- ---- the home box lies in the storage
+
+in_box : (lo hi low high : ℤ) → lo ≤ℤ hi → low ≤ℤ lo → hi ≤ℤ high →
+    is_dim_in_box low high (all_from lo hi) ≡ true
+in_box lo hi low high order below above =
+    by (coordinate_count (all_from lo hi) == 0)
+    (and_from (int_le low (first_of (all_from lo hi))) (int_le (last_of (all_from lo hi)) high)
+    (test_from_le low (first_of (all_from lo hi)) (omega (arith, ints, first-all_from lo hi)))
+    (test_from_le (last_of (all_from lo hi)) high
+    (omega (arith, ints, last-all_from lo hi order))))
+  where
+    by : (b : Bool) → int_le low (first_of (all_from lo hi))
+        && int_le (last_of (all_from lo hi)) high ≡ true →
+        b || (int_le low (first_of (all_from lo hi))
+        && int_le (last_of (all_from lo hi)) high) ≡ true
+    by true holds = refl
+    by false holds = holds
+
+over_lies : (d e : Dim) → Over (dim_hull d) e → dim_lies_in (dim_hull d) e ≡ true
+over_lies (dim.Range lo hi step align) (dim.Range low high by at) is =
+    in_box (first_of (dim.Range lo hi step align)) (last_of (dim.Range lo hi step align)) low high
+    is.0 is.1 is.2
+over_lies (dim.Range lo hi step align) dim.Flood is = absurd is
+over_lies dim.Flood (dim.Range low high by at) is = absurd is
+over_lies dim.Flood dim.Flood is = refl
+
+all_lie : (ds es : List Dim) → AllOver (map dim_hull ds) es →
+    each_lies_in (map dim_hull ds) es ≡ true
+all_lie [] es are = refl
+all_lie (d ∷ ds) [] are = refl
+all_lie (d ∷ ds) (e ∷ es) are =
+    and_from (dim_lies_in (dim_hull d) e) (each_lies_in (map dim_hull ds) es)
+    (over_lies d e are.0) (all_lie ds es are.1)
+
+-- where there is no tuple, there is none in the hull
+emptied_none : (rank : ℕ) (dims : List Dim) → tuple_count dims ≡ 0 →
+    tuple_count (emptied rank dims) ≡ 0
+emptied_none zero dims none = none
+emptied_none (suc rank) [] none = none
+emptied_none (suc rank) (dim.Range lo hi step align ∷ dims) none =
+    no_product (tuple_count (emptied rank dims))
+  where
+    no_product : (n : ℕ) → coordinate_count (all_from (pos 1) (pos 0)) * n ≡ 0
+    no_product n = omega arith
+emptied_none (suc rank) (dim.Flood ∷ dims) none =
+    one_product (tuple_count (emptied rank dims))
+    (emptied_none rank dims (omega (arith, none)))
+  where
+    one_product : (n : ℕ) → n ≡ 0 → coordinate_count dim.Flood * n ≡ 0
+    one_product n e = omega (arith, e)
+
+-- flood dimensions of the hull are the region's own
+hulls_own : (shape : Shape) (dims : List Dim) → AreFloods shape (map dim_hull dims) →
+    AreFloods shape dims
+hulls_own [] dims are = tt
+hulls_own (flood ∷ shape) [] are = absurd are
+hulls_own (flood ∷ shape) (dim.Range lo hi step align ∷ dims) are =
+    (are.0, hulls_own shape dims are.1)
+hulls_own (flood ∷ shape) (dim.Flood ∷ dims) are = (are.0, hulls_own shape dims are.1)
+
+emptied_own : (shape : Shape) (rank : ℕ) (dims : List Dim) → AreFloods shape (emptied rank dims) →
+    AreFloods shape dims
+emptied_own shape zero dims are = are
+emptied_own [] (suc rank) dims are = tt
+emptied_own (flood ∷ shape) (suc rank) [] are = absurd are
+emptied_own (flood ∷ shape) (suc rank) (dim.Range lo hi step align ∷ dims) are =
+    (are.0, emptied_own shape rank dims are.1)
+emptied_own (flood ∷ shape) (suc rank) (dim.Flood ∷ dims) are =
+    (are.0, emptied_own shape rank dims are.1)
+
+hull_own : (shape : Shape) (region : Region) → AreFloods shape (hull region).dims →
+    AreFloods shape region.dims
+hull_own shape region = by (has_none region)
+  where
+    by : (b : Bool) → AreFloods shape
+        (cond b (emptied region.rank region.dims) (map dim_hull region.dims)) →
+        AreFloods shape region.dims
+    by true are = emptied_own shape region.rank region.dims are
+    by false are = hulls_own shape region.dims are
+
+pub home_lies : (known : Known) (borders : List Border) (inner : Inner)
+    (region storage : Region) → IsBox region.rank region →
+    inner_of known inner ≡ Gives region → storage_of known borders inner ≡ Gives storage →
+    lies_in (hull region) storage ≡ true
+home_lies known borders inner region storage box is given = by (has_none region) refl
+  where
+    by : (b : Bool) → has_none region ≡ b →
+        lies_in (record {
+          rank = region.rank;
+          dims = cond b (emptied region.rank region.dims) (map dim_hull region.dims);
+        }) storage ≡ true
+    by true none =
+        ap (λ b. b || each_lies_in (emptied region.rank region.dims) storage.dims)
+        (eq-eqb (tuple_count (emptied region.rank region.dims)) 0
+        (emptied_none region.rank region.dims (eqb-true (tuple_count region.dims) 0 none)))
+    by false some =
+        or_right (tuple_count (map dim_hull region.dims) == 0)
+        (all_lie region.dims storage.dims
+        (storage_around known borders inner region storage box.steps is given some))
+      where
+        or_right : (b : Bool) {c : Bool} → c ≡ true → b || c ≡ true
+        or_right true e = refl
+        or_right false e = e
+
+-- all that is asked of a home box beside its storage
+pub home_in : (known : Known) (borders : List Border) (inner : Inner) (region storage : Region) →
+    IsBox region.rank region → inner_of known inner ≡ Gives region →
+    storage_of known borders inner ≡ Gives storage → IsStorage (hull region) →
+    IsHomeIn storage (hull region)
+home_in known borders inner region storage box is given kept = record {
+  kept = kept;
+  floods = λ shape are.
+      (storage_like known borders inner region storage is given).2 shape
+      (hull_own shape region are);
+  lies = home_lies known borders inner region storage box is given;
+}

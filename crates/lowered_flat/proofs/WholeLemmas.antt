@@ -1,7 +1,7 @@
 -- All storages of a lowered program are boxes within the limit.
-use Rattle.std.proofs.Common.{◌≡◌, ℕ, false, cond, not, inl, inr, List, [], ◌∷◌, ◌++◌, length, refl, sym, ap, ◌∙◌, subst, arith, append-nil}
-use Rattle.std.specs.Prelude.{Contains, Option, Some, None, slice_get}
-use Rattle.std.specs.List.{cons_option, filter_map, flat_map, sum_by}
+use Rattle.std.proofs.Common.{◌≡◌, ℕ, false, List, [], ◌++◌, length, sym, ap, ◌∙◌, subst, arith}
+use Rattle.std.specs.Prelude.{Contains, Some, slice_get}
+use Rattle.std.specs.List.{sum_by}
 use Rattle.std.specs.Str.{bytes_eq}
 use Rattle.zpl_region.specs.declared.regions.Region.{Region}
 use Rattle.zpl_arrays.specs.Around.{copy_storage}
@@ -9,19 +9,17 @@ use Rattle.zpl_tree.specs.Grammar.{IsProgram}
 use Rattle.zpl_tree.specs.Syntax.{Name, Around, Exprs, Dir, Param, Program}
 use Rattle.zpl_names.specs.Kinds as kind
 use Rattle.zpl_names.specs.Kinds.{Rank, Signature}
-use Rattle.zpl_names.specs.Scope.{Scope, is_procedure, kind_of}
+use Rattle.zpl_names.specs.Scope.{Scope, kind_of}
 use Rattle.zpl_names.specs.Shapes.{unknown_shapes}
 use Rattle.zpl_names.specs.Accepted.{IsFaultless}
 use Rattle.zpl_names.specs.Declared.{Routine, entry_of, head_scope, routine_named, routines_of, scope_of}
-use Rattle.zpl_names.specs.Expansion.{expanded_of, formal_names, instances_of, local_arrays}
-use Rattle.zpl_names.specs.Reached.{Reaches, Itself, ByCall, calls_in, calls_of, sites_of}
-use Rattle.zpl_names.specs.Sites.{CallRole, CallSite, Reach, AtCall, AtExpr, call_of, calls_under, routine_sites}
+use Rattle.zpl_names.specs.Expansion.{expanded_of, formal_names, instances_of}
+use Rattle.zpl_names.specs.Reached.{Itself, calls_in}
+use Rattle.zpl_names.specs.Sites.{CallSite, Reach, AtExpr, routine_sites}
 use Rattle.zpl_names.proofs.ListLemmas.{Among, Contains-from_among}
-use Rattle.zpl_names.proofs.NameLemmas.{no_place}
 use Rattle.zpl_binding.specs.Bound.{IsAcceptedWith}
 use Rattle.zpl_binding.specs.Declarations.{known_of}
-use Rattle.zpl_binding.specs.Formals.{AroundRead, Handed, IsCalled, Parameter, around_at, each_handed, handed_to}
-use Rattle.zpl_binding.specs.Outcome.{RegionLimit}
+use Rattle.zpl_binding.specs.Formals.{IsCalled}
 use Rattle.zpl_binding.specs.Regions.{Known}
 use Rattle.zpl_binding.specs.Settings.{Setting}
 use Rattle.zpl_binding.specs.Storages.{Shaped, arrays_of, borders_of, home_of, storage_of}
@@ -35,9 +33,7 @@ use Rattle.zpl_meaning.specs.Store.{ArrayAt, Environment, thing_of}
 use Rattle.zpl_meaning.specs.Variables.{Frame, empty_frame}
 use Rattle.zpl_meaning.specs.Visited.{first_setup}
 use Rattle.zpl_meaning.proofs.NamesLemmas.{IsSound, routine_sound}
-use Rattle.zpl_meaning.proofs.ProperLemmas.{not_false}
 use Rattle.zpl_meaning.proofs.VisitLemmas.{find_among}
-use Rattle.meaning_ranks.proofs.RegionLemmas.{names_once}
 use Rattle.zpl_lowering.specs.Program.{Entry, Framed, entry_calling, lowered_program}
 use Rattle.zpl_lowering.specs.Statement.{Calling}
 use Rattle.zpl_lowering.specs.Where.{Next, Numbers, Stored, Where}
@@ -56,38 +52,10 @@ use Rattle.lowering_fits.proofs.NamedLemmas.{AllBelow, OptBelow, found_below, th
 use Rattle.lowering_fits.proofs.PartLemmas.{AreRight}
 use Rattle.lowering_fits.proofs.ProgramFitLemmas.{AllBoxes, decls_boxed}
 use Rattle.lowered_flat.specs.Apart.{NamesStandApart}
-use Rattle.lowered_flat.proofs.ListLemmas.{flat_there}
-use Rattle.lowered_flat.proofs.CalledLemmas.{AreGiven, IsFrame, givens_taken, locals_framed, reached_home, var_entries}
-use Rattle.lowered_flat.proofs.CopyLemmas.{copy_kept}
+use Rattle.lowered_flat.proofs.CalledLemmas.{AreGiven}
 use Rattle.lowered_flat.proofs.GivenLemmas.{givens_told}
-use Rattle.lowered_flat.proofs.GlobalLemmas.{all_homes, global_homes, locals_listed}
-use Rattle.lowered_flat.proofs.HomeLemmas.{AreTaken, IsToldHome, NoFormal, NoLocal}
+use Rattle.lowered_flat.proofs.ToldLemmas.{AreTold, call_there, frame_told, handed_told, reach_more, read_kept, read_there}
 use Rattle.lowered_flat.proofs.StorageLemmas.{arrays_many, boxes_fine, boxes_kept, givens_kept, kept_at, locals_kept, storages_both, vars_fine}
-
--- ---- calls of the text
-
-filter_there : {A B : Type 0} (f : A → Option B) (xs : List A) (x : A) (y : B) → Among xs x →
-    f x ≡ Some y → Among (filter_map f xs) y
-filter_there f [] x y m e = absurd m
-filter_there {A} {B} f (z ∷ zs) x y (inl same) e = by (f z) (ap f same ∙ e)
-  where
-    by : (found : Option B) → found ≡ Some y → Among (cons_option found (filter_map f zs)) y
-    by None e = let no : ⊥ = cc in absurd no
-    by (Some other) e = let is : other ≡ y = cc in inl is
-filter_there {A} {B} f (z ∷ zs) x y (inr m) e = by (f z) (filter_there f zs x y m e)
-  where
-    by : (found : Option B) → Among (filter_map f zs) y →
-        Among (cons_option found (filter_map f zs)) y
-    by None later = later
-    by (Some other) later = inr later
-
-reach_more : (program : Program) (from to : List ℕ) (call : CallSite) → Reaches program from to →
-    Contains (calls_in program to) call → Reaches program from call.name.text
-reach_more program from to call (Itself text) there =
-    ByCall text call.name.text call there (Itself call.name.text)
-reach_more program from to call (ByCall text other first here rest) there =
-    ByCall text call.name.text first here
-    (reach_more program first.name.text other call rest there)
 
 some_routine : (one other : Routine) → Some one ≡ Some other → one ≡ other
 some_routine one other e = cc
@@ -123,9 +91,7 @@ module _ (program : Program) (settings : List Setting) (grammar : IsProgram prog
       kept : AllKept numbers.arrays
       below : AllBelow (length numbers.arrays) environment
       behind : AllBelow (length numbers.arrays) (record { names = setup.globals })
-      told : (name : List ℕ) (place : ℕ) (home : Region) →
-          thing_of environment name ≡ Some (ArrayAt place home) →
-          IsToldHome program known text name home
+      told : AreTold program known text environment
 
   locals_of : (routine : Routine) → Among (routines_of program) routine →
       FineVars IsStorage setup routine.procedure.locals
@@ -149,24 +115,11 @@ module _ (program : Program) (settings : List Setting) (grammar : IsProgram prog
       find_among (λ routine. bytes_eq routine.procedure.name.text text) (routines_of program)
       routine named in
       let sound : IsSound routine = routine_sound program.decls [] routine tt grammar member in
-      let scope = head_scope sound.earlier routine.procedure in
       let vars = routine.procedure.locals in
-      let params = formal_names routine.procedure.params in
-      let fits = declared.locals routine (Contains-from_among (routines_of program) routine member)
-      sound.earlier sound.own in
       let first : Framed = record { names = []; numbers = calling.numbers } in
+      let params = formal_names routine.procedure.params in
       let taking = given_frames entry.line params calling.actuals first next in
       let last = local_frames setup entry vars taking.frame taking.next in
-      let taken : AreTaken program known text taking.frame.names params =
-      givens_taken program known text entry.line params calling.actuals first next [] given
-      NoFormal in
-      let framed : IsFrame program known text last.frame.names taking.frame.names
-      (local_arrays [] vars) (flat_map (var_entries scope) vars) =
-      locals_framed program known text setup refl entry scope taking.frame.names vars taking.frame
-      taking.next [] []
-      (all_homes program settings clean limits storages homes apart text vars scope fits
-      (locals_listed program settings clean limits storages homes apart routine member))
-      (record { rest = []; split = sym (append-nil taking.frame.names); local = NoLocal }) in
       let few = length calling.numbers.arrays in
       let has : HasNames few last.frame =
       locals_have few setup entry vars taking.frame taking.next
@@ -183,24 +136,11 @@ module _ (program : Program) (settings : List Setting) (grammar : IsProgram prog
             has.more has.below behind;
         behind = body_below few (length last.frame.numbers.arrays) [] setup.globals has.more tt
             behind;
-        told = reached_home program known text routine named (names_once program clean) scope
-            sound.own last.frame.names taking.frame.names setup.globals taken framed
-            (global_homes program settings clean limits storages homes apart declared.globals);
+        told = frame_told program settings grammar clean limits accepted storages homes apart
+            declared text routine named entry calling next given;
       }
 
   -- ---- calls
-
-  call_there : (routine : Routine) (reach : Reach) (role : CallRole) (name : Name)
-      (actuals : Exprs) → IsGood program routine (AtCall reach role name actuals) →
-      Among (calls_under program unknown_shapes routine)
-      (record { name = name; actuals = actuals; shapes = reach.shapes })
-  call_there routine reach role name actuals good =
-      let call : CallSite = record { name = name; actuals = actuals; shapes = reach.shapes } in
-      filter_there call_of (routine_sites program unknown_shapes routine)
-      (AtCall reach role name actuals) call good.1
-      (ap (λ b. cond b (Some call) None)
-      (not_false (is_procedure (kind_of reach.scope name))
-      (no_place (not (is_procedure (kind_of reach.scope name))) name.at good.0.known)))
 
   number_of : (arrays : List Stored) (environment : Environment) (name : List ℕ) (place : ℕ)
       (home : Region) → AllBelow (length arrays) environment →
@@ -223,10 +163,7 @@ module _ (program : Program) (settings : List Setting) (grammar : IsProgram prog
       let formals = formals_in (kind_of w.scope name) in
       let call : CallSite = record { name = name; actuals = actuals; shapes = is.reach.shapes } in
       let there : Contains (calls_in program inside.text) call =
-      subst (λ (found : Option Routine). Contains (calls_of program unknown_shapes found) call)
-      (sym inside.named)
-      (Contains-from_among (calls_under program unknown_shapes routine) call
-      (call_there routine is.reach is.role name actuals is.site)) in
+      call_there program inside.text routine inside.named is.reach is.role name actuals is.site in
       let numbers_here = is.within.numbers_are in
       let names_here = is.within.names_are in
       let kept : AllKept w.numbers.arrays =
@@ -238,12 +175,8 @@ module _ (program : Program) (settings : List Setting) (grammar : IsProgram prog
       subst (λ (n : Numbers). AllBelow (length n.arrays) w.environment) (sym numbers_here)
       (subst (λ (e : Environment). AllBelow (length numbers.arrays) e) (sym names_here)
       inside.below) in
-      let told : (n : List ℕ) (place : ℕ) (home : Region) →
-      thing_of w.environment n ≡ Some (ArrayAt place home) →
-      IsToldHome program known inside.text n home =
-      subst (λ (e : Environment). (n : List ℕ) (place : ℕ) (home : Region) →
-      thing_of e n ≡ Some (ArrayAt place home) → IsToldHome program known inside.text n home)
-      (sym names_here) inside.told in
+      let told : AreTold program known inside.text w.environment =
+      subst (AreTold program known inside.text) (sym names_here) inside.told in
       let params = formal_names callee.routine.procedure.params in
       let same : length params ≡ length formals =
       as_many (head_scope callee.of.earlier callee.routine.procedure)
@@ -253,25 +186,16 @@ module _ (program : Program) (settings : List Setting) (grammar : IsProgram prog
       let proper : AreProperActuals (place_at w is.result is.currents is.edge) formals actuals =
       subst (λ found. AreProperActuals (place_at w is.result is.currents is.edge)
       (formals_in found) actuals) (sym is.proper.called) is.proper.taken in
-      let on : (handed : Handed) → Among (each_handed params actuals) handed → (home : Region) →
-      IsToldHome program known inside.text handed.actual home →
-      IsToldHome program known name.text handed.formal home =
-      λ handed m home one. record {
-        variable = one.variable;
-        stands = Parameter inside.text call handed one.variable inside.called there
-            (subst (λ (found : Option Routine). Contains (handed_to found actuals) handed)
-            (sym callee.named)
-            (Contains-from_among (each_handed params actuals) handed m)) one.stands;
-        is = one.is;
-      } in
       inside_of name.text callee.routine callee.named
       (reach_more program program.name.text inside.text call inside.called there) entry
       (calling_of w name actuals scalar target line) next
-      (givens_told program known inside.text name.text w is.result is.currents is.edge told
+      (givens_told program known inside.text name.text w
+      (place_at w is.result is.currents is.edge) (λ actual h. h) (λ actual h. h) told
       (λ n place home there. number_of w.numbers.arrays w.environment n place home below there)
-      scalar params formals actuals same proper on)
-      (givens_fine IsStorage w (λ place stored. kept_at w.numbers.arrays place stored kept) scalar
-      formals actuals) kept
+      scalar params formals actuals same proper
+      (handed_told program known inside.text name actuals is.reach.shapes inside.called there
+      callee.routine callee.named)) (givens_fine IsStorage w (λ place stored. kept_at
+      w.numbers.arrays place stored kept) scalar formals actuals) kept
       (givens_below (length w.numbers.arrays) w below scalar formals actuals) behind
 
   enters : (routine : Routine) (environment : Environment) (numbers : Numbers) →
@@ -307,28 +231,10 @@ module _ (program : Program) (settings : List Setting) (grammar : IsProgram prog
       thing_of environment name.text ≡ Some (ArrayAt place home) →
       IsStorage (copy_storage home (vector_in setup.known shift))
   reads routine environment numbers inside reach rank at name shift place home site there =
-      let told = inside.told name.text place home there in
-      let read : AroundRead = record { array = name.text; shift = shift } in
-      copy_kept limits program known told.variable shift home told.is.0 told.is.1
-      (λ past. accepted RegionLimit (inr (record {
-        variable = told.variable;
-        shift = shift;
-        read = record {
-          text = inside.text;
-          read = read;
-          called = inside.called;
-          there = subst (λ (found : Option Routine).
-              Contains (flat_map around_at (sites_of program unknown_shapes found)) read)
-              (sym inside.named)
-              (Contains-from_among
-              (flat_map around_at (routine_sites program unknown_shapes routine)) read
-              (flat_there around_at (routine_sites program unknown_shapes routine)
-              (AtExpr reach rank (Around at name shift)) read site (inl refl)));
-          stands = told.stands;
-          shifted = refl;
-        };
-        past = past;
-      })))
+      read_kept program settings grammar clean limits accepted storages homes apart declared
+      inside.text inside.called name.text shift home
+      (read_there program inside.text routine inside.named reach rank at name shift site)
+      (inside.told name.text place home there)
 
   -- ---- the whole program
 

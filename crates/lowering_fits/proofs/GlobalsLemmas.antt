@@ -24,6 +24,7 @@ use Rattle.zpl_lowering.specs.Where.{Stored, Numbers}
 use Rattle.zpl_lowering.specs.Program.{global_numbers, scalars_from, arrays_from}
 use Rattle.lowering_fits.specs.Reach.{IsStoredAs, IsKept, named_thing, AreGlobals}
 use Rattle.lowering_fits.specs.Declarations.{FitsDeclared, FitGlobals, FitsDecl, FitDecls}
+use Rattle.lowering_fits.specs.Storages.{IsHomeIn}
 use Rattle.lowering_fits.proofs.KeptLemmas.{Grows, kept_grows}
 
 -- ---- numbers of global variables
@@ -39,12 +40,11 @@ arrays_front k [] ys place stored is = let no : ⊥ = cc in absurd no
 arrays_front k (x ∷ xs) ys zero stored is = is
 arrays_front k (x ∷ xs) ys (suc place) stored is = arrays_front (suc k) xs ys place stored is
 
-arrays_end : (k : ℕ) (xs : List Array) (array : Array) (shape : Option Shape) →
-    IsStoredAs shape (record { array = 0; storage = array.storage }) →
-    IsSomeAnd (slice_get (arrays_from k (xs ++ array ∷ [])) (length xs)) (IsStoredAs shape)
-arrays_end k [] array shape is =
-    record { rank = is.rank; ranges = is.ranges; floods = is.floods }
-arrays_end k (x ∷ xs) array shape is = arrays_end (suc k) xs array shape is
+arrays_end : (k : ℕ) (xs : List Array) (array : Array) (Holds : Stored → Type 0) →
+    ((number : ℕ) → Holds (record { array = number; storage = array.storage })) →
+    IsSomeAnd (slice_get (arrays_from k (xs ++ array ∷ [])) (length xs)) Holds
+arrays_end k [] array Holds holds = holds k
+arrays_end k (x ∷ xs) array Holds holds = arrays_end (suc k) xs array Holds holds
 
 -- ---- names that stand among entries
 
@@ -125,10 +125,10 @@ scalar_entered xs name base value frame are =
 array_entered : (xs : List Entry) (name : Name) (base : Base) (shape : Option Shape)
     (home : Region) (array : Array) (frame : Frame) →
     IsStoredAs shape (record { array = 0; storage = array.storage }) → FitsBox home →
-    option_map length shape ≡ Some home.rank → Entered xs frame →
+    option_map length shape ≡ Some home.rank → IsHomeIn array.storage home → Entered xs frame →
     Entered (xs ++ entry_for (kind.Array base shape) name ∷ [])
     (with_array_named frame name home array)
-array_entered xs name base shape home array frame is box same are =
+array_entered xs name base shape home array frame is box same homed are =
     one_more xs name (kind.Array base shape) (ArrayAt (length frame.store.arrays) home) frame
     (with_array_named frame name home array)
     (record {
@@ -136,9 +136,12 @@ array_entered xs name base shape home array frame is box same are =
       arrays = λ place stored is. arrays_front 0 frame.store.arrays (array ∷ []) place stored is;
     }) refl
     (record {
-      has = arrays_end 0 frame.store.arrays array shape is;
+      has = arrays_end 0 frame.store.arrays array (IsStoredAs shape)
+          (λ number. record { rank = is.rank; ranges = is.ranges; floods = is.floods });
       box = box;
       same = same;
+      homed = arrays_end 0 frame.store.arrays array (λ stored. IsHomeIn stored.storage home)
+          (λ number. homed);
     }) are
 
 fixed_entered : (xs : List Entry) (name : Name) (one : Kind) (value : ℤ) (frame : Frame) →
@@ -173,7 +176,8 @@ module _ (setup : Setup) where
       (append_assoc xs one (map (entry_for (kind.Array base shape)) names))
       (names_entered names (Bracketed region) base scope inner (xs ++ one) fits
       (array_entered xs name base shape (home_box setup.known region)
-      (zero_array (storage_box setup.known setup.borders region)) frame fits.0 fits.1 fits.2 are))
+      (zero_array (storage_box setup.known setup.borders region)) frame fits.0 fits.1 fits.2 fits.4
+      are))
 
   globals_entered : (vars : List VarDef) (frame : Frame) (xs : List Entry) →
       FitGlobals setup xs vars → Entered xs frame →

@@ -21,6 +21,7 @@ use Rattle.zpl_lowering.specs.Where.{Stored, Numbers, Next}
 use Rattle.zpl_lowering.specs.Statement.{Given, Valued, Copied, Referring}
 use Rattle.zpl_lowering.specs.Program.{Framed, with_scalar, with_array, Entry as CallEntry}
 use Rattle.lowering_fits.specs.Reach.{IsStoredAs, FitsName, IsKept, named_thing}
+use Rattle.lowering_fits.specs.Storages.{IsHomeIn}
 use Rattle.lowering_fits.specs.Declarations.{FitsDeclared, FitAllDeclared}
 use Rattle.lowering_fits.specs.Whole.{given_frame, given_frames, local_frame, name_frames, local_frames}
 
@@ -83,6 +84,7 @@ name_grows few more grows shape place home is = record {
   has = some_grows few more grows (IsStoredAs shape) place is.has;
   box = is.box;
   same = is.same;
+  homed = some_grows few more grows (λ stored. IsHomeIn stored.storage home) place is.homed;
 }
 
 pub kept_grows : (few more : Numbers) → Grows few more → (one : Kind) (thing : Thing) →
@@ -174,6 +176,7 @@ IsGivenOf numbers (ScalarFormal true base) (Valued scalar) = ⊥
 IsGivenOf numbers (ScalarFormal true base) (Copied stored home) = ⊥
 IsGivenOf numbers (ArrayFormal false base shape) (Copied stored home) =
     IsStoredAs shape stored × FitsBox home × (option_map length shape ≡ Some home.rank)
+    × IsHomeIn stored.storage home
 IsGivenOf numbers (ArrayFormal false base shape) (Valued scalar) = ⊥
 IsGivenOf numbers (ArrayFormal false base shape) (Referring thing) = ⊥
 IsGivenOf numbers (ArrayFormal true base shape) (Referring thing) =
@@ -222,10 +225,11 @@ scalar_kept few xs frame name base scalar has =
 
 array_kept : (few : Numbers) (xs : List Entry) (frame : Framed) (name : Name) (base : Base)
     (shape : Option Shape) (home : Region) (stored : Stored) → IsStoredAs shape stored →
-    FitsBox home → option_map length shape ≡ Some home.rank → HasKept few xs frame →
+    FitsBox home → option_map length shape ≡ Some home.rank → IsHomeIn stored.storage home →
+    HasKept few xs frame →
     HasKept few (xs ++ entry_for (kind.Array base shape) name ∷ [])
     (with_array frame name home stored)
-array_kept few xs frame name base shape home stored is box same has =
+array_kept few xs frame name base shape home stored is box same homed has =
     let inner = with_array frame name home stored in
     let more = array_grows frame name home stored in
     record {
@@ -236,6 +240,8 @@ array_kept few xs frame name base shape home stored is box same has =
             has = at_end (IsStoredAs shape) frame.numbers.arrays stored is;
             box = box;
             same = same;
+            homed = at_end (λ stored. IsHomeIn stored.storage home) frame.numbers.arrays stored
+                homed;
           })
           (are_grown frame.numbers inner.numbers more xs frame.names has.kept);
     }
@@ -269,7 +275,8 @@ given_kept few line (ScalarFormal true base) (Copied stored home) frame name nex
 given_kept few line (ArrayFormal false base shape) (Copied stored home) frame name next xs is has =
     array_kept few xs frame name base shape home
     (record { array = next.arrays; storage = stored.storage })
-    (record { rank = is.0.rank; ranges = is.0.ranges; floods = is.0.floods }) is.1 is.2 has
+    (record { rank = is.0.rank; ranges = is.0.ranges; floods = is.0.floods }) is.1 is.2 is.3
+    has
 given_kept few line (ArrayFormal false base shape) (Valued scalar) frame name next xs is has =
     absurd is
 given_kept few line (ArrayFormal false base shape) (Referring thing) frame name next xs is has =
@@ -365,7 +372,7 @@ names_kept few setup entry scope (Bracketed region) base right (name ∷ names) 
       array = next.arrays;
       storage = storage_box setup.known setup.borders region;
     }) (record { rank = right.0.rank; ranges = right.0.ranges; floods = right.0.floods }) right.1
-    right.2 has))
+    right.2 right.4 has))
 
 pub locals_kept : (few : Numbers) (setup : Setup) (entry : CallEntry) (scope : Scope)
     (vars : List VarDef) → FitAllDeclared setup scope vars → (frame : Framed) (next : Next)

@@ -20,6 +20,7 @@ use Rattle.zpl_lowering.specs.Where.{Stored, Numbers, Where}
 use Rattle.zpl_lowering.specs.Statement.{Given, Copied, Referring, referring, copying, given_to}
 use Rattle.lowering_fits.specs.Slates.{AllBelow}
 use Rattle.lowering_fits.specs.Reach.{IsStoredAs, FitsName, FitNames, FitScalars, IsKept, named_thing, AreGlobals}
+use Rattle.lowering_fits.specs.Storages.{IsHomeIn}
 use Rattle.lowering_fits.proofs.KeptLemmas.{AreKept, IsBoth, kept_found, AreGivenOf}
 
 -- ---- names of lists, one behind the other
@@ -218,18 +219,20 @@ module _ (w : Where) (place : Place) (scoped : w.scope ≡ place.scope)
 
   copy_of : (place : ℕ) (home : Region) (shape : Option Shape) →
       FitsName w.numbers shape place home → (rest : List Given) (Holds : List Given → Type 0) →
-      ((stored : Stored) → IsStoredAs shape stored → Holds (Copied stored home ∷ rest)) →
+      ((stored : Stored) → IsStoredAs shape stored → IsHomeIn stored.storage home →
+      Holds (Copied stored home ∷ rest)) →
       Holds (copying w.numbers (Some (ArrayAt place home)) ++ rest)
   copy_of place home shape fits rest Holds holds =
-      by (slice_get w.numbers.arrays place) refl fits.has
+      by (slice_get w.numbers.arrays place) refl fits.has fits.homed
     where
       by : (found : Option Stored) → slice_get w.numbers.arrays place ≡ found →
           IsSomeAnd found (IsStoredAs shape) →
+          IsSomeAnd found (λ stored. IsHomeIn stored.storage home) →
           Holds (copying w.numbers (Some (ArrayAt place home)) ++ rest)
-      by None is has = absurd has
-      by (Some stored) is has =
+      by None is has homed = absurd has
+      by (Some stored) is has homed =
           subst (λ (some : List Given). Holds (some ++ rest)) (copied stored is)
-          (holds stored has)
+          (holds stored has homed)
         where
           copied : (stored : Stored) → slice_get w.numbers.arrays place ≡ Some stored →
               Copied stored home ∷ [] ≡ copying w.numbers (Some (ArrayAt place home))
@@ -259,4 +262,4 @@ module _ (w : Where) (place : Place) (scoped : w.scope ≡ place.scope)
       (copying w.numbers thing ++ given_to w scalar formals rest)) (sym found.2)
       (copy_of found.0 found.1 shape found.3 (given_to w scalar formals rest)
       (AreGivenOf w.numbers (ArrayFormal false base shape ∷ formals))
-      (λ stored is. ((is, found.3.box, found.3.same), others)))
+      (λ stored is homed. ((is, found.3.box, found.3.same, homed), others)))

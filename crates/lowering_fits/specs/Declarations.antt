@@ -9,7 +9,7 @@ use Rattle.zpl_meaning.specs.Context.{Setup}
 use Rattle.zpl_meaning.specs.Variables.{home_box, storage_box}
 use Rattle.zpl_meaning.specs.Visited.{first_setup}
 use Rattle.lowering_fits.specs.Slates.{FitsBox}
-use Rattle.lowering_fits.specs.Storages.{IsStorage}
+use Rattle.lowering_fits.specs.Storages.{IsHomeIn, IsStorage}
 use Rattle.lowering_fits.specs.Reach.{IsStoredAs}
 
 -- the storage and the home box of a declared array are as the text says, and may stand in tables
@@ -21,6 +21,7 @@ FitsDeclared setup scope (Bracketed inner) =
     let storage = storage_box setup.known setup.borders inner in
     IsStoredAs shape (record { array = 0; storage = storage })
     × FitsBox home × (option_map length shape ≡ Some home.rank) × IsStorage storage
+    × IsHomeIn storage home
 
 abbrev pub FitAllDeclared : Setup → Scope → List VarDef → Type 0
 FitAllDeclared setup scope [] = Unit {0}

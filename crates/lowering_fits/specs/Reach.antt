@@ -26,7 +26,7 @@ use Rattle.node_form.specs.Fits.{HasSlot}
 use Rattle.zpl_lowering.specs.Where.{Stored, Numbers, Slotted, SlotCurrents, slotted_or, Where}
 use Rattle.zpl_lowering.specs.Bracket.{region_slot}
 use Rattle.lowering_fits.specs.Slates.{AllRanges, FitsOver, FitNumbers, FitsBox, FitsVector}
-use Rattle.lowering_fits.specs.Storages.{AllKept}
+use Rattle.lowering_fits.specs.Storages.{AllKept, IsHomeIn}
 
 -- ---- regions
 
@@ -91,12 +91,13 @@ pub record IsStoredAs (shape : Option Shape) (stored : Stored) : Type 0 where
       AllRanges (take stored.storage.rank stored.storage.dims)
   pub floods : (one : Shape) → shape ≡ Some one → AreFloods one stored.storage.dims
 
--- its array has a number, and its home box may stand in a row
+-- its array has a number, and its home box may stand in a row and lies in the storage
 pub record FitsName (numbers : Numbers) (shape : Option Shape) (place : ℕ) (home : Region) : Type 0
   where
     pub has : IsSomeAnd (slice_get numbers.arrays place) (IsStoredAs shape)
     pub box : FitsBox home
     pub same : option_map length shape ≡ Some home.rank
+    pub homed : IsSomeAnd (slice_get numbers.arrays place) (λ stored. IsHomeIn stored.storage home)
 
 abbrev pub FitNames : Scope → Environment → Numbers → Type 0
 FitNames scope environment numbers =

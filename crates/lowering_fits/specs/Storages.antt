@@ -1,9 +1,12 @@
--- The storages of arrays: boxes within the limit.
-use Rattle.std.specs.Prelude.{◌≡◌, List, [], ◌∷◌, length}
+-- The storages of arrays: boxes within the limit, in which home boxes lie.
+use Rattle.std.specs.Prelude.{◌≡◌, true, List, [], ◌∷◌, length}
 use Rattle.zpl_region.specs.declared.dims.Dim.{Dim}
 use Rattle.zpl_region.specs.declared.regions.Region.{Region}
 use Rattle.zpl_region.specs.Hull.{IsBoxed}
 use Rattle.zpl_region.specs.Region.{IsPadded, IsWithinLimit}
+use Rattle.zpl_arrays.specs.Reference.{lies_in}
+use Rattle.zpl_names.specs.Kinds.{Shape}
+use Rattle.meaning_ranks.specs.Shaped.{AreFloods}
 use Rattle.node_form.specs.Fits.{IsRank}
 use Rattle.zpl_lowering.specs.Where.{Stored}
 
@@ -18,6 +21,13 @@ pub record IsStorage (storage : Region) : Type 0 where
   pub three : length storage.dims ≡ 3
   pub padded : IsPadded storage.rank storage.dims
   pub limit : IsWithinLimit storage
+
+-- The home box of what a storage is for is within the limit, and lies in the storage, which has its
+-- flood dimensions.
+pub record IsHomeIn (storage home : Region) : Type 0 where
+  pub kept : IsStorage home
+  pub floods : (shape : Shape) → AreFloods shape home.dims → AreFloods shape storage.dims
+  pub lies : lies_in home storage ≡ true
 
 abbrev pub AllStorages : List Region → Type 0
 AllStorages [] = Unit {0}
