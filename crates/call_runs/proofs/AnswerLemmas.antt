@@ -41,7 +41,7 @@ use Rattle.lowering_runs.specs.Values.{AreSet, nodes_of}
 use Rattle.lowering_runs.specs.Frames.{seen_given}
 use Rattle.lowering_runs.specs.Called.{calling_at}
 use Rattle.lowering_runs.proofs.CallLemmas.{value_meant}
-use Rattle.lowering_runs.proofs.FitLemmas.{room_first, room_here, room_rest}
+use Rattle.lowering_runs.proofs.FitLemmas.{room_coded, room_first, room_here, room_rest}
 use Rattle.lowering_runs.proofs.FrameLemmas.{cut_seen, map_append}
 use Rattle.lowering_runs.proofs.HeadLemmas.{phased_length, with_computed_value}
 use Rattle.lowering_runs.proofs.ListLemmas.{filled_agrees, meant_length}
@@ -259,12 +259,7 @@ module _ (IsCalled : Where → List Given → Called → Type 0) (IsValue : Expr
       (joined (code.Rows []) own (world.code (calling_at w callee.text givens k line) more)) =
       subst (λ (m : ℕ). HasRoom world.tables next
       (joined (code.Rows []) own (world.code (calling_at w callee.text givens m line) more))) target_eq
-      (record {
-        scalars = room.scalars;
-        slots = room.slots;
-        arrays = room.arrays;
-        temps = room.temps;
-      }) in
+      (room_coded world.tables next (code.Rows []) _ room) in
       let inside = room_rest world.tables next (code.Rows []) own
       (world.code (calling_at w callee.text givens k line) more) rooms in
       let few = values_counted IsValue sight w start formals actuals in

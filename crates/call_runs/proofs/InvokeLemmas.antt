@@ -25,7 +25,7 @@ use Rattle.lowering_runs.specs.Values.{AreSet, nodes_of}
 use Rattle.lowering_runs.specs.Frames.{seen_given}
 use Rattle.lowering_runs.specs.Called.{calling_at}
 use Rattle.lowering_runs.proofs.CallLemmas.{value_meant}
-use Rattle.lowering_runs.proofs.FitLemmas.{room_first, room_rest}
+use Rattle.lowering_runs.proofs.FitLemmas.{room_coded, room_first, room_rest}
 use Rattle.lowering_runs.proofs.HeadLemmas.{phased_length, with_computed_value}
 use Rattle.lowering_runs.proofs.ListLemmas.{filled_agrees, meant_length}
 use Rattle.call_runs.specs.Taken.{CallsGo, IsInvoked}
@@ -53,7 +53,7 @@ module _ (IsCalled : Where → List Given → Called → Type 0) (IsValue : Expr
       let calling = calling_at w name.text givens 0 line in
       let few = values_counted IsValue sight w start formals actuals in
       let rooms : HasRoom tables next (joined (code.Rows []) own (world.code calling more)) =
-      record { scalars = room.scalars; slots = room.slots; arrays = room.arrays; temps = room.temps } in
+      room_coded tables next (code.Rows []) _ room in
       let many = phased_length w line next exprs in
       let handed : List ℤ → List Handed =
       λ values. handed_on p.environment store formals actuals values in

@@ -33,7 +33,7 @@ use Rattle.lowering_runs.specs.Run.{does}
 use Rattle.lowering_runs.specs.Agrees.{Agrees}
 use Rattle.lowering_runs.specs.Stands.{IsBefore, IsKnown, HasRoom, IsSound, Keeps}
 use Rattle.lowering_runs.specs.Frames.{seen_frame, seen_given, Framing, AreGiven, IsScalarShape, AreScalarLocals, IsFresh}
-use Rattle.lowering_runs.proofs.FitLemmas.{room_rest}
+use Rattle.lowering_runs.proofs.FitLemmas.{room_coded, room_rest}
 use Rattle.lowering_runs.proofs.NumberLemmas.{rises_on, same_spots, get_set_same, get_set_other}
 use Rattle.lowering_runs.proofs.RowLemmas.{set, set_to, set_step, set_sound}
 use Rattle.lowering_runs.proofs.FrameLemmas.{map_append, thing_below, known_both, thing_more, framing_with, scalar_frame}
@@ -284,7 +284,7 @@ module _ (tables : Tables) (n : ℕ) (setup : Setup) (entry : Entry) (base : Lis
       })
       (fresh_after entry.clears k more.scalars now (omega arith) fresh)
       (room_rest tables next (code.Rows []) first (rest inner more)
-      (record { scalars = room.scalars; slots = room.slots; arrays = room.arrays; temps = room.temps }))
+      (room_coded tables next (code.Rows []) _ room))
       (subst (λ (x : Frame). IsReached x) frame reached)))
 
   names_go : (shape : Bracket) (names : List Name) (IsReached : Frame → Type 0)

@@ -33,7 +33,7 @@ use Rattle.lowering_runs.specs.Frames.{seen_given, AreGiven}
 use Rattle.lowering_runs.specs.Goes.{World, Goes}
 use Rattle.lowering_runs.specs.Leaves.{AreServedActuals, IsServedInvoke}
 use Rattle.lowering_runs.specs.Called.{calling_at, CallsAgree}
-use Rattle.lowering_runs.proofs.FitLemmas.{room_first, room_rest}
+use Rattle.lowering_runs.proofs.FitLemmas.{room_coded, room_first, room_rest}
 use Rattle.lowering_runs.proofs.ValueLemmas.{thing_seen, known_thing}
 use Rattle.lowering_runs.specs.Values.{AreSet, Hold, meant}
 use Rattle.lowering_runs.proofs.ListLemmas.{AreScalarsAt, filled_agrees, meant_length}
@@ -220,7 +220,7 @@ module _ (world : World) (setup : Setup) (IsCallable : List ℕ → Type 0)
       let calling = calling_at w name.text givens 0 line in
       let scalars = value_scalars sight w start formals actuals served.actuals_are in
       let rooms : HasRoom tables next (joined (code.Rows []) own (world.code calling more)) =
-      record { scalars = room.scalars; slots = room.slots; arrays = room.arrays; temps = room.temps } in
+      room_coded tables next (code.Rows []) _ room in
       let many = phased_length w line next exprs in
       let handed : List ℤ → List Handed =
       λ values. handed_on p.environment store formals actuals values in

@@ -27,7 +27,7 @@ use Rattle.lowering_runs.specs.Suits.{ScalarTest}
 use Rattle.lowering_runs.proofs.AgreeLemmas.{goes_agrees, weaker_agrees, jumping_agrees}
 use Rattle.lowering_runs.proofs.AgreeLemmas.{leaving_agrees, then_agrees}
 use Rattle.lowering_runs.proofs.LoopLemmas.{more_heads, tested_agrees, while_agrees, repeat_agrees}
-use Rattle.lowering_runs.proofs.FitLemmas.{itself, before_behind, room_first, room_rest}
+use Rattle.lowering_runs.proofs.FitLemmas.{itself, before_behind, room_coded, room_first, room_rest}
 use Rattle.lowering_runs.proofs.FitLemmas.{later_goes}
 use Rattle.lowering_runs.proofs.ScalarLemmas.{heads}
 
@@ -108,7 +108,7 @@ module _ (world : World) where
         let inside = low.lowered_all l more body in
         let rooms : HasRoom world.tables next
         (joined (code.Then t.before.code inside.code) t.before inside) =
-        record { scalars = room.scalars; slots = room.slots; arrays = room.arrays; temps = room.temps } in
+        room_coded world.tables next (code.Then t.before.code inside.code) _ room in
         tested_agrees (Like sight w next start) (Like sight w next start) world.turns
         (mean.test_of (seen_place sight w start) test at)
         (decide world.tables world.turns t.check) (expr_nodes test) 2 0 store
@@ -145,7 +145,7 @@ module _ (world : World) where
         let both : Lowered = joined (code.Then inside.code other.code) inside other in
         let all : HasRoom world.tables next
         (joined (code.Then t.before.code inside.code) t.before both) =
-        record { scalars = room.scalars; slots = room.slots; arrays = room.arrays; temps = room.temps } in
+        room_coded world.tables next (code.Then t.before.code inside.code) _ room in
         let rooms : HasRoom world.tables more both =
         room_rest world.tables next (code.Then t.before.code inside.code) t.before both all in
         let leave : Whole → Course Whole = λ state. code.jumping (code.goes_on state) in

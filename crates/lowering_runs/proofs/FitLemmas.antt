@@ -2,7 +2,7 @@
 use Rattle.std.proofs.Common.{◌≡◌, ℕ, zero, suc, ◌+◌, ◌≤◌, ◌<◌, Bool, List, [], ◌∷◌, ◌++◌}
 use Rattle.std.proofs.Common.{length}
 use Rattle.std.specs.Prelude.{slice_get, slice_index_or}
-use Rattle.std.proofs.Common.{Option, Some, None, refl, sym, ap, ◌∙◌, subst, arith}
+use Rattle.std.proofs.Common.{Option, Some, None, refl, sym, ap, ◌∙◌, subst, arith, length-append}
 use Rattle.std.specs.Option.{option_map}
 use Rattle.zpl_region.specs.declared.regions.Region.{Region}
 use Rattle.zpl_binding.specs.Outcome.{Computed, value_or}
@@ -19,11 +19,12 @@ use Rattle.row_runs.specs.Structured.{Piece}
 use Rattle.flat_form.specs.Row.{Row}
 use Rattle.zpl_lowering.specs.Check.{Check}
 use Rattle.zpl_lowering.specs.Lowered.{Lowered, behind, joined}
+use Rattle.zpl_lowering.specs.Program.{in_call, out_of_call}
 use Rattle.zpl_lowering.specs.Statement.{Lowering}
 use Rattle.lowering_runs.specs.Seen.{slot_in, Spot, Sight, numbered, seen_over, seen_currents, seen_edge, seen_place, seen_store}
 use Rattle.lowering_runs.specs.Run.{does}
 use Rattle.lowering_runs.specs.Agrees.{Agrees}
-use Rattle.lowering_runs.specs.Stands.{IsBefore, IsTaken, IsTakenEdge, AreTaken, array_numbers, SlotsAt, RowsAt, TempsAt, IsCurrentIf, AreDeclared, IsHeld, Stands, HasRoom, Keeps, IsLike}
+use Rattle.lowering_runs.specs.Stands.{IsBefore, IsTaken, IsTakenEdge, AreTaken, array_numbers, SlotsAt, RowsAt, TempsAt, CopiesAt, IsCurrentIf, AreDeclared, IsHeld, Stands, HasRoom, Keeps, IsLike}
 use Rattle.lowering_runs.specs.Goes.{World, context, lowering, Goes, GoesTo}
 use Rattle.lowering_runs.proofs.NumberLemmas.{rises_on}
 use Rattle.lowering_runs.proofs.AgreeLemmas.{alike_agrees}
@@ -231,23 +232,124 @@ temps_rest rows k [] more h = subst (λ (i : ℕ). TempsAt rows i more) (omega a
 temps_rest rows k (flood ∷ temps) more h =
     subst (λ (i : ℕ). TempsAt rows i more) (omega arith) (temps_rest rows (suc k) temps more h.1)
 
+-- copies are arrays of the tables
+pub copies_stored : (rows : List ArrayRow) (arrays temps k : ℕ) (copies : List Region)
+    → CopiesAt rows arrays temps k copies → RowsAt rows k copies
+copies_stored rows arrays temps k [] h = tt
+copies_stored rows arrays temps k (storage ∷ copies) h =
+    (h.2, copies_stored rows arrays temps (suc k) copies h.3)
+
+-- arrays that are all behind so many, and before temporaries, may be copies
+pub stored_copies : (rows : List ArrayRow) (arrays temps k : ℕ) (copies : List Region)
+    → arrays ≤ k → k + length copies ≤ temps → RowsAt rows k copies
+    → CopiesAt rows arrays temps k copies
+stored_copies rows arrays temps k [] above below h = tt
+stored_copies rows arrays temps k (storage ∷ copies) above below h = (
+  above,
+  omega (arith, below),
+  h.0,
+  stored_copies rows arrays temps (suc k) copies (omega (arith, above)) (omega (arith, below)) h.1,
+)
+
+-- also behind fewer arrays and before later temporaries
+pub copies_within : (rows : List ArrayRow) (arrays temps fewer later k : ℕ) (copies : List Region)
+    → fewer ≤ arrays → temps ≤ later → CopiesAt rows arrays temps k copies
+    → CopiesAt rows fewer later k copies
+copies_within rows arrays temps fewer later k [] above below h = tt
+copies_within rows arrays temps fewer later k (storage ∷ copies) above below h = (
+  omega (arith, above, h.0),
+  omega (arith, below, h.1),
+  h.2,
+  copies_within rows arrays temps fewer later (suc k) copies above below h.3,
+)
+
+pub copies_first : (rows : List ArrayRow) (arrays temps fewer k : ℕ) (copies more : List Region)
+    → fewer ≤ arrays → CopiesAt rows arrays temps k (copies ++ more)
+    → CopiesAt rows fewer temps k copies
+copies_first rows arrays temps fewer k [] more le h = tt
+copies_first rows arrays temps fewer k (storage ∷ copies) more le h = (
+  omega (arith, le, h.0),
+  h.1,
+  h.2,
+  copies_first rows arrays temps fewer (suc k) copies more le h.3,
+)
+
+pub copies_rest : (rows : List ArrayRow) (arrays temps fewer later k : ℕ)
+    (copies more : List Region) → fewer ≤ arrays → temps ≤ later
+    → CopiesAt rows arrays temps k (copies ++ more)
+    → CopiesAt rows fewer later (k + length copies) more
+copies_rest rows arrays temps fewer later k [] more above below h =
+    subst (λ (i : ℕ). CopiesAt rows fewer later i more) (omega arith)
+    (copies_within rows arrays temps fewer later k more above below h)
+copies_rest rows arrays temps fewer later k (storage ∷ copies) more above below h =
+    subst (λ (i : ℕ). CopiesAt rows fewer later i more) (omega arith)
+    (copies_rest rows arrays temps fewer later (suc k) copies more above below h.3)
+
+-- for other code that has the same of its own
+pub room_coded : (tables : Tables) (next : Next) (piece : Piece Row Check) (own : Lowered)
+    → HasRoom tables next own → HasRoom tables next (record own { code = piece })
+room_coded tables next piece own h = record {
+  scalars = h.scalars;
+  slots = h.slots;
+  arrays = h.arrays;
+  copies = h.copies;
+  later = h.later;
+  temps = h.temps;
+}
+
 pub room_first : (tables : Tables) (next : Next) (piece : Piece Row Check) (one other : Lowered)
     → HasRoom tables next (joined piece one other) → HasRoom tables next one
-room_first tables next piece one other h = record {
-  scalars = omega (arith, h.scalars);
-  slots = slots_first tables.slots next.slots one.slots other.slots h.slots;
-  arrays = rows_first tables.arrays next.arrays one.arrays other.arrays h.arrays;
-  temps = temps_first tables.arrays next.temps one.temps other.temps h.temps;
-}
+room_first tables next piece one other h =
+    let arrays = next.arrays + length (one.arrays ++ other.arrays) in
+    let fewer : next.arrays + length one.arrays ≤ arrays =
+    omega (arith, length-append one.arrays other.arrays) in
+    record {
+      scalars = omega (arith, h.scalars);
+      slots = slots_first tables.slots next.slots one.slots other.slots h.slots;
+      arrays = rows_first tables.arrays next.arrays one.arrays other.arrays h.arrays;
+      copies = copies_first tables.arrays arrays next.temps (next.arrays + length one.arrays)
+          next.copies one.copies other.copies fewer h.copies;
+      later = copies_first tables.arrays arrays next.temps (next.arrays + length one.arrays)
+          next.later one.later other.later fewer h.later;
+      temps = temps_first tables.arrays next.temps one.temps other.temps h.temps;
+    }
 
 pub room_rest : (tables : Tables) (next : Next) (piece : Piece Row Check) (one other : Lowered)
     → HasRoom tables next (joined piece one other) → HasRoom tables (behind next one) other
-room_rest tables next piece one other h = record {
-  scalars = omega (arith, h.scalars);
-  slots = slots_rest tables.slots next.slots one.slots other.slots h.slots;
-  arrays = rows_rest tables.arrays next.arrays one.arrays other.arrays h.arrays;
-  temps = temps_rest tables.arrays next.temps one.temps other.temps h.temps;
-}
+room_rest tables next piece one other h =
+    let arrays = next.arrays + length (one.arrays ++ other.arrays) in
+    let after = behind next one in
+    let fewer : after.arrays + length other.arrays ≤ arrays =
+    omega (arith, length-append one.arrays other.arrays) in
+    record {
+      scalars = omega (arith, h.scalars);
+      slots = slots_rest tables.slots next.slots one.slots other.slots h.slots;
+      arrays = rows_rest tables.arrays next.arrays one.arrays other.arrays h.arrays;
+      copies = copies_rest tables.arrays arrays next.temps (after.arrays + length other.arrays)
+          after.temps next.copies one.copies other.copies fewer (omega arith) h.copies;
+      later = copies_rest tables.arrays arrays next.temps (after.arrays + length other.arrays)
+          after.temps next.later one.later other.later fewer (omega arith) h.later;
+      temps = temps_rest tables.arrays next.temps one.temps other.temps h.temps;
+    }
+
+-- A body has room where its call has: its own copies are the first of those that the call has.
+pub room_inside : (tables : Tables) (next : Next) (reads : ℕ) (body : Lowered)
+    → length body.copies ≡ reads → HasRoom tables next (out_of_call body)
+    → HasRoom tables (in_call reads next) body
+room_inside tables next reads body counted h =
+    let arrays = next.arrays + length body.arrays in
+    record {
+      scalars = h.scalars;
+      slots = h.slots;
+      arrays = h.arrays;
+      copies = copies_first tables.arrays arrays next.temps arrays next.later body.copies body.later
+          (omega arith) h.later;
+      later = subst (λ (k : ℕ). CopiesAt tables.arrays arrays next.temps k body.later)
+          (ap (λ (many : ℕ). next.later + many) counted)
+          (copies_rest tables.arrays arrays next.temps arrays next.temps next.later body.copies
+          body.later (omega arith) (omega arith) h.later);
+      temps = h.temps;
+    }
 
 pub room_here : (tables : Tables) (next : Next) (own : Lowered) → HasRoom tables next own
     → next.scalars ≤ tables.scalars

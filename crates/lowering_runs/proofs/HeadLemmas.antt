@@ -37,7 +37,7 @@ use Rattle.lowering_runs.specs.Values.{AreSet, Fills, meant, nodes_of}
 use Rattle.lowering_runs.specs.Stands.{IsBefore, Stands, HasRoom, IsLike}
 use Rattle.lowering_runs.specs.Goes.{World, context, lowering, Goes, ValuesGo}
 use Rattle.lowering_runs.proofs.NumberLemmas.{get_some}
-use Rattle.lowering_runs.proofs.FitLemmas.{room_first, room_rest}
+use Rattle.lowering_runs.proofs.FitLemmas.{room_coded, room_first, room_rest}
 use Rattle.lowering_runs.proofs.AgreeLemmas.{goes_agrees, jumping_agrees}
 use Rattle.lowering_runs.proofs.ValueLemmas.{thing_seen, known_thing, scalar_unseen}
 use Rattle.lowering_runs.proofs.BareLemmas.{AreScalarsOf, all_passed}
@@ -195,9 +195,9 @@ module _ (world : World) (IsBound : Expr → Where → Place → Type 0)
           let set_ = rows_alone (low.set_row line (Variable c) variable) in
           let rest = followed after set_ (λ more. low.lowered_all (lowering world w) more body) in
           let rows = room_rest world.tables next (code.Then first.code rest.code) first rest
-          (record { scalars = room.scalars; slots = room.slots; arrays = room.arrays; temps = room.temps }) in
+          (room_coded world.tables next (code.Then first.code rest.code) _ room) in
           room_rest world.tables after (code.Then set_.code inside.code) set_ inside
-          (record { scalars = rows.scalars; slots = rows.slots; arrays = rows.arrays; temps = rows.temps })
+          (room_coded world.tables after (code.Then set_.code inside.code) _ rows)
 
       abbrev turn : ℕ → Whole → Course Whole
       turn k now =
@@ -324,7 +324,7 @@ module _ (world : World) (IsBound : Expr → Where → Place → Type 0)
           (room_first world.tables next (code.Rows [])
           (low.with_values line c (phased w line next exprs))
           (coded (low.scalar_of w.numbers (thing_of w.environment head.name.text)))
-          (record { scalars = room.scalars; slots = room.slots; arrays = room.arrays; temps = room.temps }))
+          (room_coded world.tables next (code.Rows []) _ room))
           store now like))
 
   pub for_goes : Goes world IsServedFor

@@ -1,6 +1,7 @@
 -- The code of a procedure goes as a call of it does.
 use Rattle.std.proofs.Common.{◌≡◌, ℕ, zero, suc, ◌≤◌, ◌<◌, Bool, true, List, [], ◌∷◌}
-use Rattle.std.proofs.Common.{◌++◌, length, Option, Some, refl, sym, ap, ◌∙◌, subst, arith, append-nil}
+use Rattle.std.proofs.Common.{◌+◌, ◌++◌, length, Option, Some, refl, sym, ap, ◌∙◌, subst, arith, append-nil}
+use Rattle.zpl_region.specs.declared.regions.Region.{Region}
 use Rattle.zpl_tree.specs.Syntax.{Stmt}
 use Rattle.zpl_names.specs.Declared.{Routine}
 use Rattle.zpl_names.specs.Expansion.{formal_names}
@@ -23,7 +24,7 @@ use Rattle.zpl_lowering.specs.Program.{Framed, Entry}
 use Rattle.lowering_runs.specs.Seen.{Spot, At, Answer, Sight, seen_place, seen_store, seen_names, seen_thing, numbered, slot_in}
 use Rattle.lowering_runs.specs.Run.{does}
 use Rattle.lowering_runs.specs.Agrees.{Agrees}
-use Rattle.lowering_runs.specs.Stands.{Rises, Misses, IsBefore, array_numbers, AreKnown, Stands, HasRoom, IsLike, IsHeld}
+use Rattle.lowering_runs.specs.Stands.{Rises, Misses, IsBefore, array_numbers, AreKnown, CopiesAt, Stands, HasRoom, IsLike, IsHeld}
 use Rattle.lowering_runs.specs.Frames.{seen_frame, AreGiven, IsFresh}
 use Rattle.lowering_runs.specs.Goes.{World}
 use Rattle.lowering_runs.specs.Called.{calling_at, called_at, CallsAgree}
@@ -34,6 +35,7 @@ use Rattle.lowering_runs.proofs.FrameLemmas.{map_append, numbered_append, names_
 use Rattle.lowering_runs.proofs.NumberLemmas.{rises_on}
 use Rattle.lowering_runs.proofs.BodyLemmas.{GoesOn, givens_framed, locals_go}
 use Rattle.lowering_runs.proofs.StatementLemmas.{stmt_agrees}
+use Rattle.lowering_runs.proofs.UncopiedLemmas.{body_uncopied, call_uncopied}
 
 no_shorter : (xs ys : List Spot) → length (numbered xs) ≤ length (numbered (xs ++ ys))
 no_shorter [] ys = omega arith
@@ -215,6 +217,20 @@ module _ (tables : Tables) (n : ℕ) (setup : Setup)
           let inner = low.in_call (low.reads_round setup.program routine) next in
           let code = low.routine_code setup clears (low.call_code setup depth) (Some routine) calling
           next in
+          let body = low.body_code setup entry (low.call_code setup depth) routine calling inner in
+          let none = body_uncopied setup (IsScalarCall setup.program depth) (low.call_code setup depth)
+          (call_uncopied setup depth) entry routine scalar calling inner in
+          let arrays_behind = inner.arrays + length body.arrays in
+          let body_room : HasRoom tables inner body = record {
+            scalars = room.scalars;
+            slots = room.slots;
+            arrays = room.arrays;
+            copies = subst (λ (xs : List Region).
+                CopiesAt tables.arrays arrays_behind inner.temps inner.copies xs) (sym none.0) tt;
+            later = subst (λ (xs : List Region).
+                CopiesAt tables.arrays arrays_behind inner.temps inner.later xs) (sym none.1) tt;
+            temps = room.temps;
+          } in
           let g = givens_framed spots low_next.scalars arrays formals givens empty spots line inner now
           low_next.scalars next.scalars (omega arith) given
           (record {
@@ -245,7 +261,7 @@ module _ (tables : Tables) (n : ℕ) (setup : Setup)
           (all g.frame g.sight inner now g.framing
           (record { scalars = before.scalars; slots = before.slots; arrays = before.arrays }) like.sound like.kept fresh
           (subst (λ (x : Lowered). HasRoom tables inner x) code_is
-          (record { scalars = room.scalars; slots = room.slots; arrays = room.arrays; temps = room.temps })))
+          body_room))
           reached))
           reached
 

@@ -1,7 +1,7 @@
 -- The start of a run: the tables of a lowered program, and the state behind the rows of its declared
 -- regions. It knows no forms of statements.
 use Rattle.std.proofs.Common.{◌≡◌, ℕ, zero, suc, ◌+◌, Bool, ℤ, pos, List, [], ◌∷◌, ◌++◌}
-use Rattle.std.proofs.Common.{append_assoc, length-append}
+use Rattle.std.proofs.Common.{append-nil, append_assoc, length-append, ◌≤◌}
 use Rattle.std.proofs.Common.{map, length, Some, refl, sym, ap, ◌∙◌, subst, arith}
 use Rattle.std.proofs.lemmas.List.Elements.{All-from_recursion}
 use Rattle.std.specs.Prelude.{All, slice_get, slice_index_or}
@@ -47,8 +47,9 @@ use Rattle.lowering_runs.specs.Seen.{scalar_in}
 use Rattle.lowering_runs.specs.Run.{does}
 use Rattle.lowering_runs.specs.Agrees.{Agrees}
 use Rattle.lowering_runs.specs.Shown.{Shows}
-use Rattle.lowering_runs.specs.Stands.{SlotsAt, RowsAt, TempsAt, HasRoom, AreDeclared, IsSound}
+use Rattle.lowering_runs.specs.Stands.{SlotsAt, RowsAt, CopiesAt, TempsAt, HasRoom, AreDeclared, IsSound}
 use Rattle.lowering_runs.proofs.TopLemmas.{shows}
+use Rattle.lowering_runs.proofs.FitLemmas.{stored_copies}
 use Rattle.lowering_runs.proofs.EntryLemmas.{start_zero, start_sound, regions_fixed}
 
 -- ---- rows are read again
@@ -323,15 +324,45 @@ module _ (program : Program) (settings : List Setting) where
         (temps_behind (stored_rows 0 own.shifts (own.arrays ++ (own.copies ++ own.later)))
         own.temps))
 
+    -- all copies are those of calls
+    first_copies : length (own.arrays ++ own.copies) ≡ next.later
+    first_copies =
+        length-append own.arrays own.copies
+        ∙ omega (arith, ap (λ (xs : List Region). length xs) laid.no_copies, laid.later)
+
+    own_copies : RowsAt tables.arrays next.later entry_own.later
+    own_copies =
+        subst (λ (rows : List ArrayRow). RowsAt rows next.later entry_own.later) (sym arrays_are)
+        (subst (λ (k : ℕ). RowsAt array_rows k own.later) first_copies
+        (subst (λ (xs : List Region). RowsAt (stored_rows 0 own.shifts xs ++ map temp_row own.temps)
+        (length (own.arrays ++ own.copies)) own.later) behind_arrays
+        (stored_at own.shifts (own.arrays ++ own.copies) own.later [] (map temp_row own.temps))))
+      where
+        behind_arrays : (own.arrays ++ own.copies) ++ (own.later ++ [])
+            ≡ own.arrays ++ (own.copies ++ own.later)
+        behind_arrays =
+            ap (λ (xs : List Region). (own.arrays ++ own.copies) ++ xs) (append-nil own.later)
+            ∙ append_assoc own.arrays own.copies own.later
+
     room : HasRoom tables next entry_own
-    room = record {
-      scalars = omega (arith, scalars_are);
-      slots = subst (λ (xs : List ℕ). SlotsAt xs next.slots entry_own.slots) (sym slots_are)
-          (subst (λ (k : ℕ). SlotsAt (declared_ranks ++ entry_own.slots) k entry_own.slots)
-          first_slots (slots_behind declared_ranks entry_own.slots));
-      arrays = own_stored;
-      temps = own_temps;
-    }
+    room =
+        let above : next.arrays + length entry_own.arrays ≤ next.later =
+        omega (arith, laid.later, length-append storages entry_own.arrays, first_arrays) in
+        let below : next.later + length own.later ≤ next.temps =
+        omega (arith, laid.later, laid.temps) in
+        record {
+          scalars = omega (arith, scalars_are);
+          slots = subst (λ (xs : List ℕ). SlotsAt xs next.slots entry_own.slots) (sym slots_are)
+              (subst (λ (k : ℕ). SlotsAt (declared_ranks ++ entry_own.slots) k entry_own.slots)
+              first_slots (slots_behind declared_ranks entry_own.slots));
+          arrays = own_stored;
+          copies = subst (λ (xs : List Region). CopiesAt tables.arrays
+              (next.arrays + length entry_own.arrays) next.temps next.copies xs)
+              (sym laid.no_copies) tt;
+          later = stored_copies tables.arrays (next.arrays + length entry_own.arrays) next.temps
+              next.later entry_own.later above below own_copies;
+          temps = own_temps;
+        }
 
     -- ---- the whole run
 

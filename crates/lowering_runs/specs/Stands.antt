@@ -104,11 +104,24 @@ TempsAt rows k [] = Unit {0}
 TempsAt rows k (flood ∷ temps) =
     (slice_get rows k ≡ Some (temp_row flood)) × TempsAt rows (suc k) temps
 
--- there is room in the tables for what code has of its own
+-- copies have these storages, from a number on, behind so many arrays and before temporaries
+abbrev pub CopiesAt : List ArrayRow → ℕ → ℕ → ℕ → List Region → Type 0
+CopiesAt rows arrays temps k [] = Unit {0}
+CopiesAt rows arrays temps k (storage ∷ copies) =
+    (arrays ≤ k) × (k < temps)
+    × ((shifts : List Shifted) × (slice_get rows k ≡ Some (stored_row k shifts storage)))
+    × CopiesAt rows arrays temps (suc k) copies
+
+-- There is room in the tables for what code has of its own. Copies come behind its arrays: those of
+-- the procedure that it stands in, and those of calls.
 pub record HasRoom (tables : Tables) (next : Next) (own : Lowered) : Type 0 where
   pub scalars : next.scalars + own.scalars ≤ tables.scalars
   pub slots : SlotsAt tables.slots next.slots own.slots
   pub arrays : RowsAt tables.arrays next.arrays own.arrays
+  pub copies : CopiesAt tables.arrays (next.arrays + length own.arrays) next.temps next.copies
+      own.copies
+  pub later : CopiesAt tables.arrays (next.arrays + length own.arrays) next.temps next.later
+      own.later
   pub temps : TempsAt tables.arrays next.temps own.temps
 
 -- ---- arrays and current regions

@@ -1327,7 +1327,7 @@ module _ (tables : Tables) (n : ℕ) (spots : List Spot) (w : Where) (line : ℕ
   -- ---- slates, and several of them
 
   mutual
-    pub hoists : {around : Bool} (site : Site) (one : Slate) (meant : Term) → IsMeant around w spots slots site one meant
+    pub hoists : (site : Site) (one : Slate) (meant : Term) → IsMeant w spots slots site one meant
         → IsSite slots site → (now : Whole) → IsState now
         → list_all (holds_in tables slots) (referred w.numbers one) ≡ true → conforms meant ≡ true
         → (free : Unused) → next.scalars ≤ free.scalars → own.temps ≤ free.temps
@@ -1358,7 +1358,7 @@ module _ (tables : Tables) (n : ℕ) (spots : List Spot) (w : Where) (line : ℕ
         (λ j. element_names (slice_get w.numbers.arrays place) shift j)
         (λ later sound i. element_at tables spots w line all later sound over region i place shift r)
     hoists _ _ _ (WrappedMeant {over = over} {region = region} {place = place} {home = home} {d = d}
-        {copy = copy} {first = first} {stored = stored} e in_numbers is ranks covers) i now here held
+        {copy = copy} {first = first} {stored = stored} in_numbers is ranks covers) i now here held
         conf free le since copied space temps =
         wrap_at over region i place home d copy first stored is ranks covers free since copied now
         here held in_numbers (slice_get w.numbers.arrays place) in_numbers
@@ -1469,8 +1469,8 @@ module _ (tables : Tables) (n : ℕ) (spots : List Spot) (w : Where) (line : ℕ
         (λ space temps.
         all_hoist (Under over region) indices terms h i now here parts.1 conf free le since copied space temps)
 
-    pub all_hoist : {around : Bool} (site : Site) (slates : Slates) (terms : Terms)
-        → AreMeant around w spots slots site slates terms → IsSite slots site → (now : Whole) → IsState now
+    pub all_hoist : (site : Site) (slates : Slates) (terms : Terms)
+        → AreMeant w spots slots site slates terms → IsSite slots site → (now : Whole) → IsState now
         → list_all (holds_in tables slots) (all_referred w.numbers slates) ≡ true → conform terms ≡ true
         → (free : Unused) → next.scalars ≤ free.scalars → own.temps ≤ free.temps
         → AllCopied tables w own free.copies slates
@@ -1498,8 +1498,8 @@ module _ (tables : Tables) (n : ℕ) (spots : List Spot) (w : Where) (line : ℕ
 
   -- ---- expressions of a statement, each at its site
 
-  pub each_hoist : {around : Bool} (sites : List Site) (slates : Slates) (terms : Terms)
-      → AreMeantAt around w spots slots sites slates terms → Every (IsSite slots) sites
+  pub each_hoist : (sites : List Site) (slates : Slates) (terms : Terms)
+      → AreMeantAt w spots slots sites slates terms → Every (IsSite slots) sites
       → (now : Whole) → IsState now
       → list_all (holds_in tables slots) (all_referred w.numbers slates) ≡ true → conform terms ≡ true
       → (free : Unused) → next.scalars ≤ free.scalars → own.temps ≤ free.temps

@@ -35,13 +35,13 @@ any_integer is_in value ts =
 module _ (w : Where) (spots : List Spot) (slots : List Region) (store : Store)
     (scalars : (place : ℕ) → IsInteger (scalar_at store (place_of spots place)))
     (arrays : HasIntegers store) where
-  pub meant_integers : {around : Bool} (site : Site) (one : Slate) (meant : Term)
-      → IsMeant around w spots slots site one meant → IsSite slots site → AreIntegers store meant
+  pub meant_integers : (site : Site) (one : Slate) (meant : Term)
+      → IsMeant w spots slots site one meant → IsSite slots site → AreIntegers store meant
   meant_integers site _ _ (ConstantMeant is) i = is
   meant_integers site _ _ (VariableMeant {place = place}) i = scalars place
   meant_integers _ _ _ (CoordinateMeant lt) i = tt
   meant_integers _ _ _ (ElementMeant r) i = tt
-  meant_integers _ _ _ (WrappedMeant e in_numbers is ranks covers) i = tt
+  meant_integers _ _ _ (WrappedMeant in_numbers is ranks covers) i = tt
   meant_integers site _ _ (UnaryMeant {one = one} {operand = operand} m) i =
       meant_integers site one operand m i
   meant_integers site _ _ (BinaryMeant {one = one} {other = other} {left = left} {right = right} m k) i =
@@ -60,14 +60,14 @@ module _ (w : Where) (spots : List Spot) (slots : List Region) (store : Store)
       (j.is, meant_integers (Under source tuples) one operand m j)
   meant_integers _ _ _ (RemappedMeant in_numbers is count readable flat m) i = tt
 
-  pub field_integers : {around : Bool} (site : Site) (one : Slate) (meant : Term)
-      → IsMeant around w spots slots site one meant → IsSite slots site → IfGives (field_of store meant)
+  pub field_integers : (site : Site) (one : Slate) (meant : Term)
+      → IsMeant w spots slots site one meant → IsSite slots site → IfGives (field_of store meant)
   field_integers site one meant m i =
       term_integers store arrays meant (meant_integers site one meant m i)
 
   -- of several, each at its site
-  pub fields_integers : {around : Bool} (sites : List Site) (slates : Slates) (terms : Terms)
-      → AreMeantAt around w spots slots sites slates terms → Every (IsSite slots) sites
+  pub fields_integers : (sites : List Site) (slates : Slates) (terms : Terms)
+      → AreMeantAt w spots slots sites slates terms → Every (IsSite slots) sites
       → (fields : List Field) → fields_of store terms ≡ mean.Gives fields
       → Every GivesIntegers fields
   fields_integers _ _ _ NoneAt i fields e =

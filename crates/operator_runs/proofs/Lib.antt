@@ -11,7 +11,6 @@ pub mod ReadLemmas
 pub mod SourceLemmas
 pub mod SettleLemmas
 pub mod NodeLemmas
-pub mod CopyLemmas
 pub mod OwnLemmas
 pub mod SlotLemmas
 pub mod PhaseLemmas

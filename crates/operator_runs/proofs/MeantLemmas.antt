@@ -63,8 +63,8 @@ module _ (tables : Tables) (spots : List Spot) (w : Where) (line : ℕ)
   abbrev seen : Store
   seen = seen_store spots w.numbers.arrays now
 
-  abbrev Meant : Bool → Site → Slate → Term → Type 0
-  Meant around = IsMeant around w spots now.slots
+  abbrev Meant : Site → Slate → Term → Type 0
+  Meant = IsMeant w spots now.slots
 
   -- a read, as a part
   pub element_at : (over : Slotted) (region : Region) (h : InSlot now.slots over region)
@@ -142,8 +142,8 @@ module _ (tables : Tables) (spots : List Spot) (w : Where) (line : ℕ)
   }
 
   mutual
-    pub is_referred : {around : Bool} (site : Site) (one : Slate) (meant : Term)
-        → Meant around site one meant
+    pub is_referred : (site : Site) (one : Slate) (meant : Term)
+        → Meant site one meant
         → IsSite now.slots site → (own : Own) (number : ℕ) → AreCopied tables w own number one
         → AreReferred (referred w.numbers one) (refers seen meant)
     is_referred site _ _ (ConstantMeant is) s own number c = none_referred
@@ -153,7 +153,7 @@ module _ (tables : Tables) (spots : List Spot) (w : Where) (line : ℕ)
         let p = element_at over region s place shift r in
         record { there = p.1.there; gate = p.1.gate }
     is_referred _ _ _ (WrappedMeant {over = over} {region = region} {home = home} {d = d} {copy = copy}
-        {first = first} {stored = stored} e in_numbers is ranks covers) s own number c =
+        {first = first} {stored = stored} in_numbers is ranks covers) s own number c =
         wrapped_referred own number over region s home d copy first stored is ranks covers c
     is_referred site _ _ (UnaryMeant {one = one} {operand = operand} h) s own number c =
         let r = is_referred site one operand h s own number c in record { there = r.there; gate = r.gate }
@@ -206,8 +206,8 @@ module _ (tables : Tables) (spots : List Spot) (w : Where) (line : ℕ)
         (has_mask_within seen (record { region = region; mask = over.mask })) (refer seen terms)
         (record { there = m.there; gate = m.gate }) (are_referred (Under over region) indices terms h s own number c)
 
-    pub are_referred : {around : Bool} (site : Site) (slates : Slates) (terms : Terms)
-        → AreMeant around w spots now.slots site slates terms → IsSite now.slots site → (own : Own)
+    pub are_referred : (site : Site) (slates : Slates) (terms : Terms)
+        → AreMeant w spots now.slots site slates terms → IsSite now.slots site → (own : Own)
         (number : ℕ) → AllCopied tables w own number slates
         → AreReferred (all_referred w.numbers slates) (refer seen terms)
     are_referred site _ _ NoneMeant s own number c = none_referred
@@ -217,8 +217,8 @@ module _ (tables : Tables) (spots : List Spot) (w : Where) (line : ℕ)
         (are_referred site rest terms k s own (number + copies_of one) c.1)
 
   -- each at its site
-  pub each_referred : {around : Bool} (sites : List Site) (slates : Slates) (terms : Terms)
-      → AreMeantAt around w spots now.slots sites slates terms → Every (IsSite now.slots) sites
+  pub each_referred : (sites : List Site) (slates : Slates) (terms : Terms)
+      → AreMeantAt w spots now.slots sites slates terms → Every (IsSite now.slots) sites
       → (own : Own) (number : ℕ) → AllCopied tables w own number slates
       → AreReferred (all_referred w.numbers slates) (refer seen terms)
   each_referred _ _ _ NoneAt s own number c = none_referred
@@ -281,14 +281,14 @@ module _ (tables : Tables) (spots : List Spot) (w : Where) (line : ℕ)
         ∙ checked_does (control.conforms kind region tuples)
 
     mutual
-      pub conformed : {around : Bool} (site : Site) (one : Slate) (meant : Term)
-          → Meant around site one meant
+      pub conformed : (site : Site) (one : Slate) (meant : Term)
+          → Meant site one meant
           → IsSite now.slots site → Conform (conforming line one) (conforms meant)
       conformed site _ _ (ConstantMeant is) there rest = refl
       conformed site _ _ VariableMeant there rest = refl
       conformed _ _ _ (CoordinateMeant lt) there rest = refl
       conformed _ _ _ (ElementMeant r) there rest = refl
-      conformed _ _ _ (WrappedMeant e in_numbers is ranks covers) there rest = refl
+      conformed _ _ _ (WrappedMeant in_numbers is ranks covers) there rest = refl
       conformed site _ _ (UnaryMeant {one = one} {operand = operand} h) there rest =
           conformed site one operand h there rest
       conformed site _ _ (BinaryMeant {one = one} {other = other} {left = left} {right = right} h k)
@@ -321,8 +321,8 @@ module _ (tables : Tables) (spots : List Spot) (w : Where) (line : ℕ)
           in_numbers is count readable no_floods h) there rest =
           all_conformed (Under over region) indices terms h there rest
 
-      pub all_conformed : {around : Bool} (site : Site) (slates : Slates) (terms : Terms)
-          → AreMeant around w spots now.slots site slates terms → IsSite now.slots site
+      pub all_conformed : (site : Site) (slates : Slates) (terms : Terms)
+          → AreMeant w spots now.slots site slates terms → IsSite now.slots site
           → Conform (all_conforming line slates) (conform terms)
       all_conformed site _ _ NoneMeant there rest = refl
       all_conformed site _ _ (MoreMeant {one = one} {rest = more} {first = first} {terms = terms} h k)
@@ -330,8 +330,8 @@ module _ (tables : Tables) (spots : List Spot) (w : Where) (line : ℕ)
           both_conform (conforming line one) (all_conforming line more) (conforms first) (conform terms)
           (conformed site one first h there) (all_conformed site more terms k there) rest
 
-    pub each_conformed : {around : Bool} (sites : List Site) (slates : Slates) (terms : Terms)
-        → AreMeantAt around w spots now.slots sites slates terms → Every (IsSite now.slots) sites
+    pub each_conformed : (sites : List Site) (slates : Slates) (terms : Terms)
+        → AreMeantAt w spots now.slots sites slates terms → Every (IsSite now.slots) sites
         → Conform (all_conforming line slates) (conform terms)
     each_conformed _ _ _ NoneAt there rest = refl
     each_conformed _ _ _ (MoreAt {site = site} {sites = sites} {one = one} {rest = more} {first = first}

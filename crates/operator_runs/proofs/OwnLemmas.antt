@@ -1,7 +1,7 @@
 -- What expressions that are settled have of the statement's own: the slots of copies are among those
 -- that were free; what stands for a term does so in any slots that differ in the statement's own alone.
 use Rattle.std.proofs.Common.{◌≡◌, ◌≢◌, refl, sym, ◌∙◌, ap, subst, arith, ℕ, zero, suc, ◌+◌, ◌≤◌, ◌<◌, Bool, ◌&&◌, List, [], ◌∷◌, ◌++◌, length, ℤ, Option, Some, None}
-use Rattle.std.specs.Prelude.{replicate, slice_get, slice_set}
+use Rattle.std.specs.Prelude.{slice_get, slice_set}
 use Rattle.std.specs.List.{list_all}
 use Rattle.std.proofs.lemmas.List.{length-append, length-replicate}
 use Rattle.std.proofs.lemmas.List.Elements.{recursion_from_All}
@@ -29,8 +29,8 @@ use Rattle.zpl_lowering.specs.Reference.{Reference, all_referred, mask_reference
 use Rattle.zpl_lowering.specs.Slate as slate
 use Rattle.zpl_lowering.specs.Slate.{Placed, Settled, Slate, Slates, NoSlate, ThenSlate, around_slate, border_slots, named_slate, of_opened, opened_source, remap_slate, settled, settled_all, settled_each, shifted_slate, source_of, source_rank, under_source}
 use Rattle.lowering_runs.specs.Seen.{Spot}
-use Rattle.lowering_runs.specs.Stands.{IsStored, IsTaken, Misses, RowsAt, Stands, array_numbers}
-use Rattle.lowering_runs.proofs.FitLemmas.{rows_first, rows_rest}
+use Rattle.lowering_runs.specs.Stands.{CopiesAt, IsStored, IsTaken, Misses, Stands, array_numbers}
+use Rattle.lowering_runs.proofs.FitLemmas.{copies_first, copies_rest}
 use Rattle.lowering_runs.proofs.NumberLemmas.{misses_free}
 use Rattle.array_runs.specs.Gates.{lies}
 use Rattle.operator_runs.specs.Copies.{AllTakeOthers, AreMissed, HasCopies, IsMissed, IsMissedSite, TakesOthers, all_copy_slots, copy_slots, numbers_from}
@@ -228,9 +228,10 @@ module _ (tables : Tables) (w : Where) (own : Own) (slot number : ℕ) (slots mo
   pub has_first : IsWithin ys (slot + length slots) (slot + length slots + length more)
       → HasCopies tables w own slot number slots copies xs
   has_first k = record {
-    stored = rows_first tables.arrays number copies others h.stored;
-    below = omega (arith, h.below, length-append copies others);
+    arrays = h.arrays;
     apart = h.apart;
+    stored = copies_first tables.arrays h.arrays own.temps h.arrays number copies others
+        (omega arith) h.stored;
     owned = λ i m. misses_left xs ys i (h.owned i m);
     others = λ i le lt m. h.others i le
         (omega (arith, lt, length-append slots more))
@@ -242,9 +243,10 @@ module _ (tables : Tables) (w : Where) (own : Own) (slot number : ℕ) (slots mo
   pub has_rest : IsWithin xs slot (slot + length slots)
       → HasCopies tables w own (slot + length slots) (number + length copies) more others ys
   has_rest k = record {
-    stored = rows_rest tables.arrays number copies others h.stored;
-    below = omega (arith, h.below, length-append copies others);
-    apart = λ i le. h.apart i (omega (arith, le));
+    arrays = h.arrays;
+    apart = h.apart;
+    stored = copies_rest tables.arrays h.arrays own.temps h.arrays own.temps number copies others
+        (omega arith) (omega arith) h.stored;
     owned = λ i m. misses_right xs ys i (h.owned i m);
     others = λ i le lt m. h.others i (omega (arith, le))
         (omega (arith, lt, length-append slots more))
@@ -297,9 +299,9 @@ pub has_under : (tables : Tables) (w : Where) (own : Own) (slot number : ℕ) (s
     → Misses own.slots slotted.slot → HasCopies tables w own slot number slots copies filled
     → HasCopies tables (under_source w rank slotted) own slot number slots copies filled
 has_under tables w own slot number slots copies filled rank slotted m h = record {
-  stored = h.stored;
-  below = h.below;
+  arrays = h.arrays;
   apart = h.apart;
+  stored = h.stored;
   owned = h.owned;
   others = h.others;
   declared = h.declared;
@@ -320,14 +322,14 @@ module _ (w : Where) (spots : List Spot) (own : List ℕ) (slots others : List R
   }
 
   mutual
-    meant_same : {around : Bool} (site : Site) (one : Slate) (meant : Term)
-        → IsMeant around w spots slots site one meant → TakesOthers own one
-        → IsMeant around w spots others site one meant
+    meant_same : (site : Site) (one : Slate) (meant : Term)
+        → IsMeant w spots slots site one meant → TakesOthers own one
+        → IsMeant w spots others site one meant
     meant_same site _ _ (ConstantMeant is) t = ConstantMeant is
     meant_same site _ _ VariableMeant t = VariableMeant
     meant_same _ _ _ (CoordinateMeant lt) t = CoordinateMeant lt
     meant_same _ _ _ (ElementMeant r) t = ElementMeant r
-    meant_same _ _ _ (WrappedMeant e found is ranked covers) t = WrappedMeant e found is ranked covers
+    meant_same _ _ _ (WrappedMeant found is ranked covers) t = WrappedMeant found is ranked covers
     meant_same site _ _ (UnaryMeant {one = one} {operand = operand} h) t =
         UnaryMeant (meant_same site one operand h t)
     meant_same site _ _ (BinaryMeant {one = one} {other = other} {left = left} {right = right} h k) t =
@@ -352,17 +354,17 @@ module _ (w : Where) (spots : List Spot) (own : List ℕ) (slots others : List R
         RemappedMeant found is counted readable flat
         (are_meant_same (Under over region) indices terms h t)
 
-    are_meant_same : {around : Bool} (site : Site) (slates : Slates) (terms : Terms)
-        → AreMeant around w spots slots site slates terms → AllTakeOthers own slates
-        → AreMeant around w spots others site slates terms
+    are_meant_same : (site : Site) (slates : Slates) (terms : Terms)
+        → AreMeant w spots slots site slates terms → AllTakeOthers own slates
+        → AreMeant w spots others site slates terms
     are_meant_same site _ _ NoneMeant t = NoneMeant
     are_meant_same site _ _ (MoreMeant {one = one} {rest = rest} {first = first} {terms = terms} h k)
         t =
         MoreMeant (meant_same site one first h t.0) (are_meant_same site rest terms k t.1)
 
-  pub each_meant_same : {around : Bool} (sites : List Site) (slates : Slates) (terms : Terms)
-      → AreMeantAt around w spots slots sites slates terms → AllTakeOthers own slates
-      → AreMeantAt around w spots others sites slates terms
+  pub each_meant_same : (sites : List Site) (slates : Slates) (terms : Terms)
+      → AreMeantAt w spots slots sites slates terms → AllTakeOthers own slates
+      → AreMeantAt w spots others sites slates terms
   each_meant_same _ _ _ NoneAt t = NoneAt
   each_meant_same _ _ _ (MoreAt {site = site} {sites = sites} {one = one} {rest = rest}
       {first = first} {terms = terms} h k) t =
@@ -393,15 +395,15 @@ module _ (tables : Tables) (own : List ℕ) (slots others : List Region)
 
   module _ (w : Where) (spots : List Spot) where
     mutual
-      referred_missed : {around : Bool} (site : Site) (one : Slate) (meant : Term)
-          → IsMeant around w spots slots site one meant → IsMissedSite own site
+      referred_missed : (site : Site) (one : Slate) (meant : Term)
+          → IsMeant w spots slots site one meant → IsMissedSite own site
           → TakesOthers own one → MissEach (referred w.numbers one)
       referred_missed site _ _ (ConstantMeant is) m t = tt
       referred_missed site _ _ VariableMeant m t = tt
       referred_missed _ _ _ (CoordinateMeant lt) m t = tt
       referred_missed _ _ _ (ElementMeant {over = over} {place = place} {shift = shift} r) m t =
           refer_missed over.slot shift (slice_get w.numbers.arrays place) m
-      referred_missed _ _ _ (WrappedMeant e found is ranked covers) m t = (m, (m, tt))
+      referred_missed _ _ _ (WrappedMeant found is ranked covers) m t = (m, (m, tt))
       referred_missed site _ _ (UnaryMeant {one = one} {operand = operand} h) m t =
           referred_missed site one operand h m t
       referred_missed site _ _ (BinaryMeant {one = one} {other = other} {left = left}
@@ -434,8 +436,8 @@ module _ (tables : Tables) (own : List ℕ) (slots others : List Region)
           (over_missed w.numbers over.slot over.mask m)
           (all_referred_missed (Under over region) indices terms h m t)
 
-      all_referred_missed : {around : Bool} (site : Site) (slates : Slates) (terms : Terms)
-          → AreMeant around w spots slots site slates terms → IsMissedSite own site
+      all_referred_missed : (site : Site) (slates : Slates) (terms : Terms)
+          → AreMeant w spots slots site slates terms → IsMissedSite own site
           → AllTakeOthers own slates → MissEach (all_referred w.numbers slates)
       all_referred_missed site _ _ NoneMeant m t = tt
       all_referred_missed site _ _ (MoreMeant {one = one} {rest = rest} {first = first}
@@ -443,8 +445,8 @@ module _ (tables : Tables) (own : List ℕ) (slots others : List Region)
           miss_append (referred w.numbers one) (all_referred w.numbers rest)
           (referred_missed site one first h m t.0) (all_referred_missed site rest terms k m t.1)
 
-    each_referred_missed : {around : Bool} (sites : List Site) (slates : Slates) (terms : Terms)
-        → AreMeantAt around w spots slots sites slates terms → Every (IsMissedSite own) sites
+    each_referred_missed : (sites : List Site) (slates : Slates) (terms : Terms)
+        → AreMeantAt w spots slots sites slates terms → Every (IsMissedSite own) sites
         → AllTakeOthers own slates → MissEach (all_referred w.numbers slates)
     each_referred_missed _ _ _ NoneAt m t = tt
     each_referred_missed _ _ _ (MoreAt {site = site} {sites = sites} {one = one} {rest = rest}
@@ -453,8 +455,8 @@ module _ (tables : Tables) (own : List ℕ) (slots others : List Region)
         (referred_missed site one first h m.0 t.0) (each_referred_missed sites rest terms k m.1 t.1)
 
     -- they hold in these slots as they do in those
-    pub each_held_same : {around : Bool} (sites : List Site) (slates : Slates) (terms : Terms)
-        → AreMeantAt around w spots slots sites slates terms → Every (IsMissedSite own) sites
+    pub each_held_same : (sites : List Site) (slates : Slates) (terms : Terms)
+        → AreMeantAt w spots slots sites slates terms → Every (IsMissedSite own) sites
         → AllTakeOthers own slates
         → list_all (holds_in tables others) (all_referred w.numbers slates)
         ≡ list_all (holds_in tables slots) (all_referred w.numbers slates)
@@ -551,26 +553,6 @@ without_apart (one ∷ own) slots over region i =
 
 -- ---- what a statement has of its own
 
-mutual
-  takes_none : (one : Slate) → TakesOthers [] one
-  takes_none (slate.Constant value) = tt
-  takes_none (slate.Variable place) = tt
-  takes_none (slate.Coordinate k) = tt
-  takes_none (slate.Element slot place shift) = tt
-  takes_none (slate.Wrapped slot place home shift copy first) = tt
-  takes_none (slate.Unary operator operand) = takes_none operand
-  takes_none (slate.Binary operator left right) = (takes_none left, takes_none right)
-  takes_none (slate.Folded operator over operand) = (tt, takes_none operand)
-  takes_none (slate.PartFolded operator over source operand) = (tt, takes_none operand)
-  takes_none (slate.Scanned operator along over operand) = takes_none operand
-  takes_none (slate.Flooded over source operand) = (tt, takes_none operand)
-  takes_none (slate.Remapped over place indices) = take_none indices
-
-  -- where nothing is
-  pub take_none : (slates : Slates) → AllTakeOthers [] slates
-  take_none NoSlate = tt
-  take_none (ThenSlate first rest) = (takes_none first, take_none rest)
-
 -- the slots of the copies in its expressions
 abbrev pub own_of : Next → Slates → Own
 own_of next slates = record { slots = all_copy_slots slates; temps = next.temps }
@@ -590,16 +572,16 @@ module _ (tables : Tables) (spots : List Spot) (w : Where) (line : ℕ) (next : 
   current_missed (Some slotted) t = own_free slotted.slot t
 
   -- where the copies are stored, behind arrays and before temporaries
-  pub own_copies : RowsAt tables.arrays next.copies it.copies → next.arrays ≤ next.copies
-      → next.copies + length it.copies ≤ next.temps
+  pub own_copies : (arrays : ℕ) → next.arrays ≤ arrays
+      → CopiesAt tables.arrays arrays next.temps next.copies it.copies
       → HasCopies tables w (own_of next it.slate) next.slots next.copies it.slots it.copies
       (all_copy_slots it.slate)
-  own_copies stored above below = record {
-    stored = stored;
-    below = below;
+  own_copies arrays above stored = record {
+    arrays = arrays;
     apart = λ k le.
         misses_free 0 (array_numbers w.numbers.arrays) next.arrays k stands.stored
         (omega (arith, le, above));
+    stored = stored;
     owned = λ k m. m;
     others = λ k le lt m. m;
     declared = λ k lt. own_free k (omega (arith, lt, stands.declared));

@@ -1,7 +1,7 @@
 -- The phases of a statement: the rows of its brackets, its checks, the rows of its operators, and the
 -- fields that they come to.
 use Rattle.std.proofs.Common.{◌≡◌, refl, sym, ◌∙◌, ap, subst, arith, ℕ, ◌+◌, ◌≤◌, Bool, true, false, ◌&&◌}
-use Rattle.std.proofs.Common.{List, [], ◌++◌, length, map, append-nil}
+use Rattle.std.proofs.Common.{List, [], ◌++◌, map, append-nil}
 use Rattle.std.specs.Prelude.{slice_get}
 use Rattle.zpl_region.specs.declared.regions.Region.{Region}
 use Rattle.std.specs.List.{list_all}
@@ -28,7 +28,7 @@ use Rattle.zpl_lowering.specs.Hoist.{Hoisted, all_hoisted}
 use Rattle.zpl_lowering.specs.Lowered.{Lowered, both, phased_with, phases_of}
 use Rattle.lowering_runs.specs.Run.{decide, does, step}
 use Rattle.lowering_runs.specs.Seen.{Spot, Sight, seen_place, seen_store}
-use Rattle.lowering_runs.specs.Stands.{HasRoom, IsHeld, IsSound, Misses, RowsAt, Stands, TempsAt}
+use Rattle.lowering_runs.specs.Stands.{HasRoom, IsHeld, IsSound, Misses, Stands, TempsAt}
 use Rattle.lowering_runs.proofs.FitLemmas.{room_first}
 use Rattle.lowering_runs.proofs.PrintLemmas.{rows_append}
 use Rattle.array_runs.specs.Gates.{holds, gate}
@@ -38,7 +38,7 @@ use Rattle.array_runs.proofs.PartLemmas.{both_true}
 use Rattle.row_runs.specs.Straight.{Every}
 use Rattle.prefix_runs.specs.Filled.{IsFilled}
 use Rattle.operator_runs.specs.Meant.{Site, AreMeantAt, IsSite}
-use Rattle.operator_runs.specs.Hoists.{HaveValuesAt, HoistAll, AllReach, OneStumbles, Own, Unused, beyond, copies_of_all, free_of, own_at, tests_of_all, unused_at}
+use Rattle.operator_runs.specs.Hoists.{HaveValuesAt, HoistAll, AllReach, OneStumbles, Own, Unused, beyond, copies_of_all, free_of, tests_of_all, unused_at}
 use Rattle.operator_runs.specs.Guards.{guard}
 use Rattle.operator_runs.specs.Settles.{Settles, SettlesTo, Unsettled}
 use Rattle.operator_runs.specs.Phases.{AreOwn, AreTakenBy, IsTakenSite, KeepsTaken, Phases, PassTo, OneTraps}
@@ -47,9 +47,8 @@ use Rattle.operator_runs.proofs.StateLemmas.{AreApart, HasState, holds_in}
 use Rattle.operator_runs.proofs.HoistLemmas.{each_hoist, arrays_here, scalars_here}
 use Rattle.operator_runs.proofs.IntegerLemmas.{fields_integers}
 use Rattle.operator_runs.proofs.LikeLemmas.{holding_taken, sites_taken, taken_filled, taken_spared, taken_then, there_taken}
-use Rattle.operator_runs.proofs.CopyLemmas.{each_copied}
-use Rattle.operator_runs.proofs.SettleLemmas.{AreOperated, AreOperatedWith, placed_of, settles}
-use Rattle.operator_runs.proofs.OwnLemmas.{each_held_same, each_meant_same, own_copies, own_free, own_of, sites_missed, sites_same, take_none, without_apart, without_own, without_same}
+use Rattle.operator_runs.proofs.SettleLemmas.{AreOperated, placed_of, settles}
+use Rattle.operator_runs.proofs.OwnLemmas.{each_held_same, each_meant_same, own_copies, own_free, own_of, sites_missed, sites_same, without_apart, without_own, without_same}
 use Rattle.operator_runs.specs.Copies.{AllCopied, AllTakeOthers, IsMissedSite}
 
 -- room for a statement is room for its phases
@@ -102,10 +101,6 @@ module _ (tables : Tables) (n : ℕ) (sight : Sight) (w : Where) (line : ℕ) (n
   abbrev free : Unused
   free = unused_at next
 
-  -- it has no slots of its own
-  abbrev alone : Own
-  alone = own_at next
-
   abbrev rows : List Row → Whole → Course Whole
   rows = rows_do (step tables n) (decide tables n)
 
@@ -139,9 +134,9 @@ module _ (tables : Tables) (n : ℕ) (sight : Sight) (w : Where) (line : ℕ) (n
 
     -- ---- behind the brackets
 
-    module _ (around : Bool) (mine : Own) (mine_free : AreOwn next.slots mine)
+    module _ (mine : Own) (mine_free : AreOwn next.slots mine)
         (since : mine.temps ≤ next.temps) (there : Whole) (filled : IsFilled next.slots now there)
-        (terms : Terms) (are : AreMeantAt around w spots there.slots sites slates terms)
+        (terms : Terms) (are : AreMeantAt w spots there.slots sites slates terms)
         (copied : AllCopied tables w mine next.copies slates)
         (take : AllTakeOthers mine.slots slates)
         (space : next.scalars + 0 + hoisted_all.scalars ≤ tables.scalars)
@@ -227,7 +222,7 @@ module _ (tables : Tables) (n : ℕ) (sight : Sight) (w : Where) (line : ℕ) (n
         seen_is = taken.seen;
       }
 
-      are_same : AreMeantAt around w spots slots sites slates terms
+      are_same : AreMeantAt w spots slots sites slates terms
       are_same = each_meant_same w spots mine.slots there.slots slots same sites slates terms are take
 
       sites_are_same : Every (IsSite slots) sites
@@ -283,44 +278,36 @@ module _ (tables : Tables) (n : ℕ) (sight : Sight) (w : Where) (line : ℕ) (n
 
     -- ---- all of them
 
-    all_pass : (around : Bool) (mine : Own) → AreOwn next.slots mine → mine.temps ≤ next.temps
-        → ((there : Whole) (terms : Terms) → AreMeantAt around w spots there.slots sites slates terms
-        → (around ≡ true → AllCopied tables w mine next.copies slates × AllTakeOthers mine.slots slates)
-        → AllCopied tables w mine next.copies slates × AllTakeOthers mine.slots slates)
+    all_pass : (mine : Own) → AreOwn next.slots mine → mine.temps ≤ next.temps
         → (c : mean.Computed Terms) (course : Course Whole)
-        → Settles tables around mine w spots sites line next now slates c course
+        → Settles tables mine w spots sites line next now slates c course
         → next.scalars + 0 + hoisted_all.scalars ≤ tables.scalars
         → TempsAt tables.arrays next.temps hoisted_all.temps
         → Pass (computed_then c fields_by) (code.then_do (code.then_do course (rows checks)) others)
-    all_pass around mine mine_free since has c course Unsettled space temps = OneTraps (omega arith)
-    all_pass around mine mine_free since has c course
+    all_pass mine mine_free since c course Unsettled space temps = OneTraps (omega arith)
+    all_pass mine mine_free since c course
         (SettlesTo {there = there} {terms = terms} filled are owned) space temps =
-        let own_is = has there terms are owned in
-        behind_pass around mine mine_free since there filled terms are own_is.0 own_is.1 space temps
+        behind_pass mine mine_free since there filled terms are owned.0 owned.1 space temps
 
   -- whatever the first phase is
-  pub phases_pass : (around : Bool) (mine : Own) (it : Settled Slates) (c : mean.Computed Terms)
+  phases_pass : (mine : Own) (it : Settled Slates) (c : mean.Computed Terms)
       → AreOwn next.slots mine → mine.temps ≤ next.temps
-      → ((there : Whole) (terms : Terms) → AreMeantAt around w spots there.slots sites it.slate terms
-      → (around ≡ true
-      → AllCopied tables w mine next.copies it.slate × AllTakeOthers mine.slots it.slate)
-      → AllCopied tables w mine next.copies it.slate × AllTakeOthers mine.slots it.slate)
-      → Settles tables around mine w spots sites line next now it.slate c (rows it.rows now)
+      → Settles tables mine w spots sites line next now it.slate c (rows it.rows now)
       → (let phases = phases_of line own (all_referred w.numbers it.slate ++ last) it
       (all_hoisted w.numbers line (free_of free) it.slate) in
       HasRoom tables next phases.lowered
       → Phases tables spots w.numbers.arrays sites next (last_free it.slate) line
       (tests_of_all it.slate) now
       phases.left (computed_then c fields_by) (does tables n phases.lowered.code now))
-  phases_pass around mine it c mine_free since has settles space =
+  phases_pass mine it c mine_free since settles space =
       subst (λ (course : Course Whole). Pass it.slate (computed_then c fields_by)
       (code.then_do course (others it.slate)))
       (sym (rows_append tables n it.rows (checks it.slate) now))
-      (all_pass it.slate around mine mine_free since has c (rows it.rows now) settles (omega (arith, space.scalars)) space.temps)
+      (all_pass it.slate mine mine_free since c (rows it.rows now) settles
+      (omega (arith, space.scalars)) space.temps)
 
   -- of expressions that are served
-  pub phases_come : (exprs : List Placed)
-      → AreOperated sight w next now sites exprs
+  pub phases_come : (exprs : List Placed) → AreOperated sight w next now sites exprs
       → (let it = settled_each w line next exprs in
       let phases = phased_with w line next own last exprs in
       HasRoom tables next phases.lowered
@@ -331,32 +318,9 @@ module _ (tables : Tables) (n : ℕ) (sight : Sight) (w : Where) (line : ℕ) (n
       (does tables n phases.lowered.code now))
   phases_come exprs operated space =
       let it = settled_each w line next exprs in
-      phases_pass false alone it (phase.settled_each place store (map placed_of exprs)) (λ k lt. tt)
-      (omega arith)
-      (λ there terms are owned. (
-        each_copied w spots there.slots tables alone sites it.slate terms are next.copies,
-        take_none it.slate,
-      ))
-      (settles tables n false alone sight w line next now stands room sound held sites exprs operated
-      space.slots (λ e. absurd (let no : ⊥ = cc in no))) space
-
-  -- also where reads wrap round, whose copies are stored behind arrays and before temporaries
-  pub phases_around : (exprs : List Placed)
-      → AreOperatedWith true sight w next now sites exprs
-      → (let it = settled_each w line next exprs in
-      let phases = phased_with w line next own last exprs in
-      RowsAt tables.arrays next.copies it.copies → next.arrays ≤ next.copies
-      → next.copies + length it.copies ≤ next.temps → HasRoom tables next phases.lowered
-      → Phases tables spots w.numbers.arrays sites next (last_free it.slate) line
-      (tests_of_all it.slate) now
-      phases.left (fields_in place store (own_is && last_is)
-      (map placed_of exprs))
-      (does tables n phases.lowered.code now))
-  phases_around exprs operated stored above below space =
-      let it = settled_each w line next exprs in
       let mine = own_of next it.slate in
-      phases_pass true mine it (phase.settled_each place store (map placed_of exprs))
+      phases_pass mine it (phase.settled_each place store (map placed_of exprs))
       (own_free tables spots w line next stands exprs) (omega arith)
-      (λ there terms are owned. owned refl)
-      (settles tables n true mine sight w line next now stands room sound held sites exprs operated
-      space.slots (λ e. own_copies tables spots w line next stands exprs stored above below)) space
+      (settles tables n mine sight w line next now stands room sound held sites exprs operated
+      space.slots (own_copies tables spots w line next stands exprs (next.arrays + 0) (omega arith)
+      space.copies)) space

@@ -1,6 +1,6 @@
 -- What the meaning and the lowering settle expressions to stands for the same, behind the rows of
 -- the brackets that stand in them.
-use Rattle.std.proofs.Common.{◌≡◌, refl, sym, ◌∙◌, ap, subst, arith, ℕ, suc, ◌+◌, ◌≤◌, Bool, true, false, List, [], ◌∷◌, ◌++◌, length, map, ℤ, pos}
+use Rattle.std.proofs.Common.{◌≡◌, refl, sym, ◌∙◌, ap, subst, arith, ℕ, suc, ◌+◌, ◌≤◌, Bool, false, List, [], ◌∷◌, ◌++◌, length, map, ℤ, pos}
 use Rattle.std.proofs.Common.{Option, Some, None}
 use Rattle.std.specs.Prelude.{filter, replicate, slice_get, ◌*◌, ◌^◌, ◌-◌}
 use Rattle.std.proofs.lemmas.List.{length-append, length-replicate}
@@ -53,7 +53,7 @@ use Rattle.operator_runs.proofs.SourceLemmas.{IsHere, Leaves, LeavesIt, LeavesNo
 use Rattle.operator_runs.specs.Meant.{Site, Under, InSlot, IsMeant, count_of}
 use Rattle.operator_runs.specs.Meant.{ConstantMeant, VariableMeant, CoordinateMeant, ElementMeant, WrappedMeant}
 use Rattle.operator_runs.specs.Meant.{UnaryMeant, BinaryMeant, FoldedMeant, PartFoldedMeant, ScannedMeant, FloodedMeant, RemappedMeant, AreMeant, NoneMeant, MoreMeant, AreMeantAt, NoneAt, MoreAt}
-use Rattle.operator_runs.specs.Operated.{AreIndicesWith, HaveNoFlood, IsCoordinateIn, IsNameIn, IsOperatedWith, IsRemappedIn, IsScannedIn, IsUnderSource, IsWrapped, IsWrappedIn, OpensSource}
+use Rattle.operator_runs.specs.Operated.{AreIndices, HaveNoFlood, IsCoordinateIn, IsNameIn, IsOperated, IsRemappedIn, IsScannedIn, IsUnderSource, IsWrapped, IsWrappedIn, OpensSource}
 use Rattle.operator_runs.specs.Copies.{AllCopied, AllTakeOthers, AreCopied, HasCopies, TakesOthers, all_copy_slots, copy_slots}
 use Rattle.operator_runs.specs.Hoists.{Own, copies_of, copies_of_all}
 use Rattle.operator_runs.proofs.OwnLemmas.{IsWithin, copy_row, each_within, expr_within, exprs_within, has_first, has_rest, has_under, none_within, numbers_missed}
@@ -71,7 +71,7 @@ count_settled w line next rank (ThenExpr first rest) =
     ap suc (count_settled w line (slate.behind next (settled w line next rank first)) rank rest)
 
 module _ (tables : Tables) (n : ℕ) (sight : Sight) (base : Where) (line : ℕ) (store : Store)
-    (edge : Option Edge) (around : Bool) (own : Own) where
+    (edge : Option Edge) (own : Own) where
   abbrev spots : List Spot
   spots = sight.spots
 
@@ -88,10 +88,10 @@ module _ (tables : Tables) (n : ℕ) (sight : Sight) (base : Where) (line : ℕ)
   Here = IsHere tables n sight base line store edge
 
   abbrev At : Site → List Region → Slate → Term → Type 0
-  At site slots one meant = IsMeant around base spots slots site one meant
+  At site slots one meant = IsMeant base spots slots site one meant
 
   abbrev AllAt : Site → List Region → Slates → Terms → Type 0
-  AllAt site slots slates terms = AreMeant around base spots slots site slates terms
+  AllAt site slots slates terms = AreMeant base spots slots site slates terms
 
   -- ---- what slates have of the statement's own
 
@@ -110,16 +110,16 @@ module _ (tables : Tables) (n : ℕ) (sight : Sight) (base : Where) (line : ℕ)
   record SettledAt (number : ℕ) (copies : List Region) (site : Site) (slots : List Region)
       (one : Slate) (meant : Term) : Type 0 where
     is : At site slots one meant
-    owned : around ≡ true → Owned number copies one
+    owned : Owned number copies one
 
   record AllSettledAt (number : ℕ) (copies : List Region) (site : Site) (slots : List Region)
       (slates : Slates) (terms : Terms) : Type 0 where
     is : AllAt site slots slates terms
-    owned : around ≡ true → AllOwned number copies slates
+    owned : AllOwned number copies slates
 
   abbrev Has : {A : Type 0} → SlotCurrents → Next → Settled A → List ℕ → Type 0
-  Has currents next it filled = around ≡ true
-      → HasCopies tables (w currents) own next.slots next.copies it.slots it.copies filled
+  Has currents next it filled =
+      HasCopies tables (w currents) own next.slots next.copies it.slots it.copies filled
 
   pair_owned : (op : Op) (number : ℕ) (copies more : List Region) (one other : Slate)
       → Owned number copies one → Owned (number + length copies) more other
@@ -150,15 +150,15 @@ module _ (tables : Tables) (n : ℕ) (sight : Sight) (base : Where) (line : ℕ)
       (has : Has currents next (slate.both f first rest) (xs ++ ys)) where
     first_has : IsWithin ys (next.slots + length first.slots)
         (next.slots + length first.slots + length rest.slots) → Has currents next first xs
-    first_has within e =
+    first_has within =
         has_first tables (w currents) own next.slots next.copies first.slots rest.slots first.copies
-        rest.copies xs ys (has e) within
+        rest.copies xs ys has within
 
     rest_has : IsWithin xs next.slots (next.slots + length first.slots)
         → Has currents (slate.behind next first) rest ys
-    rest_has within e =
+    rest_has within =
         has_rest tables (w currents) own next.slots next.copies first.slots rest.slots first.copies
-        rest.copies xs ys (has e) within
+        rest.copies xs ys has within
 
   named_owned : (number : ℕ) (over : Slotted) (thing : Option Thing)
       → Owned number [] (named_slate over thing)
@@ -247,17 +247,17 @@ module _ (tables : Tables) (n : ℕ) (sight : Sight) (base : Where) (line : ℕ)
         element_meant one region fits target home shift h
 
     wrapped : (one : Slotted) (region : Region) → Fits currents meant taken slots rank one region
-        → around ≡ true → (d : List ℤ) (thing : Option Thing) (h : IsWrapped (w currents) one d thing)
+        → (d : List ℤ) (thing : Option Thing) (h : IsWrapped (w currents) one d thing)
         → (copy first : ℕ)
         → At (Under one region) slots
         (slate.Wrapped slotted.slot h.target h.home (copy_shift h.home d) copy first)
         (term.Wrapped over.region h.target h.home d)
-    wrapped one region fits e d thing h copy first =
+    wrapped one region fits d thing h copy first =
         let c = current_in slots one region fits.in_slot in
         current_meant one region fits
         (λ s. slate.Wrapped s.slot h.target h.home (copy_shift h.home d) copy first)
         (λ o. term.Wrapped o.region h.target h.home d)
-        (WrappedMeant e h.found h.is
+        (WrappedMeant h.found h.is
         (flood_length region fits.in_slot.is fits.in_slot.three
         ∙ ap (λ (bs : List Bool). length bs) fits.in_slot.flood ∙ h.ranked)
         (readable base slots region.rank one c []
@@ -434,7 +434,7 @@ module _ (tables : Tables) (n : ℕ) (sight : Sight) (base : Where) (line : ℕ)
       (currents : SlotCurrents) (meant : Currents) (next : Next) (now : Whole)
       → Here currents meant next now → (rank : Rank) (site : Site) (under : Option Slotted)
       → Reads currents meant next.slots now.slots rank site under
-      → IsOperatedWith around (w currents) (p meant) under expr
+      → IsOperated (w currents) (p meant) under expr
       → SlotsAt tables.slots next.slots (settled (w currents) line next rank expr).slots
       → Has currents next (settled (w currents) line next rank expr)
       (copy_slots (settled (w currents) line next rank expr).slate)
@@ -448,7 +448,7 @@ module _ (tables : Tables) (n : ℕ) (sight : Sight) (base : Where) (line : ℕ)
       (currents : SlotCurrents) (meant : Currents) (next : Next) (now : Whole)
       → Here currents meant next now → (rank : Rank) (site : Site) (under : Option Slotted)
       → Reads currents meant next.slots now.slots rank site under
-      → AreIndicesWith around (w currents) (p meant) under exprs
+      → AreIndices (w currents) (p meant) under exprs
       → SlotsAt tables.slots next.slots (settled_all (w currents) line next rank exprs).slots
       → Has currents next (settled_all (w currents) line next rank exprs)
       (all_copy_slots (settled_all (w currents) line next rank exprs).slate)
@@ -469,7 +469,7 @@ module _ (tables : Tables) (n : ℕ) (sight : Sight) (base : Where) (line : ℕ)
   number_settles at value currents meant next now here rank site under r h room has =
       alone_leaves (SettledAt next.copies [] site) line next now (slate.Constant value)
       (term.Constant value)
-      (λ later k. record { is = ConstantMeant h; owned = λ e. (tt, refl, tt) })
+      (λ later k. record { is = ConstantMeant h; owned = (tt, refl, tt) })
 
   truth_settles : (at : ℕ) (value : Bool) → IsSettling (Truth at value)
   truth_settles at value currents meant next now here rank site under r h room has =
@@ -477,7 +477,7 @@ module _ (tables : Tables) (n : ℕ) (sight : Sight) (base : Where) (line : ℕ)
       (term.Constant (truth value))
       (λ later k. record {
         is = ConstantMeant (IsInteger-truth value);
-        owned = λ e. (tt, refl, tt);
+        owned = (tt, refl, tt);
       })
 
   coordinate_settles : (at k : ℕ) → IsSettling (Coord at k)
@@ -487,7 +487,7 @@ module _ (tables : Tables) (n : ℕ) (sight : Sight) (base : Where) (line : ℕ)
         is = coordinate currents meant next.slots later.slots rank site under
             (reads_on currents meant next.slots next.slots (omega arith) now later filled rank site
             under r) k h;
-        owned = λ e. (tt, refl, tt);
+        owned = (tt, refl, tt);
       })
 
   named_settles : (at : ℕ) (name : Name) → IsSettling (Named at name)
@@ -505,7 +505,7 @@ module _ (tables : Tables) (n : ℕ) (sight : Sight) (base : Where) (line : ℕ)
             (reads_on currents meant next.slots next.slots (omega arith) now later filled rank site
             under r) (thing_of base.environment name.text)
             (known currents meant next now here name.text) h;
-        owned = λ e. named_owned next.copies (slotted_at currents rank)
+        owned = named_owned next.copies (slotted_at currents rank)
             (thing_of base.environment name.text);
       }))
 
@@ -525,7 +525,7 @@ module _ (tables : Tables) (n : ℕ) (sight : Sight) (base : Where) (line : ℕ)
         is = shifted currents meant next.slots later.slots rank site under
             (reads_on currents meant next.slots next.slots (omega arith) now later filled rank site
             under r) d (thing_of base.environment name.text) h;
-        owned = λ e. shifted_owned next.copies (slotted_at currents rank) d
+        owned = shifted_owned next.copies (slotted_at currents rank) d
             (thing_of base.environment name.text);
       }))
 
@@ -536,15 +536,15 @@ module _ (tables : Tables) (n : ℕ) (sight : Sight) (base : Where) (line : ℕ)
     one thing = around_slate next (slotted_at currents rank) d thing
 
     wrapped_leaves : (there : Slotted) (region : Region)
-        → Fits currents meant next.slots now.slots rank there region → around ≡ true
-        → (thing : Option Thing) → IsWrapped (w currents) there d thing
+        → Fits currents meant next.slots now.slots rank there region → (thing : Option Thing)
+        → IsWrapped (w currents) there d thing
         → SlotsAt tables.slots next.slots (one thing).slots
         → Has currents next (one thing) (copy_slots (one thing).slate)
         → Leaves (SettledAt next.copies (one thing).copies (Under there region)) line next now
         (one thing)
         (mean.Gives (around_term (over_at meant rank) d (option_map (seen_thing spots) thing)))
         (rows (one thing).rows now)
-    wrapped_leaves there region fits e thing h room has =
+    wrapped_leaves there region fits thing h room has =
         subst (λ (o : Option Thing). SlotsAt tables.slots next.slots (one o).slots
         → Has currents next (one o) (copy_slots (one o).slate)
         → Leaves (SettledAt next.copies (one o).copies (Under there region)) line next now (one o)
@@ -559,41 +559,40 @@ module _ (tables : Tables) (n : ℕ) (sight : Sight) (base : Where) (line : ℕ)
               (filled_then next.slots
               (next.slots + length (replicate many h.home.rank)) now now
               later (omega arith) (filled_itself next.slots now) k) rank there region fits)
-              e d thing h next.copies next.slots;
-          owned = λ t.
-              let c = has t in (
-                record {
-                  numbered = refl;
-                  below = omega (arith, c.below);
-                  apart = c.apart next.copies (omega arith);
-                  stored = copy_row tables next.copies h.home d h.stored h.is c.stored.0.0 c.stored.0.1;
-                  fills = λ k lt m.
-                      numbers_missed next.slots many k lt (c.owned (next.slots + k) m);
-                  many =
-                      let l = slots_below tables.slots next.slots
-                      (replicate many h.home.rank) room
-                      (2 * (2 ^ length (filter is_moving (copy_shift h.home d)) - 1))
-                      (let n = length-replicate many h.home.rank in
-                      omega (arith, n)) in
-                      omega (arith, l);
-                },
-                refl,
-                tt,
-              );
+              d thing h next.copies next.slots;
+          owned = (
+            record {
+              numbered = refl;
+              below = has.stored.1;
+              apart = has.apart next.copies has.stored.0;
+              stored = copy_row tables next.copies h.home d h.stored h.is has.stored.2.0
+                  has.stored.2.1;
+              fills = λ k lt m.
+                  numbers_missed next.slots many k lt (has.owned (next.slots + k) m);
+              many =
+                  let l = slots_below tables.slots next.slots
+                  (replicate many h.home.rank) room
+                  (2 * (2 ^ length (filter is_moving (copy_shift h.home d)) - 1))
+                  (let n = length-replicate many h.home.rank in
+                  omega (arith, n)) in
+                  omega (arith, l);
+            },
+            refl,
+            tt,
+          );
         })) room has
 
     around_leaves : (thing : Option Thing) → SlotsAt tables.slots next.slots (one thing).slots
-        → Has currents next (one thing) (copy_slots (one thing).slate) → (b : Bool) → around ≡ b
-        → (site : Site) (under : Option Slotted)
+        → Has currents next (one thing) (copy_slots (one thing).slate) → (site : Site)
+        (under : Option Slotted)
         → Reads currents meant next.slots now.slots rank site under
-        → IsWrappedIn b (w currents) under d thing
+        → IsWrappedIn (w currents) under d thing
         → Leaves (SettledAt next.copies (one thing).copies site) line next now (one thing)
         (mean.Gives (around_term (over_at meant rank) d (option_map (seen_thing spots) thing)))
         (rows (one thing).rows now)
-    around_leaves thing room has false e site under r h = absurd h
-    around_leaves thing room has true e _ _ ReadsNone h = absurd h
-    around_leaves thing room has true e _ _ (ReadsUnder {over = there} {region = region} fits) h =
-        wrapped_leaves there region fits e thing h room has
+    around_leaves thing room has _ _ ReadsNone h = absurd h
+    around_leaves thing room has _ _ (ReadsUnder {over = there} {region = region} fits) h =
+        wrapped_leaves there region fits thing h room has
 
   around_settles : (at : ℕ) (name : Name) (shift : Dir) → IsSettling (Around at name shift)
   around_settles at name shift currents meant next now here rank site under r h room has =
@@ -604,7 +603,7 @@ module _ (tables : Tables) (n : ℕ) (sight : Sight) (base : Where) (line : ℕ)
       line next now (around_slate next (slotted_at currents rank) d thing)
       (mean.Gives (around_term (over_at meant rank) d o))
       (rows (around_slate next (slotted_at currents rank) d thing).rows now)) (sym (thing_seen spots base.environment.names name.text))
-      (around_leaves currents meant next now rank d thing room has around refl site under r h)
+      (around_leaves currents meant next now rank d thing room has site under r h)
 
   unary_leaves : (op : UnaryOp) (site : Site) (next : Next) (now : Whole) (it : Settled Slate)
       (value : mean.Computed Term)
@@ -627,9 +626,9 @@ module _ (tables : Tables) (n : ℕ) (sight : Sight) (base : Where) (line : ℕ)
       (slate.Binary op) (term.Binary op)
       (λ one two later m o. record {
         is = BinaryMeant m.is o.is;
-        owned = λ e.
-            pair_owned op next.copies first.copies second.copies first.slate second.slate (m.owned e)
-            (o.owned e);
+        owned =
+            pair_owned op next.copies first.copies second.copies first.slate second.slate m.owned
+            o.owned;
       }) (phase.settled (p meant) store rank left) (phase.settled (p meant) store rank right)
       (a currents meant next now here rank site under r h.0
       (slots_first tables next here.space first.slots second.slots room)
@@ -659,12 +658,12 @@ module _ (tables : Tables) (n : ℕ) (sight : Sight) (base : Where) (line : ℕ)
         is = folded currents meant next.slots later.slots inner operator site over f.0
             (fits_on currents meant next.slots next.slots (omega arith) now later filled inner over f.0
             f.1) h.0.masked h.0.plain it.slate term m.is;
-        owned = λ e.
-            let o = m.owned e in (
+        owned =
+            let o = m.owned in (
               o.0,
               o.1,
               (
-                missed_at own.slots currents now inner (has e).currents
+                missed_at own.slots currents now inner has.currents
                     (subst (λ (c : Currents). HasCurrent c inner) (sym here.currents_are)
                     h.0.current),
                 o.2,
@@ -709,9 +708,9 @@ module _ (tables : Tables) (n : ℕ) (sight : Sight) (base : Where) (line : ℕ)
             under r) thing all.slate terms
             (subst (λ (k : ℕ). IsRemappedIn (w currents) under thing k)
             (sym (count_settled (w currents) line next rank indices)) h.0) m.is;
-        owned = λ e.
+        owned =
             remapped_owned next.copies all.copies currents under (slotted_at currents rank) thing
-            (exprs_count indices) all.slate h.0 (m.owned e);
+            (exprs_count indices) all.slate h.0 m.owned;
       })
       (a currents meant next now here rank site under r h.1 room
       (subst (λ (filled : List ℕ). Has currents next all filled)
@@ -724,7 +723,7 @@ module _ (tables : Tables) (n : ℕ) (sight : Sight) (base : Where) (line : ℕ)
       (here : Here currents meant next now) (over : Slotted) (source : Inner) (operand : Expr)
       (a : IsSettling operand) (o : OpensSource (w currents) (p meant) over source operand)
       (h : IsUnderSource (w currents) (p meant) source operand
-      (λ inner there over. IsOperatedWith around inner there (Some over) operand)) where
+      (λ inner there over. IsOperated inner there (Some over) operand)) where
     abbrev rank : Rank
     rank = source_rank (w currents) source operand
 
@@ -742,32 +741,32 @@ module _ (tables : Tables) (n : ℕ) (sight : Sight) (base : Where) (line : ℕ)
 
     -- all that there is of the statement's own is the operand's
     abbrev OperandHas : Type 0
-    OperandHas = around ≡ true → HasCopies tables (w currents) own next.slots next.copies
-        (first.slots ++ second.slots) second.copies (copy_slots second.slate)
+    OperandHas =
+        HasCopies tables (w currents) own next.slots next.copies (first.slots ++ second.slots)
+        second.copies (copy_slots second.slate)
 
     within : IsWithin (copy_slots second.slate) after.slots (after.slots + length second.slots)
     within = expr_within (under_source (w currents) rank src) line after rank operand
 
-    src_missed : OperandHas → around ≡ true → Misses own.slots src.slot
-    src_missed has e =
-        let c = has e in
+    src_missed : OperandHas → Misses own.slots src.slot
+    src_missed has =
         bracket_missed own.slots (w currents) (p meant) refl refl next.slots line o.rank
         (slotted_at currents rank)
-        (λ current. missed_at own.slots currents now rank c.currents
+        (λ current. missed_at own.slots currents now rank has.currents
         (subst (λ (r : Rank). HasCurrent (seen_currents now currents) r) (sym o.ranked)
         (subst (λ (m : Currents). HasCurrent m (Some o.rank)) (sym here.currents_are) o.current)))
-        c.declared source o.opens
-        (λ k le lt. c.others k le (omega (arith, lt, length-append first.slots second.slots))
+        has.declared source o.opens
+        (λ k le lt. has.others k le (omega (arith, lt, length-append first.slots second.slots))
         (within.below k lt))
 
     inner_has : OperandHas
         → Has (inner_currents tables n sight base line store edge currents meant next now here over source operand o)
         after second (copy_slots second.slate)
-    inner_has has e =
+    inner_has has =
         has_under tables (w currents) own after.slots after.copies second.slots second.copies
-        (copy_slots second.slate) rank src (src_missed has e)
+        (copy_slots second.slate) rank src (src_missed has)
         (has_rest tables (w currents) own next.slots next.copies first.slots second.slots []
-        second.copies [] (copy_slots second.slate) (has e)
+        second.copies [] (copy_slots second.slate) has
         (none_within next.slots (next.slots + length first.slots)))
 
     operand_leaves : SlotsAt tables.slots after.slots second.slots → OperandHas → (tuples : Region)
@@ -810,11 +809,11 @@ module _ (tables : Tables) (n : ℕ) (sight : Sight) (base : Where) (line : ℕ)
         (SettledAt next.copies second.copies site) next now first second make made
         (λ tuples operand later filled in_slot m. record {
           is = to tuples operand later filled in_slot m.is;
-          owned = λ e.
+          owned =
               owns next.copies
               (subst (λ (k : ℕ). Owned k second.copies second.slate)
-              (let zero_more : next.copies + 0 ≡ next.copies = omega arith in zero_more) (m.owned e))
-              (src_missed has e);
+              (let zero_more : next.copies + 0 ≡ next.copies = omega arith in zero_more) m.owned)
+              (src_missed has);
         })
         (phase.source_in (p meant) store source operand)
         (λ tuples. phase.settled (mean_regions.under_source (p meant) rank tuples) store rank operand)
@@ -898,7 +897,7 @@ module _ (tables : Tables) (n : ℕ) (sight : Sight) (base : Where) (line : ℕ)
     all_settle : (exprs : Exprs) → AreSettling exprs
     all_settle NoExpr = λ currents meant next now here rank site under r h room has.
         alone_leaves (AllSettledAt next.copies [] site) line next now NoSlate NoTerm
-        (λ later k. record { is = NoneMeant; owned = λ e. (tt, refl, tt) })
+        (λ later k. record { is = NoneMeant; owned = (tt, refl, tt) })
     all_settle (ThenExpr first rest) =
         λ currents meant next now here rank site under r h room has.
         let one = settled (w currents) line next rank first in
@@ -910,9 +909,9 @@ module _ (tables : Tables) (n : ℕ) (sight : Sight) (base : Where) (line : ℕ)
         ThenTerm
         (λ meant terms later m o. record {
           is = MoreMeant m.is o.is;
-          owned = λ e.
-              then_owned next.copies one.copies others.copies one.slate others.slate (m.owned e)
-              (o.owned e);
+          owned =
+              then_owned next.copies one.copies others.copies one.slate others.slate m.owned
+              o.owned;
         }) (phase.settled (p meant) store rank first) (phase.settled_all (p meant) store rank rest)
         (expr_settles first currents meant next now here rank site under r h.0
         (slots_first tables next here.space one.slots others.slots room)
@@ -930,19 +929,19 @@ module _ (tables : Tables) (n : ℕ) (sight : Sight) (base : Where) (line : ℕ)
   -- ---- the expressions of a statement
 
   abbrev EachAt : List Site → List Region → Slates → Terms → Type 0
-  EachAt sites slots slates terms = AreMeantAt around base spots slots sites slates terms
+  EachAt sites slots slates terms = AreMeantAt base spots slots sites slates terms
 
   record EachSettledAt (number : ℕ) (copies : List Region) (sites : List Site) (slots : List Region)
       (slates : Slates) (terms : Terms) : Type 0 where
     is : EachAt sites slots slates terms
-    owned : around ≡ true → AllOwned number copies slates
+    owned : AllOwned number copies slates
 
   data AreEach (currents : SlotCurrents) (meant : Currents) (next : Next) (now : Whole)
       : List Site → List Placed → Type 0 where
     NoneEach : AreEach currents meant next now [] []
     MoreEach : {site : Site} {sites : List Site} {under : Option Slotted} {placed : Placed}
         {rest : List Placed} → Reads currents meant next.slots now.slots placed.rank site under
-        → IsOperatedWith around (w currents) (p meant) under placed.expr
+        → IsOperated (w currents) (p meant) under placed.expr
         → AreEach currents meant next now sites rest
         → AreEach currents meant next now (site ∷ sites) (placed ∷ rest)
 
@@ -969,7 +968,7 @@ module _ (tables : Tables) (n : ℕ) (sight : Sight) (base : Where) (line : ℕ)
       (rows (settled_each (w currents) line next exprs).rows now)
   each_settles _ [] currents meant next now here NoneEach room has =
       alone_leaves (EachSettledAt next.copies [] []) line next now NoSlate NoTerm
-      (λ later k. record { is = NoneAt; owned = λ e. (tt, refl, tt) })
+      (λ later k. record { is = NoneAt; owned = (tt, refl, tt) })
   each_settles _ (placed ∷ rest) currents meant next now here
       (MoreEach {site = site} {sites = sites} {under = under} r h k) room has =
       let one = settled (w currents) line next placed.rank placed.expr in
@@ -981,9 +980,9 @@ module _ (tables : Tables) (n : ℕ) (sight : Sight) (base : Where) (line : ℕ)
       ThenSlate ThenTerm
       (λ meant terms later m o. record {
         is = MoreAt m.is o.is;
-        owned = λ e.
-            then_owned next.copies one.copies others.copies one.slate others.slate (m.owned e)
-            (o.owned e);
+        owned =
+            then_owned next.copies one.copies others.copies one.slate others.slate m.owned
+            o.owned;
       }) (phase.settled (p meant) store placed.rank placed.expr)
       (phase.settled_each (p meant) store (map placed_of rest))
       (expr_settles placed.expr currents meant next now here placed.rank site under r h
@@ -1001,32 +1000,28 @@ module _ (tables : Tables) (n : ℕ) (sight : Sight) (base : Where) (line : ℕ)
 
 -- ---- the first phase of a statement
 
-module _ (around : Bool) (sight : Sight) (w : Where) (next : Next) (now : Whole) where
+module _ (sight : Sight) (w : Where) (next : Next) (now : Whole) where
   -- arrays are read under the site's region, or not at all, and more is asked of each expression
-  pub data AreOperatedWith : List Site → List Placed → Type 0 where
-    NoneOperated : AreOperatedWith [] []
+  pub data AreOperated : List Site → List Placed → Type 0 where
+    NoneOperated : AreOperated [] []
     MoreOperated : {site : Site} {sites : List Site} {under : Option Slotted} {placed : Placed}
         {rest : List Placed}
         → Reads w.currents (seen_currents now w.currents) next.slots now.slots placed.rank site under
-        → IsOperatedWith around w (seen_place sight w now) under placed.expr
-        → AreOperatedWith sites rest → AreOperatedWith (site ∷ sites) (placed ∷ rest)
+        → IsOperated w (seen_place sight w now) under placed.expr
+        → AreOperated sites rest → AreOperated (site ∷ sites) (placed ∷ rest)
 
--- without reads that wrap round
-abbrev pub AreOperated : Sight → Where → Next → Whole → List Site → List Placed → Type 0
-AreOperated = AreOperatedWith false
-
-module _ (tables : Tables) (n : ℕ) (around : Bool) (own : Own) (sight : Sight) (w : Where) (line : ℕ)
+module _ (tables : Tables) (n : ℕ) (own : Own) (sight : Sight) (w : Where) (line : ℕ)
     (next : Next) (now : Whole) where
   abbrev it : List Placed → Settled Slates
   it exprs = settled_each w line next exprs
 
   pub settles : Stands sight.spots w next → next.scalars ≤ tables.scalars → IsSound tables now
       → IsHeld tables w.setup.known w.numbers.arrays w.currents now.slots → (sites : List Site)
-      (exprs : List Placed) → AreOperatedWith around sight w next now sites exprs
+      (exprs : List Placed) → AreOperated sight w next now sites exprs
       → SlotsAt tables.slots next.slots (it exprs).slots
-      → (around ≡ true → HasCopies tables w own next.slots next.copies (it exprs).slots
-      (it exprs).copies (all_copy_slots (it exprs).slate))
-      → Settles tables around own w sight.spots sites line next now (it exprs).slate
+      → HasCopies tables w own next.slots next.copies (it exprs).slots (it exprs).copies
+      (all_copy_slots (it exprs).slate)
+      → Settles tables own w sight.spots sites line next now (it exprs).slate
       (phase.settled_each (seen_place sight w now) (seen_store sight.spots w.numbers.arrays now)
       (map placed_of exprs))
       (rows_do (step tables n) (decide tables n) (it exprs).rows now)
@@ -1034,7 +1029,7 @@ module _ (tables : Tables) (n : ℕ) (around : Bool) (own : Own) (sight : Sight)
       by (phase.settled_each (seen_place sight w now) (seen_store sight.spots w.numbers.arrays now)
       (map placed_of exprs)) (rows_do (step tables n) (decide tables n) (it exprs).rows now)
       (each_settles tables n sight w line (seen_store sight.spots w.numbers.arrays now)
-      (option_map (seen_edge now) w.edge) around own sites exprs w.currents
+      (option_map (seen_edge now) w.edge) own sites exprs w.currents
       (seen_currents now w.currents) next now
       (record {
         stands = stands;
@@ -1047,19 +1042,19 @@ module _ (tables : Tables) (n : ℕ) (around : Bool) (own : Own) (sight : Sight)
       }) (each sites exprs operated) room has)
     where
       each : (sites : List Site) (exprs : List Placed)
-          → AreOperatedWith around sight w next now sites exprs
+          → AreOperated sight w next now sites exprs
           → AreEach tables n sight w line (seen_store sight.spots w.numbers.arrays now)
-          (option_map (seen_edge now) w.edge) around own w.currents (seen_currents now w.currents) next
+          (option_map (seen_edge now) w.edge) own w.currents (seen_currents now w.currents) next
           now sites exprs
       each _ _ NoneOperated = NoneEach
       each _ _ (MoreOperated {sites = sites} {rest = rest} r h k) = MoreEach r h (each sites rest k)
 
       by : (value : mean.Computed Terms) (course : Course Whole)
           → Leaves (EachSettledAt tables n sight w line (seen_store sight.spots w.numbers.arrays now)
-          (option_map (seen_edge now) w.edge) around own next.copies (it exprs).copies sites) line next
+          (option_map (seen_edge now) w.edge) own next.copies (it exprs).copies sites) line next
           now (it exprs) value course
-          → Settles tables around own w sight.spots sites line next now (it exprs).slate value course
+          → Settles tables own w sight.spots sites line next now (it exprs).slate value course
       by _ _ (LeavesIt {there = there} filled m) =
           let last = m there (filled_itself (next.slots + length (it exprs).slots) there) in
-          SettlesTo filled last.is (λ e. ((last.owned e).0, (last.owned e).2))
+          SettlesTo filled last.is (last.owned.0, last.owned.2)
       by _ _ LeavesNone = Unsettled

@@ -151,6 +151,8 @@ module _ (tables : Tables) (next : Next) (space : next.scalars ≤ tables.scalar
     scalars = omega (arith, space);
     slots = h;
     arrays = tt;
+    copies = tt;
+    later = tt;
     temps = tt;
   }
 

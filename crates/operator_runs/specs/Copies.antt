@@ -9,7 +9,7 @@ use Rattle.node_form.specs.declared.tables.Tables.{Tables}
 use Rattle.zpl_lowering.specs.Where.{SlotCurrents, Slotted, Where}
 use Rattle.zpl_lowering.specs.Slate as slate
 use Rattle.zpl_lowering.specs.Slate.{Slate, Slates, NoSlate, ThenSlate, border_slots}
-use Rattle.lowering_runs.specs.Stands.{IsStored, Misses, RowsAt, array_numbers}
+use Rattle.lowering_runs.specs.Stands.{CopiesAt, IsStored, Misses, array_numbers}
 use Rattle.operator_runs.specs.Meant.{Site, Alone, Under}
 use Rattle.operator_runs.specs.Hoists.{Own, copies_of}
 
@@ -123,14 +123,14 @@ abbrev pub IsMissedSite : List ℕ → Site → Type 0
 IsMissedSite own Alone = Unit {0}
 IsMissedSite own (Under over region) = Misses own over.slot
 
--- The copies are stored behind the program's arrays and before the statement's temporaries. Of the
--- slots that were free those that they are filled with are the statement's own, and no others; nor are
--- those of declared and current regions.
+-- The copies are stored behind so many arrays, of which the program's are, and before the
+-- statement's temporaries. Of the slots that were free those that they are filled with are the
+-- statement's own, and no others; nor are those of declared and current regions.
 pub record HasCopies (tables : Tables) (w : Where) (own : Own) (slot number : ℕ) (slots : List ℕ)
     (copies : List Region) (filled : List ℕ) : Type 0 where
-  pub stored : RowsAt tables.arrays number copies
-  pub below : number + length copies ≤ own.temps
-  pub apart : (k : ℕ) → number ≤ k → Misses (array_numbers w.numbers.arrays) k
+  pub arrays : ℕ
+  pub apart : (k : ℕ) → arrays ≤ k → Misses (array_numbers w.numbers.arrays) k
+  pub stored : CopiesAt tables.arrays arrays own.temps number copies
   pub owned : (k : ℕ) → Misses own.slots k → Misses filled k
   pub others : (k : ℕ) → slot ≤ k → k < slot + length slots → Misses filled k → Misses own.slots k
   pub declared : (k : ℕ) → k < length w.setup.known.regions → Misses own.slots k

@@ -80,9 +80,6 @@ abbrev pub unused_at : Next → Unused
 unused_at next =
     record { scalars = next.scalars + 0; copies = next.copies; temps = next.temps }
 
-abbrev pub own_at : Next → Own
-own_at next = record { slots = []; temps = next.temps }
-
 module _ (tables : Tables) (spots : List Spot) (arrays : List Stored) (own : Own) where
   -- The store is as it was, and so are all slots but the statement's own ones, scalars below what was
   -- free, and of the arrays copies and the statement's temporaries.

@@ -1,5 +1,5 @@
 -- A slate and the term that it stands for, where the regions of its operators are in slots.
-use Rattle.std.specs.Prelude.{◌≡◌, Bool, ℕ, suc, ◌-◌, ◌<◌, true, ℤ, List, [], ◌∷◌, All, length, Some, slice_get, ◌≤◌, unsigned_abs, Option, None}
+use Rattle.std.specs.Prelude.{◌≡◌, ℕ, suc, ◌-◌, ◌<◌, true, ℤ, List, [], ◌∷◌, All, length, Some, slice_get, ◌≤◌, unsigned_abs, Option, None}
 use Rattle.zpl_nums.specs.declared.operators.Op.{Op}
 use Rattle.zpl_nums.specs.declared.operators.UnaryOp.{UnaryOp}
 use Rattle.zpl_nums.specs.declared.folds.Fold.{Fold}
@@ -57,77 +57,77 @@ count_of (ThenSlate first rest) = suc (count_of rest)
 
 -- Each slot has the region that the term names, and what is read has its flood dimensions.
 -- The array of a remap read has as many dimensions as there are indices; it is read under a region
--- without flood dimension. Reads that wrap round are among them, or they aren't.
+-- without flood dimension.
 mutual
-  pub data IsMeant (around : Bool) (w : Where) (spots : List Spot) (slots : List Region) : Site → Slate → Term → Type 0 where
+  pub data IsMeant (w : Where) (spots : List Spot) (slots : List Region) : Site → Slate → Term → Type 0 where
     ConstantMeant : {site : Site} {value : ℤ} → IsInteger value
-        → IsMeant around w spots slots site (slate.Constant value) (term.Constant value)
+        → IsMeant w spots slots site (slate.Constant value) (term.Constant value)
     VariableMeant : {site : Site} {place : ℕ}
-        → IsMeant around w spots slots site (slate.Variable place) (term.Variable (place_of spots place))
+        → IsMeant w spots slots site (slate.Variable place) (term.Variable (place_of spots place))
     CoordinateMeant : {over : Slotted} {region : Region} {k : ℕ} → k - 1 < 3
-        → IsMeant around w spots slots (Under over region) (slate.Coordinate k) (term.Coordinate k)
+        → IsMeant w spots slots (Under over region) (slate.Coordinate k) (term.Coordinate k)
     ElementMeant : {over : Slotted} {region : Region} {place : ℕ} {shift : List ℤ}
         → IsReadable region shift (slice_get w.numbers.arrays place)
-        → IsMeant around w spots slots (Under over region) (slate.Element over.slot place shift)
+        → IsMeant w spots slots (Under over region) (slate.Element over.slot place shift)
         (term.Element region place shift)
     WrappedMeant : {over : Slotted} {region : Region} {place : ℕ} {home : Region} {d : List ℤ}
-        {copy first : ℕ} {stored : Stored} → around ≡ true
+        {copy first : ℕ} {stored : Stored}
         → slice_get w.numbers.arrays place ≡ Some stored
         → IsAround home d stored → region.rank ≡ home.rank → EachCovers home.dims region.dims
-        → IsMeant around w spots slots (Under over region)
+        → IsMeant w spots slots (Under over region)
         (slate.Wrapped over.slot place home (copy_shift home d) copy first)
         (term.Wrapped region place home d)
     UnaryMeant : {site : Site} {operator : UnaryOp} {one : Slate} {operand : Term}
-        → IsMeant around w spots slots site one operand
-        → IsMeant around w spots slots site (slate.Unary operator one) (term.Unary operator operand)
+        → IsMeant w spots slots site one operand
+        → IsMeant w spots slots site (slate.Unary operator one) (term.Unary operator operand)
     BinaryMeant : {site : Site} {operator : Op} {one other : Slate} {left right : Term}
-        → IsMeant around w spots slots site one left → IsMeant around w spots slots site other right
-        → IsMeant around w spots slots site (slate.Binary operator one other)
+        → IsMeant w spots slots site one left → IsMeant w spots slots site other right
+        → IsMeant w spots slots site (slate.Binary operator one other)
         (term.Binary operator left right)
     FoldedMeant : {site : Site} {operator : Fold} {over : Slotted} {region : Region} {one : Slate}
         {operand : Term} → InSlot slots over region → IsReadableMask w region over.mask
-        → no_flood region ≡ true → IsMeant around w spots slots (Under over region) one operand
-        → IsMeant around w spots slots site (slate.Folded operator over one)
+        → no_flood region ≡ true → IsMeant w spots slots (Under over region) one operand
+        → IsMeant w spots slots site (slate.Folded operator over one)
         (term.Folded operator (record { region = region; mask = over.mask }) operand)
     PartFoldedMeant : {operator : Fold} {over source : Slotted} {region tuples : Region} {one : Slate}
         {operand : Term} → InSlot slots source tuples → IsReadableMask w region over.mask
-        → no_flood tuples ≡ true → IsMeant around w spots slots (Under source tuples) one operand
-        → IsMeant around w spots slots (Under over region) (slate.PartFolded operator over source one)
+        → no_flood tuples ≡ true → IsMeant w spots slots (Under source tuples) one operand
+        → IsMeant w spots slots (Under over region) (slate.PartFolded operator over source one)
         (term.PartFolded operator (record { region = region; mask = over.mask }) tuples operand)
     ScannedMeant : {operator : Fold} {along : Option ℤ} {over : Slotted} {region : Region} {one : Slate}
         {operand : Term} → IsReadableMask w region over.mask → IsAlong along
-        → no_flood region ≡ true → IsMeant around w spots slots (Under over region) one operand
-        → IsMeant around w spots slots (Under over region) (slate.Scanned operator along over one)
+        → no_flood region ≡ true → IsMeant w spots slots (Under over region) one operand
+        → IsMeant w spots slots (Under over region) (slate.Scanned operator along over one)
         (term.Scanned operator along (record { region = region; mask = over.mask }) operand)
     FloodedMeant : {over source : Slotted} {region tuples : Region} {one : Slate} {operand : Term}
         → InSlot slots source tuples → IsReadableMask w region over.mask
-        → IsMeant around w spots slots (Under source tuples) one operand
-        → IsMeant around w spots slots (Under over region) (slate.Flooded over source one)
+        → IsMeant w spots slots (Under source tuples) one operand
+        → IsMeant w spots slots (Under over region) (slate.Flooded over source one)
         (term.Flooded (record { region = region; mask = over.mask }) tuples operand)
     RemappedMeant : {over : Slotted} {region : Region} {place : ℕ} {stored : Stored}
         {indices : Slates} {terms : Terms} → slice_get w.numbers.arrays place ≡ Some stored
         → IsRegion stored.storage → count_of indices ≡ stored.storage.rank
         → IsReadableMask w region over.mask → no_flood region ≡ true
-        → AreMeant around w spots slots (Under over region) indices terms
-        → IsMeant around w spots slots (Under over region) (slate.Remapped over place indices)
+        → AreMeant w spots slots (Under over region) indices terms
+        → IsMeant w spots slots (Under over region) (slate.Remapped over place indices)
         (term.Remapped (record { region = region; mask = over.mask }) place terms)
 
   -- each of several at the same site
-  pub data AreMeant (around : Bool) (w : Where) (spots : List Spot) (slots : List Region)
+  pub data AreMeant (w : Where) (spots : List Spot) (slots : List Region)
       : Site → Slates → Terms → Type 0 where
-    NoneMeant : {site : Site} → AreMeant around w spots slots site NoSlate NoTerm
+    NoneMeant : {site : Site} → AreMeant w spots slots site NoSlate NoTerm
     MoreMeant : {site : Site} {one : Slate} {rest : Slates} {first : Term} {terms : Terms}
-        → IsMeant around w spots slots site one first → AreMeant around w spots slots site rest terms
-        → AreMeant around w spots slots site (ThenSlate one rest) (ThenTerm first terms)
+        → IsMeant w spots slots site one first → AreMeant w spots slots site rest terms
+        → AreMeant w spots slots site (ThenSlate one rest) (ThenTerm first terms)
 
 -- each of several expressions of a statement, at a site of its own
-pub data AreMeantAt (around : Bool) (w : Where) (spots : List Spot) (slots : List Region)
+pub data AreMeantAt (w : Where) (spots : List Spot) (slots : List Region)
     : List Site → Slates → Terms → Type 0 where
-  NoneAt : AreMeantAt around w spots slots [] NoSlate NoTerm
+  NoneAt : AreMeantAt w spots slots [] NoSlate NoTerm
   MoreAt : {site : Site} {sites : List Site} {one : Slate} {rest : Slates} {first : Term}
       {terms : Terms}
-      → IsMeant around w spots slots site one first → AreMeantAt around w spots slots sites rest terms
-      → AreMeantAt around w spots slots (site ∷ sites) (ThenSlate one rest) (ThenTerm first terms)
+      → IsMeant w spots slots site one first → AreMeantAt w spots slots sites rest terms
+      → AreMeantAt w spots slots (site ∷ sites) (ThenSlate one rest) (ThenTerm first terms)
 
 -- the site's region is in its slot
 abbrev pub IsSite : List Region → Site → Type 0

@@ -79,11 +79,9 @@ pub record IsWrapped (w : Where) (over : Slotted) (d : List ℤ) (thing : Option
   pub ranked : length over.flood ≡ home.rank
   pub covers : CoverFloods (map is_flood home.dims) (slot_floods over)
 
--- such reads are among expressions, or they aren't
-abbrev pub IsWrappedIn : Bool → Where → Option Slotted → List ℤ → Option Thing → Type 0
-IsWrappedIn false w under d thing = ⊥
-IsWrappedIn true w None d thing = ⊥
-IsWrappedIn true w (Some over) d thing = IsWrapped w over d thing
+abbrev pub IsWrappedIn : Where → Option Slotted → List ℤ → Option Thing → Type 0
+IsWrappedIn w None d thing = ⊥
+IsWrappedIn w (Some over) d thing = IsWrapped w over d thing
 
 -- ---- the brackets of operators
 
@@ -123,52 +121,45 @@ IsUnderSource w place source operand IsServed =
 
 -- ---- expressions
 
--- Numbers, names, reads with a shift, coordinates, operators; and full and partial folds, scans,
--- floods and remap reads of such expressions. Reads that wrap round are among them, or they aren't.
+-- Numbers, names, reads with a shift and reads that wrap round, coordinates, operators; and full
+-- and partial folds, scans, floods and remap reads of such expressions.
 abbrev mutual
-  pub IsOperatedWith : Bool → Where → Place → Option Slotted → Expr → Type 0
-  IsOperatedWith around w place under (Number at value) = IsInteger value
-  IsOperatedWith around w place under (Truth at value) = Unit {0}
-  IsOperatedWith around w place under (Coord at k) = IsCoordinateIn under k
-  IsOperatedWith around w place under (Named at name) =
+  pub IsOperated : Where → Place → Option Slotted → Expr → Type 0
+  IsOperated w place under (Number at value) = IsInteger value
+  IsOperated w place under (Truth at value) = Unit {0}
+  IsOperated w place under (Coord at k) = IsCoordinateIn under k
+  IsOperated w place under (Named at name) =
       IsNameIn w under [] (thing_of w.environment name.text)
-  IsOperatedWith around w place under (Shifted at name shift) =
+  IsOperated w place under (Shifted at name shift) =
       IsNameIn w under (vector_in w.setup.known shift) (thing_of w.environment name.text)
-  IsOperatedWith around w place under (Paren at inside) = IsOperatedWith around w place under inside
-  IsOperatedWith around w place under (Neg at operand) = IsOperatedWith around w place under operand
-  IsOperatedWith around w place under (Not at operand) = IsOperatedWith around w place under operand
-  IsOperatedWith around w place under (Abs at operand) = IsOperatedWith around w place under operand
-  IsOperatedWith around w place under (Pair at op left right) =
-      IsOperatedWith around w place under left × IsOperatedWith around w place under right
-  IsOperatedWith around w place under (Reduce at operator NoBracket operand) =
+  IsOperated w place under (Paren at inside) = IsOperated w place under inside
+  IsOperated w place under (Neg at operand) = IsOperated w place under operand
+  IsOperated w place under (Not at operand) = IsOperated w place under operand
+  IsOperated w place under (Abs at operand) = IsOperated w place under operand
+  IsOperated w place under (Pair at op left right) =
+      IsOperated w place under left × IsOperated w place under right
+  IsOperated w place under (Reduce at operator NoBracket operand) =
       IsFoldedUnder w place (operand_rank place.scope place.prefix operand)
-      × IsOperatedWith around w place
+      × IsOperated w place
       (Some (slotted_at w.currents (operand_rank place.scope place.prefix operand))) operand
-  IsOperatedWith around w place under (Reduce at operator (Bracketed source) operand) =
+  IsOperated w place under (Reduce at operator (Bracketed source) operand) =
       OpensSourceIn w place under source operand × IsPlainSource w source operand
       × IsUnderSource w place source operand
-      (λ inner there over. IsOperatedWith around inner there (Some over) operand)
-  IsOperatedWith around w place under (Around at name shift) =
-      IsWrappedIn around w under (vector_in w.setup.known shift) (thing_of w.environment name.text)
-  IsOperatedWith around w place under (Remap at name indices) =
+      (λ inner there over. IsOperated inner there (Some over) operand)
+  IsOperated w place under (Around at name shift) =
+      IsWrappedIn w under (vector_in w.setup.known shift) (thing_of w.environment name.text)
+  IsOperated w place under (Remap at name indices) =
       IsRemappedIn w under (thing_of w.environment name.text) (exprs_count indices)
-      × AreIndicesWith around w place under indices
-  IsOperatedWith around w place under (Call at name actuals) = ⊥
-  IsOperatedWith around w place under (Scan at operator along operand) =
-      IsScannedIn w under along × IsOperatedWith around w place under operand
-  IsOperatedWith around w place under (Flood at source operand) =
+      × AreIndices w place under indices
+  IsOperated w place under (Call at name actuals) = ⊥
+  IsOperated w place under (Scan at operator along operand) =
+      IsScannedIn w under along × IsOperated w place under operand
+  IsOperated w place under (Flood at source operand) =
       OpensSourceIn w place under source operand
       × IsUnderSource w place source operand
-      (λ inner there over. IsOperatedWith around inner there (Some over) operand)
+      (λ inner there over. IsOperated inner there (Some over) operand)
 
-  pub AreIndicesWith : Bool → Where → Place → Option Slotted → Exprs → Type 0
-  AreIndicesWith around w place under NoExpr = Unit {0}
-  AreIndicesWith around w place under (ThenExpr first rest) =
-      IsOperatedWith around w place under first × AreIndicesWith around w place under rest
-
--- without reads that wrap round
-abbrev pub IsOperated : Where → Place → Option Slotted → Expr → Type 0
-IsOperated = IsOperatedWith false
-
-abbrev pub AreIndices : Where → Place → Option Slotted → Exprs → Type 0
-AreIndices = AreIndicesWith false
+  pub AreIndices : Where → Place → Option Slotted → Exprs → Type 0
+  AreIndices w place under NoExpr = Unit {0}
+  AreIndices w place under (ThenExpr first rest) =
+      IsOperated w place under first × AreIndices w place under rest

@@ -43,7 +43,7 @@ use Rattle.lowering_runs.specs.Stands.{IsBefore, IsTaken, IsTakenEdge, AreTaken,
 use Rattle.lowering_runs.specs.Goes.{World, context, lowering, Goes, GoesTo}
 use Rattle.lowering_runs.proofs.AgreeLemmas.{alike_agrees}
 use Rattle.lowering_runs.proofs.ValueLemmas.{thing_seen}
-use Rattle.lowering_runs.proofs.FitLemmas.{IsCarried, anew_goes_to, currents_kept, held_on, stands_on, before_behind, keeps_all, room_first, room_rest, room_here}
+use Rattle.lowering_runs.proofs.FitLemmas.{IsCarried, anew_goes_to, currents_kept, held_on, stands_on, before_behind, keeps_all, room_coded, room_first, room_rest, room_here}
 use Rattle.array_runs.proofs.CodedLemmas.{current_of, region_of}
 use Rattle.array_runs.proofs.StoredLemmas.{index_of_found}
 use Rattle.prefix_runs.specs.Opens.{IsOpenedAs, IsGivenRegion, Opens}
@@ -574,7 +574,7 @@ module _ (world : World) (Ended : Sight → Where → Next → Whole → Store �
   fills_agree v course e (Fills {region = region} {after = after} found filled) told =
       behind_agrees region after found filled told e
       (room_rest tables next (code.Rows []) (of_opened opened) inner_made
-      (record { scalars = room.scalars; slots = room.slots; arrays = room.arrays; temps = room.temps }))
+      (room_coded tables next (code.Rows []) _ room))
 
   pub under_agrees : Agrees (Ended sight w next now) world.turns spare
       (mean.under (context world sight w now) (prefix ∷ rest) store (λ inner. run inner store))
@@ -583,7 +583,7 @@ module _ (world : World) (Ended : Sight → Where → Next → Whole → Store �
   under_agrees =
       fills_agree value (rows_do (step tables world.turns) (decide tables world.turns) opened.rows now) refl
       (comes.fills (room_first tables next (code.Rows []) (of_opened opened) inner_made
-      (record { scalars = room.scalars; slots = room.slots; arrays = room.arrays; temps = room.temps })).slots) comes.told
+      (room_coded tables next (code.Rows []) _ room)).slots) comes.told
 
 -- ---- all prefixes
 
