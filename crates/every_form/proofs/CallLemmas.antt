@@ -21,7 +21,7 @@ use Rattle.zpl_meaning.proofs.DepthLemmas.{Each, each_from}
 use Rattle.zpl_meaning.proofs.ProperLemmas.{not_false}
 use Rattle.zpl_meaning.proofs.VisitLemmas.{filter_among}
 use Rattle.meaning_runs.proofs.OwnLemmas.{global_kind, named_among}
-use Rattle.every_form.specs.Forms.{HasRoutineForm, HasChainForms, HasAcceptedForms}
+use Rattle.shown_texts.specs.Forms.{HasRoutineForm, HasChainForms, HasShownForms}
 use Rattle.every_form.proofs.FormLemmas.{MayCall, IsFit, outermost_formed, answering_formed}
 
 -- ---- lists
@@ -256,7 +256,7 @@ module _ (program : Program) (faultless : IsFaultless program)
       by None e is = absurd (true≢false (sym is))
       by (Some routine) e is = (routine, record { named = e; silent = bare routine is })
 
-  pub program_formed : HasAcceptedForms program
+  pub program_formed : HasShownForms program
   program_formed =
       let entry = entered in
       subst (λ b. HasChainForms program longest_chain b program.name.text) entry.1.silent

@@ -6,7 +6,7 @@ use Rattle.zpl_nums.specs.declared.folds.Fold.TheVariants as fold
 use Rattle.zpl_tree.specs.Syntax.{Name, Number, Named, Around, Call, Pair, Reduce, Scan, NoExpr, NamedDir, NoBracket, Prefixed, NoStmt, ThenStmt, Return}
 use Rattle.zpl_names.specs.Sites.{Reach}
 use Rattle.zpl_meaning.specs.Points.{Reads}
-use Rattle.every_form.specs.Forms.{HasOperatedForm, HasPartForm, HaveForms}
+use Rattle.shown_texts.specs.Forms.{HasOperatedForm, HasPartForm, HaveForms}
 
 abbrev name : List ℕ → ℕ → Name
 name text at = record { text = text; at = at }

@@ -8,7 +8,7 @@ use Rattle.zpl_names.specs.Sites.{Reach, over_source, Role, Printed, Actual, Lim
 use Rattle.zpl_names.specs.Accepted.{HasNoFault}
 use Rattle.zpl_meaning.specs.Statement.{step_expr}
 use Rattle.zpl_meaning.proofs.DepthLemmas.{Each, each_left, each_right}
-use Rattle.every_form.specs.Forms.{HasOperatedForm, HaveOperatedForms, HaveCallForms, HavePrintForms}
+use Rattle.shown_texts.specs.Forms.{HasOperatedForm, HaveOperatedIndices, HaveCallForms, HavePrintForms}
 
 -- a call within an expression is a fault
 no_call : (reach : Reach) (name : Name) (actuals : Exprs)
@@ -54,7 +54,7 @@ mutual
       (expr_sites (over_source reach over source) over operand) h.1)
 
   exprs_operated : (exprs : Exprs) (reach : Reach) (rank : Rank)
-      → Each HasNoFault (exprs_sites reach rank exprs) → HaveOperatedForms exprs
+      → Each HasNoFault (exprs_sites reach rank exprs) → HaveOperatedIndices exprs
   exprs_operated NoExpr reach rank h = tt
   exprs_operated (ThenExpr first rest) reach rank h = (
     expr_operated first reach rank

@@ -16,7 +16,7 @@ use Rattle.zpl_meaning.proofs.DepthLemmas.{Each, each_left, each_right}
 use Rattle.zpl_meaning.proofs.ProperLemmas.{not_false}
 use Rattle.row_runs.specs.Straight.{Every}
 use Rattle.flat_form.proofs.WordLemmas.{every_append}
-use Rattle.every_form.specs.Forms.{HasPlainForm, HasPartForm}
+use Rattle.shown_texts.specs.Forms.{HasPlainForm, HasPartForm}
 
 -- ---- expressions
 

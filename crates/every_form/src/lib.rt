@@ -6,7 +6,7 @@
 
 ghost use Rattle.zpl_tree.specs.Syntax.{Program};
 ghost use Rattle.zpl_names.specs.Accepted.{IsFaultless};
-ghost use Rattle.every_form.specs.Forms.{HasAcceptedForms};
+ghost use Rattle.shown_texts.specs.Forms.{HasShownForms};
 
 use zpl_names::{faultless_programs_leave_nothing_open, procedures_are_there};
 
@@ -14,8 +14,8 @@ use zpl_names::{faultless_programs_leave_nothing_open, procedures_are_there};
 /// forms: calls stand alone or are the whole of what is assigned, a value is returned at the end of
 /// a procedure that answers and nowhere else, what stands in shattered statements is elementwise,
 /// and no chain of calls is too long.
-pub fn faultless_programs_have_accepted_forms()
-    ensures { (program : Program) → IsFaultless program → HasAcceptedForms program }
+pub fn faultless_programs_have_shown_forms()
+    ensures { (program : Program) → IsFaultless program → HasShownForms program }
 {
     faultless_programs_leave_nothing_open();
     procedures_are_there();

@@ -23,10 +23,10 @@ use Rattle.call_runs.specs.Taken.{AreCallActuals, IsArrayThing}
 use Rattle.operator_runs.specs.Served.{OperatedValue}
 use Rattle.served_places.specs.Told.{IsSeenFrom, place_of}
 use Rattle.shown_programs.specs.Text.{AreCallTexts, IsOperatedText}
-use Rattle.shown_programs.proofs.CallLemmas.{setup, IsKnownAt}
+use Rattle.shown_programs.proofs.CallLemmas.{setup, text_of, IsKnownAt}
 use Rattle.shown_programs.proofs.OperandLemmas.{name_alone}
 use Rattle.shown_programs.proofs.PlaceLemmas.{value_suits}
-use Rattle.shown_programs.proofs.SourceLemmas.{AllGivenSources, AreGivenSources}
+use Rattle.shown_programs.proofs.SourceLemmas.{AllGivenSources, AreGivenSources, ProcedureText}
 
 -- ---- names
 
@@ -45,16 +45,19 @@ array_is (Some (Fixed value)) h = h
 array_is None h = h
 
 module _ (program : Program) (settings : List Setting) (laws : Laws program)
-    (grammar : IsProgram program) (clean : IsFaultless program) where
+    (grammar : IsProgram program) (clean : IsFaultless program) (own_text : List ℕ) where
   abbrev own : Setup
   own = setup program settings laws grammar clean
+
+  abbrev source : ProcedureText
+  source = text_of program settings laws grammar clean own_text
 
   module _ (proper : (place : Place) (stmt : Stmt) → IsVisited own place stmt
       → IsProperStmt place stmt)
       (ranked : (place : Place) (stmt : Stmt) → IsVisited own place stmt → IsRankedStmt place stmt)
       (text : List ℕ) (around : Shapes) (spots : List Spot) (w : Where) (environment : Environment)
       (answer : ℕ) (currents : Currents) (edge : Option Edge) (shapes : Shapes)
-      (known : IsKnownAt program settings laws grammar clean w shapes)
+      (known : IsKnownAt program settings laws grammar clean own_text w shapes)
       (seen : IsSeenFrom spots w environment currents) (shattered : Rank) (result : Option Base)
     where
       abbrev place : Place
@@ -71,7 +74,8 @@ module _ (program : Program) (settings : List Setting) (laws : Laws program)
       -- it suits its place, and the others have their sites behind its own
       abbrev Suits : Expr → Exprs → Type 0
       Suits actual rest =
-          (IsOperatedText actual → AreGivenSources own.known actual → IsProperScalar place Actual actual → IsRanked place Actual actual
+          (IsOperatedText actual → AreGivenSources source actual
+          → IsProperScalar place Actual actual → IsRanked place Actual actual
           → OperatedValue actual w place) × Sited (actuals_sites reach rest)
 
       read_suits : (actual : Expr) (rest : Exprs)
@@ -80,9 +84,9 @@ module _ (program : Program) (settings : List Setting) (laws : Laws program)
       read_suits actual rest sites =
           let own_sites = expr_sites reach (whole_rank reach Actual actual) actual in
           let others = actuals_sites reach rest in (
-            λ t g p r. value_suits program settings laws grammar clean proper ranked text around spots w
-                environment answer currents edge shapes known seen shattered result Actual actual
-                (whole_rank reach Actual actual) t g p r
+            λ t g p r. value_suits program settings laws grammar clean own_text proper ranked text
+                around spots w environment answer currents edge shapes known seen shattered result
+                Actual actual (whole_rank reach Actual actual) t g p r
                 (each_left (IsHere program text around) own_sites others sites),
             each_right (IsHere program text around) own_sites others sites,
           )
@@ -115,8 +119,8 @@ module _ (program : Program) (settings : List Setting) (laws : Laws program)
       -- ---- all of them
 
       pub actuals_suit : (formals : List Formal) (actuals : Exprs) → AreCallTexts formals actuals
-          → AllGivenSources own.known actuals → AreProperActuals place formals actuals → AreShapedActuals place formals actuals
-          → Sited (actuals_sites reach actuals)
+          → AllGivenSources source actuals → AreProperActuals place formals actuals
+          → AreShapedActuals place formals actuals → Sited (actuals_sites reach actuals)
           → AreCallActuals OperatedValue w place formals actuals
       actuals_suit [] actuals t g p r sites = tt
       actuals_suit (formal ∷ formals) NoExpr t g p r sites = tt

@@ -37,8 +37,9 @@ use Rattle.call_runs.specs.Ending.{AreAnswering, IsAnsweringBody, IsBlockAnsweri
 use Rattle.call_runs.specs.Taken.{AllGiven}
 use Rattle.shown_programs.specs.Text.{AreAnsweringTexts, IsAnsweringForm, IsAnsweringText, IsOperatedText, IsReturnForm, IsReturnText}
 use Rattle.shown_programs.proofs.BoundedLemmas.{IsBoundedAt}
-use Rattle.shown_programs.proofs.CallLemmas.{setup, IsKnownAt}
+use Rattle.shown_programs.proofs.CallLemmas.{setup, text_of, IsKnownAt}
 use Rattle.shown_programs.proofs.PlaceLemmas.{AreGivenStmts, IsGivenForm, IsGivenStmt, IsPlaced, placed_inside, placed_part, placed_proper, placed_ranked, placed_under, stmt_suits, value_suits}
+use Rattle.shown_programs.proofs.SourceLemmas.{ProcedureText}
 
 -- ---- the scalar that takes an answer: code has none
 
@@ -116,15 +117,18 @@ module _ (spots : List Spot) (value : ℤ) where
 -- ---- bodies that end in a `return`
 
 module _ (program : Program) (settings : List Setting) (laws : Laws program)
-    (grammar : IsProgram program) (clean : IsFaultless program) where
+    (grammar : IsProgram program) (clean : IsFaultless program) (own_text : List ℕ) where
   abbrev own : Setup
   own = setup program settings laws grammar clean
+
+  abbrev source : ProcedureText
+  source = text_of program settings laws grammar clean own_text
 
   abbrev At : Place → Shapes → Stmt → Type 0
   At place shapes stmt = IsAt program settings laws grammar clean place shapes stmt
 
   abbrev Here : Where → Shapes → Type 0
-  Here w shapes = IsKnownAt program settings laws grammar clean w shapes
+  Here w shapes = IsKnownAt program settings laws grammar clean own_text w shapes
 
   module _ (proper : (place : Place) (stmt : Stmt) → IsVisited own place stmt
       → IsProperStmt place stmt)
@@ -134,8 +138,8 @@ module _ (program : Program) (settings : List Setting) (laws : Laws program)
       (leaf_suits : (at : ℕ) (prefixes : List Prefix) (form : Form) (spots : List Spot)
       (w : Where) (environment : Environment) (answer : ℕ) (currents : Currents)
       (edge : Option Edge) (shapes : Shapes)
-      → IsPlaced program settings laws grammar clean at prefixes form spots w environment answer
-      currents edge shapes
+      → IsPlaced program settings laws grammar clean own_text at prefixes form spots w environment
+      answer currents edge shapes
       → Text (reach_of (place_of w environment answer currents edge)) form
       → Leaf at form w (place_of w environment answer currents edge)) where
     abbrev Served : Stmt → Where → Place → Type 0
@@ -151,8 +155,8 @@ module _ (program : Program) (settings : List Setting) (laws : Laws program)
 
       abbrev Placed : Form → Type 0
       Placed form =
-          IsPlaced program settings laws grammar clean at prefixes form spots w environment answer
-          currents edge shapes
+          IsPlaced program settings laws grammar clean own_text at prefixes form spots w environment
+          answer currents edge shapes
 
       value_returned : (value : Expr) → (h : Placed (Return value)) → IsOperatedText value
           → Inside program h.here.text h.here.around
@@ -160,20 +164,20 @@ module _ (program : Program) (settings : List Setting) (laws : Laws program)
           → OperatedValue value w place
       value_returned value h t (InStmt k) =
           let reach = reach_at place shapes h.here.shattered h.here.result in
-          value_suits program settings laws grammar clean proper ranked h.here.text h.here.around spots w
-          environment answer currents edge shapes h.known h.seen h.here.shattered h.here.result
-          (Result None) value (whole_rank reach (Result h.here.result) value) t h.given
-          (placed_proper program settings laws grammar clean proper ranked at prefixes (Return value)
-          spots w environment answer currents edge shapes h)
-          (placed_ranked program settings laws grammar clean proper ranked at prefixes (Return value)
-          spots w environment answer currents edge shapes h) k.1.1
+          value_suits program settings laws grammar clean own_text proper ranked h.here.text
+          h.here.around spots w environment answer currents edge shapes h.known h.seen
+          h.here.shattered h.here.result (Result None) value (whole_rank reach (Result
+          h.here.result) value) t h.given (placed_proper program settings laws grammar clean
+          own_text proper ranked at prefixes (Return value) spots w environment answer currents edge
+          shapes h) (placed_ranked program settings laws grammar clean own_text proper ranked at
+          prefixes (Return value) spots w environment answer currents edge shapes h) k.1.1
 
       form_returned : (form : Form) → Placed form → IsReturnForm form
           → IsReturned OperatedValue form w place
       form_returned (Return value) h t =
           value_returned value h t
-          (placed_inside program settings laws grammar clean proper ranked at prefixes (Return value)
-          spots w environment answer currents edge shapes h)
+          (placed_inside program settings laws grammar clean own_text proper ranked at prefixes
+          (Return value) spots w environment answer currents edge shapes h)
       form_returned (Assign name op value) h t = absurd t
       form_returned (Invoke name actuals) h t = absurd t
       form_returned (Block body) h t = absurd t
@@ -190,11 +194,11 @@ module _ (program : Program) (settings : List Setting) (laws : Laws program)
         → IsVisited own (place_of w environment answer currents edge) stmt
         → Here w shapes → IsSeenFrom spots w environment currents
         → IsBoundedAt (place_of w environment answer currents edge) → IsReturnText stmt
-        → IsGivenStmt own.known stmt
+        → IsGivenStmt source stmt
         → IsReturning OperatedValue stmt w (place_of w environment answer currents edge)
     return_suits (Prefixed at prefixes form) spots w environment answer currents edge shapes here visited
         known seen bounded text given =
-        placed_under program settings laws grammar clean proper ranked at prefixes form
+        placed_under program settings laws grammar clean own_text proper ranked at prefixes form
         (λ inner there. IsReturned OperatedValue form inner there) spots w environment answer currents
         edge shapes here visited known seen bounded text.0 given
         (λ inner deep last deeper h same.
@@ -210,7 +214,7 @@ module _ (program : Program) (settings : List Setting) (laws : Laws program)
         → Here w shapes → IsSeenFrom spots w environment currents
         → IsBoundedAt (place_of w environment answer currents edge)
         → AreAnsweringTexts Text (reach_of (place_of w environment answer currents edge)) stmts
-        → AreGivenStmts own.known stmts
+        → AreGivenStmts source stmts
         → AreAnswering OperatedValue Served stmts w (place_of w environment answer currents edge)
     all_suit NoStmt spots w environment answer currents edge shapes parts known seen bounded text given =
         absurd text
@@ -223,7 +227,8 @@ module _ (program : Program) (settings : List Setting) (laws : Laws program)
         parts known seen bounded text given =
         let others = list_of (ThenStmt second rest) in
         let one = parts first (contains_first first others) in (
-          stmt_suits program settings laws grammar clean proper ranked Leaf Text leaf_suits first spots
+          stmt_suits program settings laws grammar clean own_text proper ranked Leaf Text leaf_suits
+              first spots
               w environment answer currents edge shapes one.0 one.1 known seen bounded text.0 given.0,
           all_suit (ThenStmt second rest) spots w environment answer currents edge shapes
               (λ part c. parts part (contains_later first others part c)) known seen bounded text.1
@@ -233,15 +238,16 @@ module _ (program : Program) (settings : List Setting) (laws : Laws program)
     block_suits : (form : Form) (at : ℕ) (prefixes : List Prefix) (spots : List Spot) (w : Where)
         (environment : Environment) (answer : ℕ) (currents : Currents) (edge : Option Edge)
         (shapes : Shapes)
-        → IsPlaced program settings laws grammar clean at prefixes form spots w environment answer
-        currents edge shapes
+        → IsPlaced program settings laws grammar clean own_text at prefixes form spots w environment
+        answer currents edge shapes
         → IsAnsweringForm Text (reach_of (place_of w environment answer currents edge)) form
-        → IsGivenForm own.known form
+        → IsGivenForm source form
         → IsBlockAnswering OperatedValue Served form w (place_of w environment answer currents edge)
     block_suits (Block body) at prefixes spots w environment answer currents edge shapes h text given =
         all_suit body spots w environment answer currents edge shapes
-        (placed_part program settings laws grammar clean proper ranked at prefixes (Block body) spots w
-        environment answer currents edge shapes h) h.known h.seen h.bounded text given
+        (placed_part program settings laws grammar clean own_text proper ranked at prefixes
+        (Block body) spots w environment answer currents edge shapes h) h.known h.seen h.bounded
+        text given
     block_suits (Return value) at prefixes spots w environment answer currents edge shapes h text given =
         absurd text
     block_suits (Assign name op value) at prefixes spots w environment answer currents edge shapes h text
@@ -268,11 +274,11 @@ module _ (program : Program) (settings : List Setting) (laws : Laws program)
         → Here w shapes → IsSeenFrom spots w environment currents
         → IsBoundedAt (place_of w environment answer currents edge)
         → IsAnsweringText Text (reach_of (place_of w environment answer currents edge)) body
-        → IsGivenStmt own.known body
+        → IsGivenStmt source body
         → IsAnsweringBody OperatedValue Served body w (place_of w environment answer currents edge)
     answering_suits (Prefixed at prefixes form) spots w environment answer currents edge shapes here
         visited known seen bounded text given =
-        placed_under program settings laws grammar clean proper ranked at prefixes form
+        placed_under program settings laws grammar clean own_text proper ranked at prefixes form
         (λ inner there. IsBlockAnswering OperatedValue Served form inner there) spots w environment answer
         currents edge shapes here visited known seen bounded text.0 given
         (λ inner deep last deeper h same.

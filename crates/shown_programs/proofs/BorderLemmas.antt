@@ -33,7 +33,7 @@ use Rattle.shown_programs.proofs.CallLemmas.{setup}
 use Rattle.shown_programs.proofs.PlaceLemmas.{IsPlaced, placed_proper, placed_ranked, placed_inside}
 
 module _ (program : Program) (settings : List Setting) (laws : Laws program)
-    (grammar : IsProgram program) (clean : IsFaultless program) where
+    (grammar : IsProgram program) (clean : IsFaultless program) (own_text : List ℕ) where
   abbrev own : Setup
   own = setup program settings laws grammar clean
 
@@ -49,8 +49,8 @@ module _ (program : Program) (settings : List Setting) (laws : Laws program)
 
     abbrev Placed : Form → Type 0
     Placed form =
-        IsPlaced program settings laws grammar clean at prefixes form spots w environment answer
-        currents edge shapes
+        IsPlaced program settings laws grammar clean own_text at prefixes form spots w environment
+        answer currents edge shapes
 
     module _ (kind : BorderKind) (all : List Name) (h : Placed (Border kind all)) where
       abbrev reach : Reach
@@ -94,10 +94,10 @@ module _ (program : Program) (settings : List Setting) (laws : Laws program)
       border_served : Inside program h.here.text h.here.around reach at prefixes (Border kind all)
           → HasAny all → IsBorderServed all w place
       border_served (InStmt i) any =
-          let p = placed_proper program settings laws grammar clean proper ranked at prefixes
-          (Border kind all) spots w environment answer currents edge shapes h in
-          let r = placed_ranked program settings laws grammar clean proper ranked at prefixes
-          (Border kind all) spots w environment answer currents edge shapes h in
+          let p = placed_proper program settings laws grammar clean own_text proper ranked at
+          prefixes (Border kind all) spots w environment answer currents edge shapes h in
+          let r = placed_ranked program settings laws grammar clean own_text proper ranked at
+          prefixes (Border kind all) spots w environment answer currents edge shapes h in
           let flat = (or_false (has_flood (shape_at reach w.prefix))
           (list_any (is_flood_written reach) all)
           (no_place (has_flood (shape_at reach w.prefix)
@@ -131,7 +131,7 @@ module _ (program : Program) (settings : List Setting) (laws : Laws program)
         → BorderLeaf at form w place
     border_suits (Border kind names) h t =
         border_served kind names h
-        (placed_inside program settings laws grammar clean proper ranked at prefixes
+        (placed_inside program settings laws grammar clean own_text proper ranked at prefixes
         (Border kind names) spots w environment answer currents edge shapes h) h.here.tree.1
     border_suits (Write line items) h t = absurd t
     border_suits (Assign name op value) h t = absurd t

@@ -1,17 +1,21 @@
 -- Calls of procedures under current regions: what is known where one is made is handed on to what is
 -- called.
 use Rattle.std.proofs.Common.{◌≡◌, ℕ, Bool, true, false, List}
-use Rattle.std.specs.Prelude.{Some}
-use Rattle.zpl_tree.specs.Syntax.{Stmt, Form, Program}
+use Rattle.std.specs.Prelude.{Some, length}
+use Rattle.zpl_tree.specs.Syntax.{Name, Dir, Stmt, Form, Program}
 use Rattle.zpl_tree.specs.Grammar.{IsProgram}
 use Rattle.zpl_names.specs.Kinds.{Signature}
 use Rattle.zpl_names.specs.Shapes.{Shapes}
 use Rattle.zpl_names.specs.Declared.{Routine, IsProcedureOf, routine_named}
+use Rattle.zpl_names.specs.Expansion.{formal_names}
+use Rattle.zpl_names.specs.Ranks.{dir_rank}
 use Rattle.zpl_names.specs.Accepted.{IsFaultless}
+use Rattle.zpl_binding.specs.Formals.{IsCalled}
 use Rattle.zpl_binding.specs.Settings.{Setting}
 use Rattle.zpl_meaning.specs.Store.{Store}
 use Rattle.zpl_meaning.specs.Context.{Setup, Place}
 use Rattle.zpl_meaning.specs.Calls.{Called}
+use Rattle.zpl_meaning.specs.Regions.{vector_in}
 use Rattle.zpl_meaning.specs.Visited.{first_setup, IsVisited, body_place}
 use Rattle.zpl_meaning.proofs.VisitLemmas.{Laws}
 use Rattle.meaning_ranks.proofs.PlaceLemmas.{IsAt}
@@ -31,16 +35,25 @@ use Rattle.lowering_fits.specs.Reach.{FitNames, AreGlobals}
 use Rattle.lowering_fits.specs.Storages.{AllKept}
 use Rattle.lowering_fits.proofs.KeptLemmas.{AreGivenOf}
 use Rattle.lowering_fits.proofs.ReachLemmas.{FewScalars}
+use Rattle.lowered_flat.proofs.CalledLemmas.{AreGiven}
+use Rattle.lowered_flat.proofs.ToldLemmas.{AreTold}
+use Rattle.shown_programs.specs.Operators.{HasCopyWithin}
 use Rattle.shown_programs.proofs.BoundedLemmas.{IsBoundedAt}
+use Rattle.shown_programs.proofs.SourceLemmas.{IsReadOf, ProcedureText}
 
 module _ (program : Program) (settings : List Setting) (laws : Laws program)
     (grammar : IsProgram program) (clean : IsFaultless program) where
   abbrev pub setup : Setup
   setup = first_setup program settings
 
-  -- Where code stands under current regions of these shapes: names stand for what is of their kinds,
-  -- and slots, masks and arrays are as the text says.
-  pub record IsKnownAt (w : Where) (shapes : Shapes) : Type 0 where
+  abbrev pub text_of : List ℕ → ProcedureText
+  text_of text = record { program = program; known = setup.known; text = text }
+
+  -- Where code of a procedure that is called stands under current regions of these shapes: names
+  -- stand for what is of their kinds, arrays are what they may be by the text, and the copies of
+  -- reads that wrap round are within the limit; slots, masks and arrays are as the text says, and
+  -- vectors have three components.
+  pub record IsKnownAt (text : List ℕ) (w : Where) (shapes : Shapes) : Type 0 where
     pub owned : w.setup ≡ setup
     pub names : FitNames w.scope w.environment w.numbers
     pub scalars : FewScalars w.environment w.numbers
@@ -48,6 +61,12 @@ module _ (program : Program) (settings : List Setting) (laws : Laws program)
     pub kept : AllKept w.numbers.arrays
     pub told : IsTold w shapes
     pub given : KnowsGiven w.setup.known w.scope
+    pub long : (rank : ℕ) (dir : Dir) → dir_rank w.scope dir ≡ Some rank
+        → length (vector_in w.setup.known dir) ≡ 3
+    pub called : IsCalled program text
+    pub homes : AreTold program setup.known text w.environment
+    pub copies : (name : Name) (shift : Dir) → IsReadOf (text_of text) name shift
+        → HasCopyWithin setup.known w.environment name.text shift
 
   -- a body is visited, under current regions of these shapes
   pub record IsEntered (shapes : Shapes) (place : Place) (body : Stmt) : Type 0 where
@@ -58,9 +77,13 @@ module _ (program : Program) (settings : List Setting) (laws : Laws program)
   -- a call, by what its parameters take
   pub record IsCalledFrom (IsCallable : List ℕ → Type 0) (w : Where) (givens : List Given)
       (called : Called) : Type 0 where
+    pub caller : List ℕ
     pub shapes : Shapes
-    pub known : IsKnownAt w shapes
+    pub known : IsKnownAt caller w shapes
     pub callable : IsCallable called.name
+    pub comes : IsCalled program called.name
+    pub homes : (routine : Routine) → routine_named program called.name ≡ Some routine
+        → AreGiven program setup.known called.name (formal_names routine.procedure.params) givens
     pub signature : Signature
     pub of : (routine : Routine) → routine_named program called.name ≡ Some routine
         → IsProcedureOf signature routine

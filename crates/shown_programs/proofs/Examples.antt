@@ -1,13 +1,13 @@
 -- A program with arrays, prefixes, a border statement, and a call that hands an array on; one with a
 -- call that copies an array and answers; one with a shattered loop, and full folds; one with full
--- folds in tests; one with full folds in a bound, in what a call takes, and in what is returned; and
--- one with a flood, a partial fold, a remap read and a scan.
+-- folds in tests; one with full folds in a bound, in what a call takes, and in what is returned;
+-- one with a flood, a partial fold, a remap read and a scan; and one with a read that wraps round.
 use Rattle.std.proofs.Common.{inl, inr, ℕ, true, false, List, [], ◌∷◌, Some, None, pos, codes, refl}
 use Rattle.zpl_nums.specs.declared.ends.Border.TheVariants.{Wrap}
 use Rattle.zpl_nums.specs.declared.folds.Fold.TheVariants as fold
 use Rattle.zpl_nums.specs.declared.operators.Op.TheVariants as op
 use Rattle.zpl_nums.proofs.IntegerLemmas.{IsInteger-truth}
-use Rattle.zpl_tree.specs.Syntax.{Name, Number, Coord, Named, Paren, Pair, Reduce, Remap, Scan, Flood, Value, Prefixed, NoStmt, ThenStmt, Assign, Block, For, Invoke, While, Write, Return, Call, NoExpr, ThenExpr, Abs, If, Tested, NoArm, ThenArm, NoElse, NoBracket, Bracketed, Rexpr, Dims, NamedRegion, NoPost, Blank, One, Span, NoDim, ThenDim, Integer, Vars, Regions, Directions, Defined, Border, Program}
+use Rattle.zpl_tree.specs.Syntax.{Name, Number, Coord, Named, Around, Vector, Paren, Pair, Reduce, Remap, Scan, Flood, Value, Prefixed, NoStmt, ThenStmt, Assign, Block, For, Invoke, While, Write, Return, Call, NoExpr, ThenExpr, Abs, If, Tested, NoArm, ThenArm, NoElse, NoBracket, Bracketed, Rexpr, Dims, NamedRegion, NoPost, Blank, One, Span, NoDim, ThenDim, Integer, Vars, Regions, Directions, Defined, Border, Program}
 use Rattle.zpl_names.specs.Reached.{longest_chain}
 use Rattle.shown_programs.specs.Text.{IsShownProgram}
 
@@ -578,5 +578,54 @@ operators_is_shown = record {
         ),
       ),
     );
+  };
+}
+
+-- region R = [1..2, 1..2]; var A, B : [R] integer;
+-- procedure t(); [R] begin B := A@^[0, 1]; end;
+abbrev wraps : Program
+wraps = record {
+  name = name (codes "t") 8;
+  decls = Regions (record {
+    name = name (codes "R") 18;
+    body = Dims
+        (ThenDim (Span (Number 23 (pos 1)) (Number 26 (pos 2)))
+        (ThenDim (Span (Number 29 (pos 1)) (Number 32 (pos 2))) NoDim));
+    posts = NoPost;
+  } ∷ [])
+      ∷ Vars (record {
+        names = name (codes "A") 40 ∷ name (codes "B") 43 ∷ [];
+        shape = Bracketed (Rexpr [] (NamedRegion (name (codes "R") 48)) NoPost);
+        base = Integer;
+      } ∷ [])
+      ∷ Defined (record {
+        name = name (codes "t") 70;
+        params = [];
+        result = None;
+        locals = [];
+        body = Prefixed 75
+            (record {
+              at = 75;
+              region = Rexpr [] (NamedRegion (name (codes "R") 76)) NoPost;
+              mask = None;
+            } ∷ [])
+            (Block
+            (ThenStmt (Prefixed 85 [] (Assign (name (codes "B") 85) None
+            (Around 91 (name (codes "A") 90)
+            (Vector (ThenExpr (Number 94 (pos 0)) (ThenExpr (Number 97 (pos 1)) NoExpr))))))
+            NoStmt));
+      })
+      ∷ [];
+  source = [];
+}
+
+wraps_is_shown : IsShownProgram wraps []
+unfolding longest_chain
+wraps_is_shown = record {
+  values = λ text. IsInteger-truth false;
+  entry = record {
+    routine = _;
+    named = refl;
+    shown = ((tt, tt), ((tt, inr (inr (inl tt))), tt));
   };
 }

@@ -26,7 +26,7 @@ use Rattle.lowering_runs.specs.Run.{does}
 use Rattle.lowering_runs.specs.Agrees.{Agrees}
 use Rattle.lowering_runs.specs.Stands.{Rises, array_numbers, IsKnown, IsBefore, HasRoom, IsStored, AreStored, IsSound, Keeps}
 use Rattle.lowering_runs.specs.Frames.{seen_frame, seen_given}
-use Rattle.lowering_runs.proofs.FitLemmas.{room_rest}
+use Rattle.lowering_runs.proofs.FitLemmas.{room_coded, room_rest}
 use Rattle.lowering_runs.proofs.NumberLemmas.{rises_le, same_spots}
 use Rattle.lowering_runs.proofs.FrameLemmas.{known_both, thing_more, scalar_frame}
 use Rattle.lowering_fits.specs.Storages.{IsStorage, AllKept}
@@ -268,7 +268,7 @@ module _ (tables : Tables) (n : ℕ) (setup : Setup) (entry : Entry) (base : Lis
       (fresh_if entry.clears (Copied stored home) givens more.scalars after may)
       (clear_if tables entry.clears (Copied stored home) givens more.arrays after may)
       (room_rest tables next (code.Rows []) first (made formals givens inner more)
-      (record { scalars = room.scalars; slots = room.slots; arrays = room.arrays; temps = room.temps })) in
+      (room_coded tables next (code.Rows []) _ room)) in
       subst (λ (x : Course Whole). Agrees IsAlike n spare
       (run (taken (formal ∷ formals) (Copied stored home ∷ givens) (seen_frame spots framed now) now)) x)
       (sym (ap (λ (x : Course Whole). code.then_do x go) c.course))

@@ -6,7 +6,6 @@ use Rattle.zpl_names.specs.Kinds.{Rank, Shape}
 use Rattle.zpl_names.specs.Faults.{has_flood, item_rank, shape_at}
 use Rattle.zpl_names.specs.Shapes.{Shapes}
 use Rattle.zpl_names.specs.Sites.{Reach, Site, Printed, expr_sites, item_sites, whole_rank}
-use Rattle.zpl_binding.specs.Regions.{Known}
 use Rattle.zpl_meaning.specs.Store.{Environment}
 use Rattle.zpl_meaning.specs.Context.{Currents, Edge, Place, rank_in}
 use Rattle.zpl_meaning.specs.Proper.{AreProperItems, HasCurrent, IsProper, IsUnderCurrent}
@@ -22,14 +21,14 @@ use Rattle.served_places.proofs.ToldLemmas.{or_false}
 use Rattle.shown_programs.specs.Operators.{IsOperatedExpr}
 use Rattle.shown_programs.specs.Text.{AreOperatedTexts, IsOperatedText}
 use Rattle.shown_programs.proofs.OperandLemmas.{IsReached, serves_alone, serves_under, slot_at}
-use Rattle.shown_programs.proofs.SourceLemmas.{AreGivenItems, AreGivenSources}
+use Rattle.shown_programs.proofs.SourceLemmas.{AreGivenItems, AreGivenSources, ProcedureText}
 
-module _ (program : Program) (text : List ℕ) (around : Shapes) (computed : Known)
+module _ (program : Program) (text : List ℕ) (around : Shapes) (source : ProcedureText)
     (spots : List Spot) (environment : Environment) (answer : ℕ) (edge : Option Edge)
     (shattered : Rank) (result : Option Base) (w : Where) (currents : Currents) (shapes : Shapes)
     (reached : IsReached spots environment answer edge shattered result w currents shapes)
-    (operated : (value : Expr) → IsOperatedText value → AreGivenSources computed value
-    → IsOperatedExpr w.setup.known value) where
+    (operated : (value : Expr) → IsOperatedText value → AreGivenSources source value
+    → IsOperatedExpr w.setup.known w.environment value) where
   abbrev place : Place
   place = place_of w environment answer currents edge
 
@@ -44,7 +43,7 @@ module _ (program : Program) (text : List ℕ) (around : Shapes) (computed : Kno
   current (suc k) under = under
 
   -- of a rank, which has no flood dimension
-  item_suits : (expr : Expr) → IsOperatedExpr w.setup.known expr → (rank : Rank)
+  item_suits : (expr : Expr) → IsOperatedExpr w.setup.known w.environment expr → (rank : Rank)
       → IsUnderCurrent currents rank → IsOfRank place rank expr × IsProper place rank expr
       → has_flood (shape_at reach rank) ≡ false → Each IsClean (expr_sites reach rank expr)
       → IsPrintedOperated rank expr w place
@@ -62,7 +61,7 @@ module _ (program : Program) (text : List ℕ) (around : Shapes) (computed : Kno
             (Some (suc below)) (suc below) (λ e. refl) has t own sites,
       )
 
-  pub items_suit : (items : List Item) → AreOperatedTexts items → AreGivenItems computed items
+  pub items_suit : (items : List Item) → AreOperatedTexts items → AreGivenItems source items
       → AreProperItems place items → AreRankedItems place items
       → list_any (λ item. has_flood (shape_at reach (item_rank reach item))) items ≡ false
       → Each Here (flat_map (item_sites reach) items) → ArePrintedOperated items w place

@@ -59,7 +59,7 @@ use Rattle.lowering_fits.proofs.DeclaredLemmas.{own_kinds, ranks_of}
 
 -- ---- flood dimensions
 
-same_flood : (one : Dim) → is_flood one ≡ shaped.is_flood one
+pub same_flood : (one : Dim) → is_flood one ≡ shaped.is_flood one
 same_flood (dim.Range lo hi step align) = refl
 same_flood dim.Flood = refl
 
@@ -113,7 +113,7 @@ boxed_steps (dim.Flood ∷ dims) h = (tt, boxed_steps dims h.1)
 boxed_steps (dim.Range lo hi step align ∷ dims) h =
     (subst (λ (s : ℤ). pos 1 ≤ℤ s) (sym h.0.0) (search rules), boxed_steps dims h.1)
 
-storage_region : (storage : Region) → IsStorage storage → IsRegion storage
+pub storage_region : (storage : Region) → IsStorage storage → IsRegion storage
 storage_region storage is =
     let steps = boxed_steps storage.dims is.boxed in
     is_region storage is.is_rank.0 is.is_rank.1 (steps, is.padded)
@@ -252,10 +252,18 @@ module _ (program : Program) (settings : List Setting) (laws : Laws program)
         (directions name.text (three_components []));
   }
 
+  three_given : (tables : Tables) (rank : ℕ) (dir : Dir)
+      → dir_rank (scope_of program routine) dir ≡ Some rank → IsThreeBy rank (vector_in known dir)
+  three_given tables rank dir e =
+      dirs_by tables program settings routine (own_kinds program grammar routine among)
+      (λ text. regions text no_region) (ranks_of program settings grammar clean routine among) rank
+      dir e
+
   pub vectors_given : (tables : Tables) (rank : ℕ) (dir : Dir)
       → dir_rank (scope_of program routine) dir ≡ Some rank → IsShift rank (vector_in known dir)
   vectors_given tables rank dir e =
-      shift_is rank (vector_in known dir)
-      (dirs_by tables program settings routine (own_kinds program grammar routine among)
-      (λ text. regions text no_region) (ranks_of program settings grammar clean routine among) rank dir
-      e)
+      shift_is rank (vector_in known dir) (three_given tables rank dir e)
+
+  pub vectors_long : (tables : Tables) (rank : ℕ) (dir : Dir)
+      → dir_rank (scope_of program routine) dir ≡ Some rank → length (vector_in known dir) ≡ 3
+  vectors_long tables rank dir e = (three_given tables rank dir e).1

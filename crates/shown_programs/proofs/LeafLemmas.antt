@@ -1,19 +1,22 @@
 -- The forms that are proved suit their places, and go as their code does.
 use Rattle.std.proofs.Common.{◌≡◌, ◌⊎◌, inl, inr, ℕ, ◌+◌, Bool, true, false, ℤ, List, length, Option, Some, None}
 use Rattle.std.proofs.Common.{refl, sym, ap, ◌∙◌, subst}
-use Rattle.std.specs.Option.{option_map}
+use Rattle.std.specs.Prelude.{slice_get}
+use Rattle.std.specs.Option.{IsSomeAnd, option_map}
+use Rattle.zpl_region.specs.declared.regions.Region.{Region}
 use Rattle.zpl_nums.specs.declared.operators.Op.{Op}
 use Rattle.zpl_tree.specs.Syntax.{Name, Expr, Number, Truth, Coord, Named, Shifted, Around, Remap, Call, Paren, Neg, Not, Abs, Pair, Reduce, Scan, Flood, Exprs, Prefix, Stmt, Form, Assign, Invoke, Block, If, While, Repeat, For, Border, Write, Return, Program}
 use Rattle.zpl_tree.specs.Grammar.{IsProgram}
 use Rattle.zpl_names.specs.Counts.{own_nodes}
-use Rattle.zpl_names.specs.Kinds.{Formal}
+use Rattle.zpl_names.specs.Kinds.{Formal, Signature}
 use Rattle.zpl_names.specs.Scope.{kind_of}
 use Rattle.zpl_names.specs.Shapes.{Shapes}
-use Rattle.zpl_names.specs.Declared.{Routine, IsProcedureOf, routine_named}
+use Rattle.zpl_names.specs.Declared.{Routine, IsProcedureOf, head_scope, routine_named}
+use Rattle.zpl_names.specs.Expansion.{formal_names}
 use Rattle.zpl_names.specs.Sites.{actuals_sites}
 use Rattle.zpl_names.specs.Accepted.{IsFaultless}
 use Rattle.zpl_binding.specs.Settings.{Setting}
-use Rattle.zpl_meaning.specs.Store.{Thing, Scalar, ArrayAt, Fixed, Environment, Store}
+use Rattle.zpl_meaning.specs.Store.{Thing, Scalar, ArrayAt, Fixed, Environment, Store, thing_of}
 use Rattle.zpl_meaning.specs.Context.{Currents, Edge, Setup, Place, reach_of}
 use Rattle.zpl_meaning.specs.Calls.{formals_in, actual_thing, handed_on, value_exprs}
 use Rattle.zpl_meaning.specs.Proper.{IsArray, IsVariable, IsProperCall, IsProperStmt, AreProperActuals}
@@ -26,7 +29,7 @@ use Rattle.meaning_ranks.specs.Ranked.{IsRankedCall, IsRankedStmt}
 use Rattle.meaning_ranks.proofs.PlaceLemmas.{behind, call_at_body}
 use Rattle.meaning_ranks.proofs.PlaceLemmas as places
 use Rattle.node_form.specs.declared.tables.Tables.{Tables}
-use Rattle.zpl_lowering.specs.Where.{Where}
+use Rattle.zpl_lowering.specs.Where.{Stored, Where}
 use Rattle.zpl_lowering.specs.Statement as low
 use Rattle.zpl_lowering.specs.Statement.{given_to}
 use Rattle.lowering_runs.specs.Seen.{Spot, seen_thing}
@@ -42,17 +45,22 @@ use Rattle.border_runs.proofs.BorderLemmas.{border_leaves}
 use Rattle.point_runs.specs.Shattered.{SplitLeaf}
 use Rattle.point_runs.proofs.SplitLemmas.{split_leaves}
 use Rattle.served_places.specs.Told.{IsSeenFrom, place_of}
+use Rattle.lowering_fits.specs.Reach.{FitNames}
+use Rattle.lowering_fits.specs.Storages.{IsHomeIn}
 use Rattle.lowering_fits.proofs.KeptLemmas.{AreGivenOf}
+use Rattle.lowering_fits.proofs.MadeFrameLemmas.{as_many}
+use Rattle.lowered_flat.proofs.GivenLemmas.{givens_told}
+use Rattle.lowered_flat.proofs.ToldLemmas.{handed_told, reach_more}
 use Rattle.lowering_fits.proofs.ReachLemmas.{givens_of}
 use Rattle.shown_programs.specs.Text.{AreCallTexts, IsAskedText, IsCallForm, IsLeafForm}
-use Rattle.shown_programs.proofs.CallLemmas.{setup, IsCalledFrom, IsCalledBy, CallLeaf, call_leaves}
+use Rattle.shown_programs.proofs.CallLemmas.{setup, text_of, IsCalledFrom, IsCalledBy, CallLeaf, call_leaves}
 use Rattle.shown_programs.proofs.ActualLemmas.{actuals_suit}
 use Rattle.shown_programs.proofs.PlaceLemmas.{IsPlaced, placed_proper, placed_ranked, placed_inside}
 use Rattle.shown_programs.proofs.BorderLemmas.{border_suits}
 use Rattle.shown_programs.proofs.ShatteredLemmas.{shattered_suits}
 use Rattle.shown_programs.proofs.OperatedLemmas.{operated_suits}
 use Rattle.shown_programs.proofs.RoutineLemmas.{AreLeaves}
-use Rattle.shown_programs.proofs.SourceLemmas.{AllGivenSources}
+use Rattle.shown_programs.proofs.SourceLemmas.{AllGivenSources, IsCallOf}
 
 -- ---- actuals that are names
 
@@ -103,18 +111,43 @@ module _ (spots : List Spot) (w : Where) (environment : Environment) (currents :
 same_routine : {a b : Routine} → Some a ≡ Some b → a ≡ b
 same_routine e = cc
 
+-- ---- what is handed on
+
+-- a parameter for each formal
+many_formals : (routine : Routine) (signature : Signature) (formals : List Formal)
+    → formals ≡ signature.formals → IsProcedureOf signature routine
+    → length (formal_names routine.procedure.params) ≡ length formals
+many_formals routine signature formals same of =
+    as_many (head_scope of.earlier routine.procedure) routine.procedure.params
+    ∙ ap length (sym (same ∙ ap (λ (s : Signature). s.formals) of.signed))
+
+-- a name of an array has a storage
+array_found : (w : Where) → FitNames w.scope w.environment w.numbers → (text : List ℕ)
+    (target : ℕ) (home : Region) → thing_of w.environment text ≡ Some (ArrayAt target home)
+    → (stored : Stored) × (slice_get w.numbers.arrays target ≡ Some stored)
+array_found w names text target home e =
+    by (slice_get w.numbers.arrays target) refl
+    (names (record { text = text; at = 0 }) target home e).homed
+  where
+    by : (o : Option Stored) → slice_get w.numbers.arrays target ≡ o
+        → IsSomeAnd o (λ stored. IsHomeIn stored.storage home)
+        → (stored : Stored) × (slice_get w.numbers.arrays target ≡ Some stored)
+    by None f h = absurd h
+    by (Some stored) f h = (stored, f)
+
 module _ (program : Program) (settings : List Setting) (laws : Laws program)
     (grammar : IsProgram program) (clean : IsFaultless program) where
   abbrev own : Setup
   own = setup program settings laws grammar clean
 
-  abbrev Placed : ℕ → List Prefix → Form → List Spot → Where → Environment → ℕ → Currents
+  abbrev Placed : List ℕ → ℕ → List Prefix → Form → List Spot → Where → Environment → ℕ → Currents
       → Option Edge → Shapes → Type 0
-  Placed at prefixes form spots w environment answer currents edge shapes =
-      IsPlaced program settings laws grammar clean at prefixes form spots w environment answer currents
-      edge shapes
+  Placed own_text at prefixes form spots w environment answer currents edge shapes =
+      IsPlaced program settings laws grammar clean own_text at prefixes form spots w environment
+      answer currents edge shapes
 
-  module _ (proper : (place : Place) (stmt : Stmt) → IsVisited own place stmt → IsProperStmt place stmt)
+  module _ (own_text : List ℕ)
+      (proper : (place : Place) (stmt : Stmt) → IsVisited own place stmt → IsProperStmt place stmt)
       (ranked : (place : Place) (stmt : Stmt) → IsVisited own place stmt → IsRankedStmt place stmt)
       (at : ℕ) (prefixes : List Prefix) (spots : List Spot) (w : Where)
       (environment : Environment) (answer : ℕ) (currents : Currents) (edge : Option Edge)
@@ -126,11 +159,12 @@ module _ (program : Program) (settings : List Setting) (laws : Laws program)
 
     -- what is known at a call is handed on to what is called
     called_from : (MayCall : List ℕ → Type 0) (form : Form) (name : Name) (actuals : Exprs)
-        → Placed at prefixes form spots w environment answer currents edge shapes
+        → Placed own_text at prefixes form spots w environment answer currents edge shapes
         → IsCall form name actuals → (c : IsProperCall place name actuals)
         → AreProperActuals place (formals_in (kind_of w.scope name)) actuals
-        → IsRankedCall place name actuals → MayCall name.text
-        → (scalar result : ℕ) (values : List ℤ) (before : Store)
+        → IsRankedCall place name actuals
+        → IsCallOf (text_of program settings laws grammar clean own_text) name actuals
+        → MayCall name.text → (scalar result : ℕ) (values : List ℤ) (before : Store)
         → length values ≡ length (value_exprs place (formals_in (kind_of w.scope name)) actuals)
         → IsCalledFrom program settings laws grammar clean MayCall w
         (given_to w scalar (formals_in (kind_of w.scope name)) actuals) (record {
@@ -139,7 +173,8 @@ module _ (program : Program) (settings : List Setting) (laws : Laws program)
           currents = currents;
           result = result;
         })
-    called_from MayCall form name actuals h is c taken r callable scalar result values before many =
+    called_from MayCall form name actuals h is c taken r there callable scalar result values before
+        many =
         let formals = formals_in (kind_of w.scope name) in
         let same : formals ≡ c.signature.formals = ap formals_in c.called in
         let deeper = behind program settings laws grammar clean h.start place h.outer at prefixes form
@@ -148,9 +183,23 @@ module _ (program : Program) (settings : List Setting) (laws : Laws program)
         let named : routine_named program name.text ≡ Some callee.0 =
         subst (λ (s : Setup). routine_named s.program name.text ≡ Some callee.0) h.known.owned callee.1 in
         record {
+          caller = own_text;
           shapes = shapes;
           known = h.known;
           callable = callable;
+          comes = reach_more program program.name.text own_text
+              (record { name = name; actuals = actuals; shapes = there.0 }) h.known.called there.1;
+          homes = λ routine found.
+              givens_told program own.known own_text name.text w place
+              (variable_from spots w environment currents h.seen)
+              (array_from spots w environment currents h.seen) h.known.homes
+              (λ text target home e.
+              array_found w h.known.names text target home e) scalar
+              (formal_names routine.procedure.params) formals actuals
+              (many_formals routine c.signature formals same
+              (subst (IsProcedureOf c.signature) (same_routine (sym named ∙ found)) callee.2)) taken
+              (handed_told program own.known own_text name actuals there.0 h.known.called there.1
+              routine found);
           signature = c.signature;
           of = λ routine is.
               subst (IsProcedureOf c.signature) (same_routine (sym named ∙ is)) callee.2;
@@ -186,21 +235,21 @@ module _ (program : Program) (settings : List Setting) (laws : Laws program)
 
     -- their sites
     abbrev Actuals : (form : Form) (actuals : Exprs)
-        → Placed at prefixes form spots w environment answer currents edge shapes → Type 0
+        → Placed own_text at prefixes form spots w environment answer currents edge shapes → Type 0
     Actuals form actuals h =
         Each (IsHere program h.here.text h.here.around)
         (actuals_sites (reach_at place shapes h.here.shattered h.here.result) actuals)
 
     actual_sites : (name : Name) (actuals : Exprs)
-        → (h : Placed at prefixes (Invoke name actuals) spots w environment answer currents edge shapes)
-        → Inside program h.here.text h.here.around
+        → (h : Placed own_text at prefixes (Invoke name actuals) spots w environment answer currents
+        edge shapes) → Inside program h.here.text h.here.around
         (reach_at place shapes h.here.shattered h.here.result) at prefixes (Invoke name actuals)
         → Actuals (Invoke name actuals) actuals h
     actual_sites name actuals h (InStmt k) = k.1.1
 
     asked_sites : (name : Name) (offset : ℕ) (callee : Name) (actuals : Exprs)
-        → (h : Placed at prefixes (Assign name None (Call offset callee actuals)) spots w environment
-        answer currents edge shapes)
+        → (h : Placed own_text at prefixes (Assign name None (Call offset callee actuals)) spots w
+        environment answer currents edge shapes)
         → Inside program h.here.text h.here.around
         (reach_at place shapes h.here.shattered h.here.result) at prefixes
         (Assign name None (Call offset callee actuals))
@@ -208,59 +257,62 @@ module _ (program : Program) (settings : List Setting) (laws : Laws program)
     asked_sites name offset callee actuals h (InStmt k) = k.1.1.1
 
     taken_suit : (form : Form) (name : Name) (actuals : Exprs)
-        → (h : Placed at prefixes form spots w environment answer currents edge shapes)
+        → (h : Placed own_text at prefixes form spots w environment answer currents edge shapes)
         → AreCallTexts (formals_in (kind_of w.scope name)) actuals
-        → AllGivenSources own.known actuals
+        → AllGivenSources (text_of program settings laws grammar clean own_text) actuals
         → AreProperActuals place (formals_in (kind_of w.scope name)) actuals
         → IsRankedCall place name actuals → Actuals form actuals h
         → AreCallActuals OperatedValue w place (formals_in (kind_of w.scope name)) actuals
     taken_suit form name actuals h t given p r sites =
-        actuals_suit program settings laws grammar clean proper ranked h.here.text h.here.around spots w
-        environment answer currents edge shapes h.known h.seen h.here.shattered h.here.result
-        (formals_in (kind_of w.scope name)) actuals t given p r sites
+        actuals_suit program settings laws grammar clean own_text proper ranked h.here.text
+        h.here.around spots w environment answer currents edge shapes h.known h.seen
+        h.here.shattered h.here.result (formals_in (kind_of w.scope name)) actuals t given p r sites
 
     invoke_suits : (IsCallable : Bool → List ℕ → Type 0) (name : Name) (actuals : Exprs)
-        → Placed at prefixes (Invoke name actuals) spots w environment answer currents edge shapes
-        → IsCallForm IsCallable (reach_of place) (Invoke name actuals)
+        → Placed own_text at prefixes (Invoke name actuals) spots w environment answer currents edge
+        shapes → IsCallForm IsCallable (reach_of place) (Invoke name actuals)
         → IsInvoked (IsCalledBy program settings laws grammar clean IsCallable false) OperatedValue name
         actuals w place
     invoke_suits IsCallable name actuals h t =
         let form = Invoke name actuals in
-        let c = placed_proper program settings laws grammar clean proper ranked at prefixes form spots w
-        environment answer currents edge shapes h in
-        let r = placed_ranked program settings laws grammar clean proper ranked at prefixes form spots w
-        environment answer currents edge shapes h in
+        let c = placed_proper program settings laws grammar clean own_text proper ranked at prefixes
+        form spots w environment answer currents edge shapes h in
+        let r = placed_ranked program settings laws grammar clean own_text proper ranked at prefixes
+        form spots w environment answer currents edge shapes h in
         let taken = taken_at name actuals c in
         record {
-          actuals_are = taken_suit form name actuals h t.0 h.given taken r
-              (actual_sites name actuals h (placed_inside program settings laws grammar clean proper
-              ranked at prefixes form spots w environment answer currents edge shapes h));
+          actuals_are = taken_suit form name actuals h t.0 h.given.1 taken r
+              (actual_sites name actuals h (placed_inside program settings laws grammar clean
+              own_text proper ranked at prefixes form spots w environment answer currents edge
+              shapes h));
           from = λ scalar values before many.
-              called_from (IsCallable false) form name actuals h AsStatement c taken r t.1 scalar 0
+              called_from (IsCallable false) form name actuals h AsStatement c taken r h.given.0 t.1
+              scalar 0
               values before many;
         }
 
     asked_suits : (IsCallable : Bool → List ℕ → Type 0) (name : Name) (op : Option Op) (value : Expr)
-        → Placed at prefixes (Assign name op value) spots w environment answer currents edge shapes
-        → IsAskedText IsCallable (reach_of place) op value
+        → Placed own_text at prefixes (Assign name op value) spots w environment answer currents
+        edge shapes → IsAskedText IsCallable (reach_of place) op value
         → IsAnsweredBy (IsCalledBy program settings laws grammar clean IsCallable false)
         (IsCalledBy program settings laws grammar clean IsCallable true) OperatedValue name op value w
         place
     asked_suits IsCallable name None (Call offset callee actuals) h t =
         let form = Assign name None (Call offset callee actuals) in
-        let p = placed_proper program settings laws grammar clean proper ranked at prefixes form spots w
-        environment answer currents edge shapes h in
-        let r = placed_ranked program settings laws grammar clean proper ranked at prefixes form spots w
-        environment answer currents edge shapes h in
+        let p = placed_proper program settings laws grammar clean own_text proper ranked at prefixes
+        form spots w environment answer currents edge shapes h in
+        let r = placed_ranked program settings laws grammar clean own_text proper ranked at prefixes
+        form spots w environment answer currents edge shapes h in
         let taken = taken_at callee actuals p.1 in
         record {
           variable = p.0;
-          actuals_are = taken_suit form callee actuals h t.0 h.given taken r
+          actuals_are = taken_suit form callee actuals h t.0 h.given.1 taken r
               (asked_sites name offset callee actuals h (placed_inside program settings laws grammar
-              clean proper ranked at prefixes form spots w environment answer currents edge shapes h));
+              clean own_text proper ranked at prefixes form spots w environment answer currents edge
+              shapes h));
           from = λ scalar result values before many.
-              called_from (IsCallable true) form callee actuals h AsAnswer p.1 taken r t.1 scalar
-              result values before many;
+              called_from (IsCallable true) form callee actuals h AsAnswer p.1 taken r h.given.0 t.1
+              scalar result values before many;
         }
     asked_suits IsCallable name (Some op) value h t = absurd t
     asked_suits IsCallable name None (Number o number) h t = absurd t
@@ -280,7 +332,7 @@ module _ (program : Program) (settings : List Setting) (laws : Laws program)
     asked_suits IsCallable name None (Flood o source operand) h t = absurd t
 
     call_suits : (IsCallable : Bool → List ℕ → Type 0) (form : Form)
-        → Placed at prefixes form spots w environment answer currents edge shapes
+        → Placed own_text at prefixes form spots w environment answer currents edge shapes
         → IsCallForm IsCallable (reach_of place) form
         → CallLeaf program settings laws grammar clean IsCallable at form w place
     call_suits IsCallable (Invoke name actuals) h t = invoke_suits IsCallable name actuals h t
@@ -323,18 +375,18 @@ module _ (program : Program) (settings : List Setting) (laws : Laws program)
       → ((place : Place) (stmt : Stmt) → IsVisited own place stmt → IsRankedStmt place stmt)
       → AreLeaves program settings laws grammar clean tables n Leaf IsLeafForm
   leaves_go tables n proper ranked = record {
-    suits = λ IsCallable at prefixes form spots w environment answer currents edge shapes h t.
+    suits = λ text IsCallable at prefixes form spots w environment answer currents edge shapes h t.
         elim t [
-          | inl border ↦ inl (border_suits program settings laws grammar clean proper ranked at prefixes
-              spots w environment answer currents edge shapes form h border)
-          | inr (inl split) ↦ inr (inl (shattered_suits program settings laws grammar clean proper
-              ranked at prefixes spots w environment answer currents edge shapes form h split.0
-              split.1))
+          | inl border ↦ inl (border_suits program settings laws grammar clean text proper
+              ranked at prefixes spots w environment answer currents edge shapes form h border)
+          | inr (inl split) ↦ inr (inl (shattered_suits program settings laws grammar clean text
+              proper ranked at prefixes spots w environment answer currents edge shapes form h
+              split.0 split.1))
           | inr (inr (inl operated)) ↦ inr (inr (inl (operated_suits program settings laws grammar
-              clean proper ranked at prefixes spots w environment answer currents edge shapes form h
-              operated)))
-          | inr (inr (inr call)) ↦ inr (inr (inr (call_suits proper ranked at prefixes spots w
-              environment answer currents edge shapes IsCallable form h call)))
+              clean text proper ranked at prefixes spots w environment answer currents edge
+              shapes form h operated)))
+          | inr (inr (inr call)) ↦ inr (inr (inr (call_suits text proper ranked at prefixes
+              spots w environment answer currents edge shapes IsCallable form h call)))
         ];
     go = λ depth IsCallable calls at form.
         let world = world_at tables n own depth in

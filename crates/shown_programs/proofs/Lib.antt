@@ -3,8 +3,10 @@ pub mod LocalLemmas
 pub mod KnownLemmas
 pub mod GivenLemmas
 pub mod BoundedLemmas
+pub mod CountLemmas
 pub mod CallLemmas
 pub mod ShapeLemmas
+pub mod WrapLemmas
 pub mod OperandLemmas
 pub mod SourceLemmas
 pub mod PlaceLemmas

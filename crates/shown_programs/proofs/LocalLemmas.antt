@@ -43,7 +43,7 @@ use Rattle.lowering_runs.specs.Run.{straight, step, does}
 use Rattle.lowering_runs.specs.Agrees.{Agrees}
 use Rattle.lowering_runs.specs.Stands.{Rises, array_numbers, IsBefore, HasRoom, IsStored, IsSound, Keeps}
 use Rattle.lowering_runs.specs.Frames.{seen_frame}
-use Rattle.lowering_runs.proofs.FitLemmas.{room_rest}
+use Rattle.lowering_runs.proofs.FitLemmas.{room_coded, room_rest}
 use Rattle.lowering_runs.proofs.NumberLemmas.{rises_le, same_spots, get_set_same, get_set_other}
 use Rattle.lowering_runs.proofs.RowLemmas.{set, set_to, set_step, set_sound, settled_act}
 use Rattle.lowering_runs.proofs.FrameLemmas.{scalar_frame}
@@ -306,7 +306,7 @@ module _ (tables : Tables) (n : ℕ) (setup : Setup) (entry : Entry) (base : Lis
       (subst (λ (m : ℕ). AreFreshArrays tables entry.clears m after) (omega arith)
       (c.arrays next.arrays clear))
       (room_rest tables next (code.Rows []) first (rest inner more)
-      (record { scalars = room.scalars; slots = room.slots; arrays = room.arrays; temps = room.temps }))
+      (room_coded tables next (code.Rows []) _ room))
       (subst (λ (x : Frame). IsReached x) frame reached)))
   local_goes (Bracketed bracket) name IsFramed IsReached run rest s each framed spots next now f own
       before sound kept fresh clear room reached =
@@ -361,7 +361,7 @@ module _ (tables : Tables) (n : ℕ) (setup : Setup) (entry : Entry) (base : Lis
       (subst (λ (m : ℕ). AreFresh entry.clears m after) (omega arith) (c.fresh next.scalars fresh))
       (c.arrays more.arrays (omega arith))
       (room_rest tables next (code.Rows []) first (rest inner more)
-      (record { scalars = room.scalars; slots = room.slots; arrays = room.arrays; temps = room.temps }))
+      (room_coded tables next (code.Rows []) _ room))
       (subst (λ (x : Frame). IsReached x) frame reached)))
 
   names_go : (shape : Bracket) (names : List Name) (IsFramed : Framed → Next → Type 0)

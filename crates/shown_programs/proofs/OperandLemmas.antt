@@ -2,24 +2,25 @@
 -- behind the brackets of their operators.
 use Rattle.std.proofs.Common.{◌≡◌, refl, sym, ◌∙◌, subst, arith, ℕ, zero, suc, Bool, true, false}
 use Rattle.std.proofs.Common.{List, [], ◌∷◌, Option, Some, None}
-use Rattle.std.specs.Prelude.{slice_get, unsigned_abs, ℤ, ◌≤◌}
+use Rattle.std.specs.Prelude.{length, slice_get, unsigned_abs, ℤ, ◌≤◌}
 use Rattle.std.specs.Option.{option_map}
 use Rattle.std.specs.List.{list_any}
 use Rattle.zpl_nums.specs.declared.folds.Fold.{Fold}
 use Rattle.zpl_nums.specs.declared.operators.Op.{Op}
 use Rattle.zpl_region.specs.declared.regions.Region.{Region}
-use Rattle.zpl_tree.specs.Syntax.{Base, Expr, Number, Truth, Coord, Named, Shifted, Around, Remap, Call, Paren, Neg, Not, Abs, Pair, Reduce, Scan, Flood, Exprs, NoExpr, ThenExpr, Inner, Name, NoBracket, Bracketed}
+use Rattle.zpl_tree.specs.Syntax.{Base, Dir, Expr, Number, Truth, Coord, Named, Shifted, Around, Remap, Call, Paren, Neg, Not, Abs, Pair, Reduce, Scan, Flood, Exprs, NoExpr, ThenExpr, Inner, Name, NoBracket, Bracketed}
 use Rattle.zpl_names.specs.Kinds.{Rank, Shape}
-use Rattle.zpl_names.specs.Ranks.{array_rank, array_shape, exprs_count, is_open, operand_rank, own_rank}
+use Rattle.zpl_names.specs.Ranks.{array_rank, array_shape, dir_rank, exprs_count, is_open, operand_rank, own_rank}
 use Rattle.zpl_names.specs.Scope.{kind_of}
 use Rattle.zpl_names.specs.Shapes.{Shapes, current_at, current_over, inner_shape, with_current}
-use Rattle.zpl_names.specs.Sites.{Reach, Site, expr_sites, exprs_sites, over_source, region_sites}
+use Rattle.zpl_names.specs.Sites.{Reach, Site, dir_sites, expr_sites, exprs_sites, over_source, region_sites}
 use Rattle.zpl_names.specs.Faults.{has_flood, shape_at}
 use Rattle.zpl_names.proofs.NameLemmas.{no_place}
 use Rattle.zpl_meaning.specs.Store.{Environment, Thing, Scalar, ArrayAt, Fixed, thing_of}
 use Rattle.zpl_meaning.specs.Context.{Currents, Edge, Place, with_over}
 use Rattle.zpl_meaning.specs.Proper.{AreProper, HasCurrent, IsArray, IsArrayRank, IsProper, IsProperInner, IsRead}
 use Rattle.zpl_meaning.specs.Regions as mean
+use Rattle.zpl_meaning.specs.Regions.{vector_in}
 use Rattle.zpl_meaning.specs.Scalars.{IsScalarName}
 use Rattle.zpl_meaning.proofs.DepthLemmas.{Each, each_left, each_right}
 use Rattle.zpl_meaning.proofs.ProperLemmas.{IsClean, or_left, or_right}
@@ -32,13 +33,17 @@ use Rattle.array_runs.specs.Floods.{IsElementwiseAs}
 use Rattle.prefix_runs.specs.Opens.{Opens}
 use Rattle.operator_runs.specs.Meant.{IsAlong}
 use Rattle.operator_runs.specs.Operated.{AreIndices, HaveNoFlood, IsFoldedUnder, IsOperated, IsPlainSource, IsRemapped, IsUnderSource, OpensSource}
+use Rattle.lowering_fits.specs.Reach.{FitNames}
+use Rattle.lowering_fits.specs.Storages.{AllKept}
 use Rattle.served_places.specs.Told.{AreFree, IsPlainExpr, IsSeenFrom, IsStoredOf, IsTold, place_of, reach_told}
 use Rattle.served_places.specs.Given.{IsSound, KnowsGiven}
 use Rattle.served_places.proofs.GivenLemmas.{opens}
 use Rattle.served_places.proofs.SourceLemmas.{source_current, source_flood, source_seen, source_slotted, source_told}
 use Rattle.served_places.proofs.ToldLemmas.{HasSlotOf, elementwise, has_shape, has_slot, or_false}
 use Rattle.shown_programs.specs.Operators.{AreOperatedExprs, IsOperatedExpr}
+use Rattle.shown_programs.proofs.KnownLemmas.{kept_at}
 use Rattle.shown_programs.proofs.ShapeLemmas.{IsShapeOf, are_told, currents_of, shape_of}
+use Rattle.shown_programs.proofs.WrapLemmas.{wrapped}
 
 no_floods : (floods : List Bool) → list_any (λ flood. flood) floods ≡ false → HaveNoFlood floods
 no_floods [] e = tt
@@ -64,6 +69,10 @@ module _ (spots : List Spot) (environment : Environment) (answer : ℕ) (edge : 
     pub seen : IsSeenFrom spots w environment currents
     pub told : IsTold w shapes
     pub given : KnowsGiven w.setup.known w.scope
+    pub names : FitNames w.scope w.environment w.numbers
+    pub kept : AllKept w.numbers.arrays
+    pub long : (rank : ℕ) (dir : Dir) → dir_rank w.scope dir ≡ Some rank
+        → length (vector_in w.setup.known dir) ≡ 3
 
   abbrev place : Where → Currents → Place
   place w currents = place_of w environment answer currents edge
@@ -91,14 +100,14 @@ module _ (spots : List Spot) (environment : Environment) (answer : ℕ) (edge : 
   IsServing expr =
       (w : Where) (currents : Currents) (shapes : Shapes) → IsReached w currents shapes
       → (rank : Rank) (k : ℕ) → (is_open expr ≡ true → rank ≡ Some k)
-      → HasCurrent currents (Some k) → IsOperatedExpr w.setup.known expr → IsOf w currents (Some k) expr
-      → Each IsClean (expr_sites (reach w shapes) rank expr)
+      → HasCurrent currents (Some k) → IsOperatedExpr w.setup.known w.environment expr
+      → IsOf w currents (Some k) expr → Each IsClean (expr_sites (reach w shapes) rank expr)
       → IsOperated w (place w currents) (Some (slotted_at w.currents (Some k))) expr
 
   abbrev AreServing : Exprs → Type 0
   AreServing exprs =
       (w : Where) (currents : Currents) (shapes : Shapes) → IsReached w currents shapes → (k : ℕ)
-      → HasCurrent currents (Some k) → AreOperatedExprs w.setup.known exprs
+      → HasCurrent currents (Some k) → AreOperatedExprs w.setup.known w.environment exprs
       → AreOfRank (place w currents) (Some k) exprs × AreProper (place w currents) (Some k) exprs
       → Each IsClean (exprs_sites (reach w shapes) (Some k) exprs)
       → AreIndices w (place w currents) (Some (slotted_at w.currents (Some k))) exprs
@@ -129,7 +138,7 @@ module _ (spots : List Spot) (environment : Environment) (answer : ℕ) (edge : 
 
   at_current : (expr : Expr) → IsServing expr → (w : Where) (currents : Currents) (shapes : Shapes)
       → IsReached w currents shapes → (rank : Rank) → HasCurrent currents rank
-      → IsOperatedExpr w.setup.known expr → IsOf w currents rank expr
+      → IsOperatedExpr w.setup.known w.environment expr → IsOf w currents rank expr
       → Each IsClean (expr_sites (reach w shapes) rank expr)
       → IsOperated w (place w currents) (Some (slotted_at w.currents rank)) expr
   at_current expr a w currents shapes r None has t own sites = absurd has
@@ -193,9 +202,12 @@ module _ (spots : List Spot) (environment : Environment) (answer : ℕ) (edge : 
           (subst (λ (r : Rank). inner_shape w.scope shapes r source ≡ Some shape.shape) (sym rank_is)
           shape.is) flat))
 
-      pub source_under : (a : IsServing operand) → IsOperatedExpr w.setup.known operand
-          → ((region : Region) → IsOfRank (mean.under_source (place w currents) rank region) rank operand)
-          → ((region : Region) → IsProper (mean.under_source (place w currents) rank region) rank operand)
+      pub source_under : (a : IsServing operand)
+          → IsOperatedExpr w.setup.known w.environment operand
+          → ((region : Region)
+          → IsOfRank (mean.under_source (place w currents) rank region) rank operand)
+          → ((region : Region)
+          → IsProper (mean.under_source (place w currents) rank region) rank operand)
           → Each IsClean (expr_sites (over_source (reach w shapes) rank source) rank operand)
           → IsUnderSource w (place w currents) source operand
           (λ inner there over. IsOperated inner there (Some over) operand)
@@ -216,6 +228,9 @@ module _ (spots : List Spot) (environment : Environment) (answer : ℕ) (edge : 
             told = source_told w environment answer currents edge shapes r.told r.given source operand k
                 rank_is is_rank opens_here shape.shape shape.is shape.many next line;
             given = r.given;
+            names = r.names;
+            kept = r.kept;
+            long = r.long;
           }) (Some k) k (λ e. refl)
           (source_current w environment answer currents edge shapes r.told r.given source operand k
           rank_is is_rank opens_here shape.shape shape.is shape.many next line region) t (
@@ -351,6 +366,27 @@ module _ (spots : List Spot) (environment : Environment) (answer : ℕ) (edge : 
         (subst (λ (x : Rank). Each IsClean (exprs_sites (reach w shapes) x indices)) (o refl) sites.1),
   )
 
+  -- reads that wrap round have the ranks and the flood dimensions of those that don't
+  around_serves : (at : ℕ) (name : Name) (shift : Dir) → IsServing (Around at name shift)
+  around_serves at name shift w currents shapes r sited k o has t own sites =
+      let slot = slot_at w currents shapes r k has in
+      wrapped w (slotted_at w.currents (Some k)) k slot.many r.names
+      (λ place stored. kept_at w.numbers.arrays place stored r.kept) name shift own.0.0
+      (r.long k shift own.0.1) (r.told.vectors k shift own.0.1) t
+      (thing_of w.environment name.text) refl
+      (array_there (thing_of w.environment name.text)
+      (subst (λ (x : Option Thing). IsArray x) (r.seen.names name.text) own.1.0))
+      (elementwise spots w environment answer currents edge r.seen shapes r.told shattered result k
+      slot sited (Shifted at name shift) tt own.0
+      (sites.0.under.floods, each_free (dir_sites (reach w shapes) shift) sites.1))
+    where
+      array_there : (thing : Option Thing) → IsArray (option_map (seen_thing spots) thing)
+          → IsArray thing
+      array_there (Some (ArrayAt place home)) h = tt
+      array_there (Some (Scalar place)) h = h
+      array_there (Some (Fixed value)) h = h
+      array_there None h = h
+
   mutual
     pub serves_under : (expr : Expr) → IsServing expr
     serves_under (Number at value) = λ w currents shapes r sited k o has t own sites. t
@@ -378,7 +414,7 @@ module _ (spots : List Spot) (environment : Environment) (answer : ℕ) (edge : 
     serves_under (Flood at source operand) = flood_serves at source operand (serves_under operand)
     serves_under (Scan at operator along operand) =
         scan_serves at operator along operand (serves_under operand)
-    serves_under (Around at name shift) = λ w currents shapes r sited k o has t own sites. absurd t
+    serves_under (Around at name shift) = around_serves at name shift
     serves_under (Remap at name indices) = remap_serves at name indices (all_serve indices)
     serves_under (Call at name actuals) = λ w currents shapes r sited k o has t own sites. absurd t
 
@@ -408,7 +444,7 @@ module _ (spots : List Spot) (environment : Environment) (answer : ℕ) (edge : 
   no_current currents other e h = subst (λ (r : Rank). HasCurrent currents r) e h
 
   module _ (w : Where) (currents : Currents) (shapes : Shapes) (r : IsReached w currents shapes) where
-    pub serves_alone : (expr : Expr) (rank : Rank) → IsOperatedExpr w.setup.known expr
+    pub serves_alone : (expr : Expr) (rank : Rank) → IsOperatedExpr w.setup.known w.environment expr
         → IsOf w currents (Some 0) expr → Each IsClean (expr_sites (reach w shapes) rank expr)
         → IsOperated w (place w currents) None expr
     serves_alone (Number at value) rank t h sites = t
@@ -440,6 +476,6 @@ module _ (spots : List Spot) (environment : Environment) (answer : ℕ) (edge : 
     serves_alone (Flood at source operand) rank t h sites =
         absurd (no_current currents (source_rank w source operand) h.0.0 h.1.0)
     serves_alone (Scan at operator along operand) rank t h sites = absurd h.1.0
-    serves_alone (Around at name shift) rank t h sites = absurd t
+    serves_alone (Around at name shift) rank t h sites = absurd h.1.1
     serves_alone (Remap at name indices) rank t h sites = absurd h.1.0.1
     serves_alone (Call at name actuals) rank t h sites = absurd t

@@ -39,9 +39,9 @@ use Rattle.served_places.specs.Told.{place_of, reach_told}
 use Rattle.served_places.proofs.ToldLemmas.{array_served, elementwise, has_shape, or_false}
 use Rattle.shown_programs.specs.Operators.{IsOperatedExpr}
 use Rattle.shown_programs.specs.Text.{IsOperatedText, IsOperatedForm}
-use Rattle.shown_programs.proofs.CallLemmas.{setup}
+use Rattle.shown_programs.proofs.CallLemmas.{setup, text_of}
 use Rattle.shown_programs.proofs.OperandLemmas.{IsReached, name_alone, rank_of_current, serves_alone, serves_under, slot_at}
-use Rattle.shown_programs.proofs.SourceLemmas.{AreGivenSources}
+use Rattle.shown_programs.proofs.SourceLemmas.{AreGivenSources, ProcedureText}
 use Rattle.shown_programs.proofs.PlaceLemmas.{IsPlaced, operated_here, placed_proper, placed_ranked, placed_inside}
 use Rattle.shown_programs.proofs.ItemLemmas.{items_suit}
 
@@ -116,8 +116,8 @@ module _ (spots : List Spot) (environment : Environment) (answer : ℕ) (edge : 
   -- ---- assignments
 
   module _ (at : ℕ) (prefixes : List Prefix) (name : Name) (op : Option Op) (value : Expr)
-      (operated : IsOperatedExpr w.setup.known value) (proper : IsPlainAssign inner name op value)
-      (ranked : IsRankedValue inner name op value)
+      (operated : IsOperatedExpr w.setup.known w.environment value)
+      (proper : IsPlainAssign inner name op value) (ranked : IsRankedValue inner name op value)
       (free : flood_clashes (AtStmt reach at prefixes (Assign name op value)) ≡ [])
       (clean : Each IsClean (whole_sites reach (Assigned name op) value)) where
     abbrev found : Option Kind
@@ -259,9 +259,12 @@ module _ (spots : List Spot) (environment : Environment) (answer : ℕ) (edge : 
 -- ---- at the places of programs
 
 module _ (program : Program) (settings : List Setting) (laws : Laws program)
-    (grammar : IsProgram program) (clean : IsFaultless program) where
+    (grammar : IsProgram program) (clean : IsFaultless program) (own_text : List ℕ) where
   abbrev own : Setup
   own = setup program settings laws grammar clean
+
+  abbrev source : ProcedureText
+  source = text_of program settings laws grammar clean own_text
 
   module _ (proper : (place : Place) (stmt : Stmt) → IsVisited own place stmt
       → IsProperStmt place stmt)
@@ -275,8 +278,8 @@ module _ (program : Program) (settings : List Setting) (laws : Laws program)
 
     abbrev Placed : Form → Type 0
     Placed form =
-        IsPlaced program settings laws grammar clean at prefixes form spots w environment answer
-        currents edge shapes
+        IsPlaced program settings laws grammar clean own_text at prefixes form spots w environment
+        answer currents edge shapes
 
     abbrev Sited : (form : Form) → Placed form → Type 0
     Sited form h =
@@ -285,14 +288,21 @@ module _ (program : Program) (settings : List Setting) (laws : Laws program)
 
     reached_at : (form : Form) (h : Placed form)
         → IsReached spots environment answer edge h.here.shattered h.here.result w currents shapes
-    reached_at form h = record { seen = h.seen; told = h.known.told; given = h.known.given }
+    reached_at form h = record {
+      seen = h.seen;
+      told = h.known.told;
+      given = h.known.given;
+      names = h.known.names;
+      kept = h.known.kept;
+      long = h.known.long;
+    }
 
     operated_at : (form : Form) → Placed form → (value : Expr) → IsOperatedText value
-        → AreGivenSources own.known value → IsOperatedExpr w.setup.known value
+        → AreGivenSources source value → IsOperatedExpr w.setup.known w.environment value
     operated_at form h value text given =
-        operated_here program settings laws grammar clean proper ranked h.here.text h.here.around spots
-        w environment answer currents edge shapes h.known h.seen h.here.shattered h.here.result value
-        text given
+        operated_here program settings laws grammar clean own_text proper ranked h.here.text
+        h.here.around spots w environment answer currents edge shapes h.known h.seen
+        h.here.shattered h.here.result value text given
 
     assign_suits : (name : Name) (op : Option Op) (value : Expr)
         → (h : Placed (Assign name op value)) → IsOperatedText value → Sited (Assign name op value) h
@@ -304,10 +314,10 @@ module _ (program : Program) (settings : List Setting) (laws : Laws program)
         assign_operated spots environment answer edge h.here.shattered h.here.result w currents shapes
         (reached_at form h) at prefixes name op value
         (operated_at form h value t h.given)
-        (plain.1 (placed_proper program settings laws grammar clean proper ranked at prefixes form
-        spots w environment answer currents edge shapes h))
-        (plain.2 (placed_ranked program settings laws grammar clean proper ranked at prefixes form
-        spots w environment answer currents edge shapes h))
+        (plain.1 (placed_proper program settings laws grammar clean own_text proper ranked at
+        prefixes form spots w environment answer currents edge shapes h))
+        (plain.2 (placed_ranked program settings laws grammar clean own_text proper ranked at
+        prefixes form spots w environment answer currents edge shapes h))
         k.0.clean.under.floods
         (clean_of program h.here.text h.here.around (whole_sites reach (Assigned name op) value)
         (subst (λ (sites : List Site). Each (IsHere program h.here.text h.here.around) sites)
@@ -317,12 +327,12 @@ module _ (program : Program) (settings : List Setting) (laws : Laws program)
         → IsOperatedForm (reach_of place) (Write line items) → Sited (Write line items) h
         → ArePrintedOperated items w place
     write_suits line items h t (InStmt k) =
-        items_suit program h.here.text h.here.around own.known spots environment answer edge
+        items_suit program h.here.text h.here.around source spots environment answer edge
         h.here.shattered h.here.result w currents shapes (reached_at (Write line items) h)
         (operated_at (Write line items) h) items t h.given
-        (placed_proper program settings laws grammar clean proper ranked at prefixes
+        (placed_proper program settings laws grammar clean own_text proper ranked at prefixes
         (Write line items) spots w environment answer currents edge shapes h)
-        (placed_ranked program settings laws grammar clean proper ranked at prefixes
+        (placed_ranked program settings laws grammar clean own_text proper ranked at prefixes
         (Write line items) spots w environment answer currents edge shapes h)
         (no_place (list_any (λ item. has_flood (shape_at
         (reach_at place shapes h.here.shattered h.here.result)
@@ -331,8 +341,8 @@ module _ (program : Program) (settings : List Setting) (laws : Laws program)
 
     sited : (form : Form) (h : Placed form) → Sited form h
     sited form h =
-        placed_inside program settings laws grammar clean proper ranked at prefixes form spots w
-        environment answer currents edge shapes h
+        placed_inside program settings laws grammar clean own_text proper ranked at prefixes form
+        spots w environment answer currents edge shapes h
 
     pub operated_suits : (form : Form) → Placed form → IsOperatedForm (reach_of place) form
         → OperatedLeaf at form w place

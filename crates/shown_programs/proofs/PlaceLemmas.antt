@@ -45,10 +45,10 @@ use Rattle.served_places.proofs.CleanLemmas.{one_with, two_with, three_with}
 use Rattle.shown_programs.specs.Operators.{IsOperatedExpr}
 use Rattle.shown_programs.specs.Text.{HaveSmallPrefixes, behind_prefixes, IsOperatedText, IsShownStmt, AreShown, IsShownForm, AreShownArms, IsShownElse}
 use Rattle.shown_programs.proofs.BoundedLemmas.{IsBoundedAt, bounded_under, known_limited}
-use Rattle.shown_programs.proofs.CallLemmas.{setup, IsKnownAt}
+use Rattle.shown_programs.proofs.CallLemmas.{setup, text_of, IsKnownAt}
 use Rattle.shown_programs.proofs.ShapeLemmas.{are_told, currents_of, shape_of}
 use Rattle.shown_programs.proofs.OperandLemmas.{serves_alone}
-use Rattle.shown_programs.proofs.SourceLemmas.{AllGivenSources, AreGivenInner, AreGivenItems, AreGivenSources, operated_text, sound_inner}
+use Rattle.shown_programs.proofs.SourceLemmas.{AllGivenSources, AreGivenInner, AreGivenItems, AreGivenSources, IsCallOf, ProcedureText, operated_text, sound_inner}
 
 -- ---- sites without a clash
 
@@ -91,51 +91,55 @@ AreGivenPrefixes known [] = Unit {0}
 AreGivenPrefixes known (prefix ∷ rest) =
     AreGivenInner known prefix.region × AreGivenPrefixes known rest
 
-abbrev pub IsGivenHead : Known → ForHead → Type 0
-IsGivenHead known head =
-    AreGivenSources known head.first × AreGivenSources known head.last
-    × AreGivenSources known (step_expr head.step)
+abbrev pub IsGivenHead : ProcedureText → ForHead → Type 0
+IsGivenHead own head =
+    AreGivenSources own head.first × AreGivenSources own head.last
+    × AreGivenSources own (step_expr head.step)
 
 abbrev mutual
-  pub IsGivenStmt : Known → Stmt → Type 0
-  IsGivenStmt known (Prefixed at prefixes form) =
-      AreGivenPrefixes known prefixes × IsGivenForm known form
+  pub IsGivenStmt : ProcedureText → Stmt → Type 0
+  IsGivenStmt own (Prefixed at prefixes form) =
+      AreGivenPrefixes own.known prefixes × IsGivenForm own form
 
-  pub AreGivenStmts : Known → Stmts → Type 0
-  AreGivenStmts known NoStmt = Unit {0}
-  AreGivenStmts known (ThenStmt first rest) = IsGivenStmt known first × AreGivenStmts known rest
+  pub AreGivenStmts : ProcedureText → Stmts → Type 0
+  AreGivenStmts own NoStmt = Unit {0}
+  AreGivenStmts own (ThenStmt first rest) = IsGivenStmt own first × AreGivenStmts own rest
 
-  pub IsGivenForm : Known → Form → Type 0
-  IsGivenForm known (Block body) = AreGivenStmts known body
-  IsGivenForm known (If arms otherwise) = AreGivenArms known arms × IsGivenElse known otherwise
-  IsGivenForm known (While test body) = AreGivenSources known test × AreGivenStmts known body
-  IsGivenForm known (Repeat body until test) = AreGivenSources known test × AreGivenStmts known body
-  IsGivenForm known (For head body) = IsGivenHead known head × AreGivenStmts known body
-  IsGivenForm known (Assign name op value) = AreGivenSources known value
-  IsGivenForm known (Invoke name actuals) = AllGivenSources known actuals
-  IsGivenForm known (Border kind names) = Unit {0}
-  IsGivenForm known (Write line items) = AreGivenItems known items
-  IsGivenForm known (Return value) = AreGivenSources known value
+  pub IsGivenForm : ProcedureText → Form → Type 0
+  IsGivenForm own (Block body) = AreGivenStmts own body
+  IsGivenForm own (If arms otherwise) = AreGivenArms own arms × IsGivenElse own otherwise
+  IsGivenForm own (While test body) = AreGivenSources own test × AreGivenStmts own body
+  IsGivenForm own (Repeat body until test) = AreGivenSources own test × AreGivenStmts own body
+  IsGivenForm own (For head body) = IsGivenHead own head × AreGivenStmts own body
+  IsGivenForm own (Assign name op value) = AreGivenSources own value
+  IsGivenForm own (Invoke name actuals) =
+      IsCallOf own name actuals × AllGivenSources own actuals
+  IsGivenForm own (Border kind names) = Unit {0}
+  IsGivenForm own (Write line items) = AreGivenItems own items
+  IsGivenForm own (Return value) = AreGivenSources own value
 
-  pub AreGivenArms : Known → Arms → Type 0
-  AreGivenArms known NoArm = Unit {0}
-  AreGivenArms known (ThenArm (Tested at test body) rest) =
-      (AreGivenSources known test × AreGivenStmts known body) × AreGivenArms known rest
+  pub AreGivenArms : ProcedureText → Arms → Type 0
+  AreGivenArms own NoArm = Unit {0}
+  AreGivenArms own (ThenArm (Tested at test body) rest) =
+      (AreGivenSources own test × AreGivenStmts own body) × AreGivenArms own rest
 
-  pub IsGivenElse : Known → Otherwise → Type 0
-  IsGivenElse known NoElse = Unit {0}
-  IsGivenElse known (Else body) = AreGivenStmts known body
+  pub IsGivenElse : ProcedureText → Otherwise → Type 0
+  IsGivenElse own NoElse = Unit {0}
+  IsGivenElse own (Else body) = AreGivenStmts own body
 
 module _ (program : Program) (settings : List Setting) (laws : Laws program)
-    (grammar : IsProgram program) (clean : IsFaultless program) where
+    (grammar : IsProgram program) (clean : IsFaultless program) (own_text : List ℕ) where
   abbrev At : Place → Shapes → Stmt → Type 0
   At place shapes stmt = IsAt program settings laws grammar clean place shapes stmt
 
   abbrev Here : Where → Shapes → Type 0
-  Here w shapes = IsKnownAt program settings laws grammar clean w shapes
+  Here w shapes = IsKnownAt program settings laws grammar clean own_text w shapes
 
   abbrev own_setup : Setup
   own_setup = setup program settings laws grammar clean
+
+  abbrev own_source : ProcedureText
+  own_source = text_of program settings laws grammar clean own_text
 
   -- Where a form is run, behind its prefixes.
   pub record IsPlaced (at : ℕ) (prefixes : List Prefix) (form : Form) (spots : List Spot)
@@ -152,7 +156,7 @@ module _ (program : Program) (settings : List Setting) (laws : Laws program)
     pub known : Here w shapes
     pub seen : IsSeenFrom spots w environment currents
     pub bounded : IsBoundedAt (place_of w environment answer currents edge)
-    pub given : IsGivenForm own_setup.known form
+    pub given : IsGivenForm own_source form
 
   module _ (proper : (place : Place) (stmt : Stmt) → IsVisited own_setup place stmt
       → IsProperStmt place stmt)
@@ -265,6 +269,10 @@ module _ (program : Program) (settings : List Setting) (laws : Laws program)
                       (ap (λ (k : ℕ). Some k) shape.many ∙ sym opens.ranked)
                       (mask_free prefix.mask masks) (low.is_last borders rest) slot line;
                   given = known.given;
+                  long = known.long;
+                  called = known.called;
+                  homes = known.homes;
+                  copies = known.copies;
                 })
                 (record {
                   names = seen.names;
@@ -302,7 +310,7 @@ module _ (program : Program) (settings : List Setting) (laws : Laws program)
         (Prefixed at prefixes form)
         → Here w shapes → IsSeenFrom spots w environment currents
         → IsBoundedAt (place_of w environment answer currents edge) → HaveSmallPrefixes prefixes
-        → IsGivenStmt own_setup.known (Prefixed at prefixes form)
+        → IsGivenStmt own_source (Prefixed at prefixes form)
         → ((inner : Where) (deep : Currents) (last : Option Edge) (deeper : Shapes)
         → IsPlaced at prefixes form spots inner environment answer deep last deeper
         → behind_prefixes (reach_of (place_of w environment answer currents edge)) prefixes
@@ -353,27 +361,34 @@ module _ (program : Program) (settings : List Setting) (laws : Laws program)
 
       -- a value, with what was computed before the run
       pub operated_here : (value : Expr) → IsOperatedText value
-          → AreGivenSources own_setup.known value → IsOperatedExpr w.setup.known value
+          → AreGivenSources own_source value → IsOperatedExpr w.setup.known w.environment value
       operated_here value text given =
-          operated_text w.setup.known value text
-          (subst (λ (s : Setup). AreGivenSources s.known value) (sym known.owned) given)
+          subst (λ (s : Setup). IsOperatedExpr s.known w.environment value) (sym known.owned)
+          (operated_text own_source w.environment known.copies value text given)
 
       -- one of rank 0
       pub value_suits : (role : Role) (value : Expr) (rank : Rank) → IsOperatedText value
-          → AreGivenSources own_setup.known value → IsProperScalar tested role value
+          → AreGivenSources own_source value → IsProperScalar tested role value
           → IsRanked tested role value
           → Each (IsHere program text around) (expr_sites test_reach rank value)
           → OperatedValue value w tested
       value_suits role value rank operated given p r sites =
           serves_alone spots environment answer edge shattered result w currents shapes
-          (record { seen = seen; told = known.told; given = known.given }) value rank
+          (record {
+            seen = seen;
+            told = known.told;
+            given = known.given;
+            names = known.names;
+            kept = known.kept;
+            long = known.long;
+          }) value rank
           (operated_here value operated given) (
             subst (λ (k : Rank). IsOfRank tested k value) p.0 r,
             subst (λ (k : Rank). IsProper tested k value) p.0 p.1,
           )
           (clean_of program text around (expr_sites test_reach rank value) sites)
 
-      test_suits : (test : Expr) → IsOperatedText test → AreGivenSources own_setup.known test
+      test_suits : (test : Expr) → IsOperatedText test → AreGivenSources own_source test
           → IsProperScalar tested TestRole test → IsRanked tested TestRole test
           → Each (IsHere program text around) (whole_sites test_reach TestRole test)
           → OperatedValue test w tested
@@ -382,7 +397,7 @@ module _ (program : Program) (settings : List Setting) (laws : Laws program)
 
       -- the bounds and the step of a `for`
       step_suits : (step : Option Expr) → IsOperatedText (step_expr step)
-          → AreGivenSources own_setup.known (step_expr step)
+          → AreGivenSources own_source (step_expr step)
           → IsProperScalar tested Limit (step_expr step) → IsRanked tested Limit (step_expr step)
           → Each (IsHere program text around) (step_sites test_reach step)
           → OperatedValue (step_expr step) w tested
@@ -394,7 +409,7 @@ module _ (program : Program) (settings : List Setting) (laws : Laws program)
           → Inside program text around test_reach at prefixes (For head body)
           → (IsOperatedText head.first × IsOperatedText head.last
           × IsOperatedText (step_expr head.step))
-          → IsGivenHead own_setup.known head → IsProperForm tested (For head body)
+          → IsGivenHead own_source head → IsProperForm tested (For head body)
           → IsRankedForm tested (For head body) → IsServedHeadBy OperatedValue head w tested
       head_suits at prefixes head body (InStmt sites) t given p r =
           let Sited = IsHere program text around in
@@ -418,7 +433,7 @@ module _ (program : Program) (settings : List Setting) (laws : Laws program)
       -- the test of a `while` or a `repeat`
       while_suits : (at : ℕ) (prefixes : List Prefix) (test : Expr) (body : Stmts)
           → Inside program text around test_reach at prefixes (While test body) → IsOperatedText test
-          → AreGivenSources own_setup.known test → IsProperScalar tested TestRole test
+          → AreGivenSources own_source test → IsProperScalar tested TestRole test
           → IsRanked tested TestRole test → OperatedValue test w tested
       while_suits at prefixes test body (InStmt sites) t given p r =
           test_suits test t given p r
@@ -427,7 +442,7 @@ module _ (program : Program) (settings : List Setting) (laws : Laws program)
 
       repeat_suits : (at : ℕ) (prefixes : List Prefix) (body : Stmts) (until : ℕ) (test : Expr)
           → Inside program text around test_reach at prefixes (Repeat body until test)
-          → IsOperatedText test → AreGivenSources own_setup.known test
+          → IsOperatedText test → AreGivenSources own_source test
           → IsProperScalar tested TestRole test → IsRanked tested TestRole test
           → OperatedValue test w tested
       repeat_suits at prefixes body until test (InStmt sites) t given p r =
@@ -466,7 +481,7 @@ module _ (program : Program) (settings : List Setting) (laws : Laws program)
             → Here w shapes → IsSeenFrom spots w environment currents
             → IsBoundedAt (place_of w environment answer currents edge)
             → IsShownStmt Text (reach_of (place_of w environment answer currents edge)) stmt
-            → IsGivenStmt own_setup.known stmt
+            → IsGivenStmt own_source stmt
             → SuitsStmtBy IsUnder OperatedValue OperatedValue Leaf stmt w (place_of w environment answer currents edge)
         stmt_suits (Prefixed at prefixes form) spots w environment answer currents edge shapes here
             visited known seen bounded text given =
@@ -482,7 +497,7 @@ module _ (program : Program) (settings : List Setting) (laws : Laws program)
             (shapes : Shapes)
             → IsPlaced at prefixes form spots w environment answer currents edge shapes
             → IsShownForm Text (reach_of (place_of w environment answer currents edge)) form
-            → IsGivenForm own_setup.known form
+            → IsGivenForm own_source form
             → SuitsFormBy IsUnder OperatedValue OperatedValue Leaf at form w (place_of w environment answer currents edge)
         form_suits (Assign name op value) at prefixes spots w environment answer currents edge shapes h
             text given =
@@ -608,7 +623,7 @@ module _ (program : Program) (settings : List Setting) (laws : Laws program)
             → Here w shapes → IsSeenFrom spots w environment currents
             → IsBoundedAt (place_of w environment answer currents edge)
             → AreShown Text (reach_of (place_of w environment answer currents edge)) stmts
-            → AreGivenStmts own_setup.known stmts
+            → AreGivenStmts own_source stmts
             → SuitAllBy IsUnder OperatedValue OperatedValue Leaf stmts w (place_of w environment answer currents edge)
         all_suit NoStmt spots w environment answer currents edge shapes parts known seen bounded text given =
             tt
@@ -635,7 +650,7 @@ module _ (program : Program) (settings : List Setting) (laws : Laws program)
             → Here w shapes → IsSeenFrom spots w environment currents
             → IsBoundedAt (place_of w environment answer currents edge)
             → AreShownArms Text (reach_of (place_of w environment answer currents edge)) arms
-            → AreGivenArms own_setup.known arms
+            → AreGivenArms own_source arms
             → SuitArmsBy IsUnder OperatedValue OperatedValue Leaf arms w (place_of w environment answer currents edge)
         arms_suit NoArm own_text around shattered result within spots w environment answer currents edge
             shapes parts tests ranks sites known seen bounded text given = tt
@@ -670,7 +685,7 @@ module _ (program : Program) (settings : List Setting) (laws : Laws program)
             → Here w shapes → IsSeenFrom spots w environment currents
             → IsBoundedAt (place_of w environment answer currents edge)
             → IsShownElse Text (reach_of (place_of w environment answer currents edge)) otherwise
-            → IsGivenElse own_setup.known otherwise
+            → IsGivenElse own_source otherwise
             → SuitsElseBy IsUnder OperatedValue OperatedValue Leaf otherwise w (place_of w environment answer currents edge)
         else_suits NoElse spots w environment answer currents edge shapes parts known seen bounded text
             given = tt

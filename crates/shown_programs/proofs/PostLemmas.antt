@@ -1,5 +1,6 @@
--- With accepted settings, the vectors that stand in the brackets of statements have no fault.
-use Rattle.std.proofs.Common.{◌⊎◌, inl, inr, ℕ, ℤ, List, [], ◌∷◌, ◌++◌, map, Option, Some, None, option_to_list}
+-- With accepted settings, the vectors that stand in the brackets of statements have no fault; and
+-- what wraps round in the body of a procedure, and what is called there, stands in its text.
+use Rattle.std.proofs.Common.{◌≡◌, ◌⊎◌, inl, inr, ℕ, ℤ, List, [], ◌∷◌, ◌++◌, map, Option, Some, None, option_to_list}
 use Rattle.std.specs.Prelude.{Contains}
 use Rattle.std.specs.List.{flat_map}
 use Rattle.zpl_nums.specs.declared.operators.Op.{Op}
@@ -7,8 +8,12 @@ use Rattle.zpl_tree.specs.Syntax.{Name, Base, Inner, Rexpr, Dims, Expr, Number, 
 use Rattle.zpl_names.specs.Kinds.{Rank}
 use Rattle.zpl_names.specs.Ranks.{inner_rank, mask_rank, own_rank}
 use Rattle.zpl_names.specs.Shapes.{unknown_shapes}
-use Rattle.zpl_names.specs.Declared.{Routine, scope_of}
-use Rattle.zpl_names.specs.Sites.{Reach, Role, Site, AtMask, AtStmt, Actual, Assigned, Limit, Operand, Printed, Result, Test as TestRole, actuals_sites, expr_sites, exprs_sites, item_sites, over_source, value_sites, whole_rank, in_body, inside, region_sites, prefix_sites, prefixes_sites, under_prefix, under_prefixes, whole_sites, step_sites, test_rank, arms_rank, stmt_sites, stmts_sites, form_sites, arms_sites, arm_sites, otherwise_sites, body_sites, outermost_sites, routine_sites}
+use Rattle.zpl_names.specs.Declared.{Routine, routine_named, routines_of, scope_of}
+use Rattle.zpl_names.specs.Scope.{kind_of}
+use Rattle.zpl_names.specs.Accepted.{IsFaultless}
+use Rattle.zpl_names.proofs.ListLemmas.{Among, among_from_Contains}
+use Rattle.zpl_names.proofs.FaultlessLemmas.{clean-routine}
+use Rattle.zpl_names.specs.Sites.{AsStatement, AtCall, CallRole, Elsewhere, call_place, Reach, Role, Site, AtMask, AtStmt, Actual, Assigned, Limit, Operand, Printed, Result, Test as TestRole, actuals_sites, expr_sites, exprs_sites, item_sites, over_source, value_sites, whole_rank, in_body, inside, region_sites, prefix_sites, prefixes_sites, under_prefix, under_prefixes, whole_sites, step_sites, test_rank, arms_rank, stmt_sites, stmts_sites, form_sites, arms_sites, arm_sites, otherwise_sites, body_sites, outermost_sites, routine_sites}
 use Rattle.zpl_binding.specs.Bound.{vectors_in}
 use Rattle.zpl_binding.specs.Outcome.{outcome_of}
 use Rattle.zpl_binding.specs.Regions.{Known}
@@ -17,18 +22,24 @@ use Rattle.zpl_meaning.specs.Given as mean
 use Rattle.zpl_meaning.proofs.DepthLemmas.{Each, each_left, each_right, each_from}
 use Rattle.meaning_runs.specs.Computed.{HasVectors, IsComputedAt}
 use Rattle.prefix_runs.specs.Opens.{AreGivenPosts}
+use Rattle.lowering_fits.proofs.MadeCallLemmas.{IsGood}
+use Rattle.lowered_flat.proofs.ToldLemmas.{call_there, read_there}
 use Rattle.shown_programs.proofs.KnownLemmas.{given_is}
 use Rattle.zpl_meaning.specs.Statement.{step_expr}
-use Rattle.shown_programs.proofs.SourceLemmas.{AllGivenSources, AreGivenInner, AreGivenItems, AreGivenSources}
+use Rattle.shown_programs.proofs.SourceLemmas.{AllGivenSources, AreGivenInner, AreGivenItems, AreGivenSources, IsCallOf, ProcedureText}
 use Rattle.shown_programs.proofs.PlaceLemmas.{AreGivenPrefixes, IsGivenStmt, AreGivenStmts, IsGivenForm, AreGivenArms, IsGivenElse}
 
-module _ (program : Program) (known : Known)
+module _ (program : Program) (known : Known) (text : List ℕ) (routine : Routine)
+    (named : routine_named program text ≡ Some routine)
     (directions : (text : List ℕ) (default : List ℤ)
     → mean.IsGiven (List ℤ) (outcome_of default known.directions text))
     (vectors : (parts : Exprs) → Contains (vectors_in program) parts
     → mean.IsGiven (List ℤ) (vector_of known.values parts)) where
+  abbrev own : ProcedureText
+  own = record { program = program; known = known; text = text }
+
   abbrev Told : Site → Type 0
-  Told site = IsComputedAt program known site
+  Told site = IsComputedAt program known site × IsGood program routine site
 
   posts_given : (post : Posts) → HasVectors program post → AreGivenPosts known post
   posts_given NoPost h = tt
@@ -42,8 +53,13 @@ module _ (program : Program) (known : Known)
 
   inner_given : (region : Inner) (reach : Reach) (hint : Rank)
       → Each Told (region_sites reach hint region) → AreGivenInner known region
-  inner_given (Rexpr pre base post) reach hint h = posts_given post h.0.2
+  inner_given (Rexpr pre base post) reach hint h = posts_given post h.0.0.2
   inner_given (Dims dims) reach hint h = tt
+
+  call_given : (reach : Reach) (role : CallRole) (name : Name) (actuals : Exprs)
+      → IsGood program routine (AtCall reach role name actuals) → IsCallOf own name actuals
+  call_given reach role name actuals good =
+      (reach.shapes, call_there program text routine named reach role name actuals good)
 
   -- ---- values
 
@@ -51,7 +67,7 @@ module _ (program : Program) (known : Known)
       → Each Told (expr_sites reach (whole_rank reach Actual actual) actual
       ++ actuals_sites reach rest)
       → (Each Told (expr_sites reach (whole_rank reach Actual actual) actual)
-      ⊎ AreGivenSources known actual)
+      ⊎ AreGivenSources own actual)
       × Each Told (actuals_sites reach rest)
   other_given actual rest reach h =
       let own = expr_sites reach (whole_rank reach Actual actual) actual in (
@@ -63,7 +79,7 @@ module _ (program : Program) (known : Known)
   actual_given : (actual : Expr) (rest : Exprs) (reach : Reach)
       → Each Told (actuals_sites reach (ThenExpr actual rest))
       → (Each Told (expr_sites reach (whole_rank reach Actual actual) actual)
-      ⊎ AreGivenSources known actual)
+      ⊎ AreGivenSources own actual)
       × Each Told (actuals_sites reach rest)
   actual_given (Named at name) rest reach h = (inr tt, h.1)
   actual_given (Number at value) rest reach h = other_given (Number at value) rest reach h.1
@@ -91,22 +107,24 @@ module _ (program : Program) (known : Known)
       other_given (Flood at source operand) rest reach h.1
 
   either_given : (sites : List Site) (actual : Expr)
-      → (Each Told sites ⊎ AreGivenSources known actual)
-      → (Each Told sites → AreGivenSources known actual) → AreGivenSources known actual
+      → (Each Told sites ⊎ AreGivenSources own actual)
+      → (Each Told sites → AreGivenSources own actual) → AreGivenSources own actual
   either_given sites actual (inl h) f = f h
   either_given sites actual (inr h) f = h
 
   mutual
     expr_given : (expr : Expr) (reach : Reach) (rank : Rank) → Each Told (expr_sites reach rank expr)
-        → AreGivenSources known expr
+        → AreGivenSources own expr
     expr_given (Number at value) reach rank h = tt
     expr_given (Truth at value) reach rank h = tt
     expr_given (Coord at k) reach rank h = tt
     expr_given (Named at name) reach rank h = tt
     expr_given (Shifted at name shift) reach rank h = tt
-    expr_given (Around at name shift) reach rank h = tt
+    expr_given (Around at name shift) reach rank h =
+        read_there program text routine named reach rank at name shift h.0.1.1
     expr_given (Remap at name indices) reach rank h = indices_given indices reach rank h.1
-    expr_given (Call at name actuals) reach rank h = actuals_given actuals reach h.1
+    expr_given (Call at name actuals) reach rank h =
+        (call_given reach Elsewhere name actuals h.0.1, actuals_given actuals reach h.1)
     expr_given (Paren at inner) reach rank h = expr_given inner reach rank h.1
     expr_given (Neg at operand) reach rank h = expr_given operand reach rank h.1
     expr_given (Not at operand) reach rank h = expr_given operand reach rank h.1
@@ -140,7 +158,7 @@ module _ (program : Program) (known : Known)
         )
 
     indices_given : (indices : Exprs) (reach : Reach) (rank : Rank)
-        → Each Told (exprs_sites reach rank indices) → AllGivenSources known indices
+        → Each Told (exprs_sites reach rank indices) → AllGivenSources own indices
     indices_given NoExpr reach rank h = tt
     indices_given (ThenExpr first rest) reach rank h =
         let one = expr_sites reach rank first in
@@ -150,7 +168,7 @@ module _ (program : Program) (known : Known)
         )
 
     actuals_given : (actuals : Exprs) (reach : Reach) → Each Told (actuals_sites reach actuals)
-        → AllGivenSources known actuals
+        → AllGivenSources own actuals
     actuals_given NoExpr reach h = tt
     actuals_given (ThenExpr first rest) reach h =
         let parts = actual_given first rest reach h in
@@ -160,19 +178,23 @@ module _ (program : Program) (known : Known)
         )
 
   whole_given : (reach : Reach) (role : Role) (expr : Expr) → Each Told (whole_sites reach role expr)
-      → AreGivenSources known expr
+      → AreGivenSources own expr
   whole_given reach role expr h = expr_given expr reach (whole_rank reach role expr) h.1
 
   value_given : (name : Name) (op : Option Op) (value : Expr) (reach : Reach)
-      → Each Told (value_sites reach name op value) → AreGivenSources known value
+      → Each Told (value_sites reach name op value) → AreGivenSources own value
   value_given name (Some op) value reach h = whole_given reach (Assigned name (Some op)) value h
-  value_given name None (Call at callee actuals) reach h = actuals_given actuals reach h.1.1
+  value_given name None (Call at callee actuals) reach h = (
+    call_given reach (call_place (kind_of reach.scope name)) callee actuals h.1.0.1,
+    actuals_given actuals reach h.1.1,
+  )
   value_given name None (Number at value) reach h = tt
   value_given name None (Truth at value) reach h = tt
   value_given name None (Coord at k) reach h = tt
   value_given name None (Named at it) reach h = tt
   value_given name None (Shifted at it shift) reach h = tt
-  value_given name None (Around at it shift) reach h = tt
+  value_given name None (Around at it shift) reach h =
+      whole_given reach (Assigned name None) (Around at it shift) h
   value_given name None (Remap at it indices) reach h =
       whole_given reach (Assigned name None) (Remap at it indices) h
   value_given name None (Paren at inner) reach h =
@@ -193,7 +215,7 @@ module _ (program : Program) (known : Known)
       whole_given reach (Assigned name None) (Flood at source operand) h
 
   items_given : (items : List Item) (reach : Reach) → Each Told (flat_map (item_sites reach) items)
-      → AreGivenItems known items
+      → AreGivenItems own items
   items_given [] reach h = tt
   items_given (Str bytes ∷ items) reach h = items_given items reach h
   items_given (Value value ∷ items) reach h =
@@ -204,7 +226,7 @@ module _ (program : Program) (known : Known)
       )
 
   step_given : (step : Option Expr) (reach : Reach) → Each Told (step_sites reach step)
-      → AreGivenSources known (step_expr step)
+      → AreGivenSources own (step_expr step)
   step_given None reach h = tt
   step_given (Some step) reach h = whole_given reach Limit step h
 
@@ -227,7 +249,7 @@ module _ (program : Program) (known : Known)
 
   mutual
     stmt_given : (stmt : Stmt) (reach : Reach) → Each Told (stmt_sites reach stmt)
-        → IsGivenStmt known stmt
+        → IsGivenStmt own stmt
     stmt_given (Prefixed at prefixes form) reach h =
         let inner = under_prefixes reach prefixes in (
           prefixes_given prefixes reach
@@ -238,7 +260,7 @@ module _ (program : Program) (known : Known)
         )
 
     all_given : (stmts : Stmts) (reach : Reach) → Each Told (stmts_sites reach stmts)
-        → AreGivenStmts known stmts
+        → AreGivenStmts own stmts
     all_given NoStmt reach h = tt
     all_given (ThenStmt first rest) reach h = (
       stmt_given first reach (each_left Told (stmt_sites reach first) (stmts_sites reach rest) h),
@@ -246,9 +268,10 @@ module _ (program : Program) (known : Known)
     )
 
     form_given : (form : Form) (reach : Reach) → Each Told (form_sites reach form)
-        → IsGivenForm known form
+        → IsGivenForm own form
     form_given (Assign name op value) reach h = value_given name op value reach h
-    form_given (Invoke name actuals) reach h = actuals_given actuals reach h.1
+    form_given (Invoke name actuals) reach h =
+        (call_given reach AsStatement name actuals h.0.1, actuals_given actuals reach h.1)
     form_given (Block body) reach h = all_given body (inside reach (Some 0)) h
     form_given (If arms otherwise) reach h =
         let within = inside reach (arms_rank reach arms) in (
@@ -289,7 +312,7 @@ module _ (program : Program) (known : Known)
     form_given (Return value) reach h = whole_given reach (Result reach.result) value h
 
     arms_given : (arms : Arms) (reach within : Reach) → Each Told (arms_sites reach within arms)
-        → AreGivenArms known arms
+        → AreGivenArms own arms
     arms_given NoArm reach within h = tt
     arms_given (ThenArm (Tested at test body) rest) reach within h =
         let own = each_left Told (arm_sites reach within (Tested at test body))
@@ -306,12 +329,12 @@ module _ (program : Program) (known : Known)
         )
 
     else_given : (otherwise : Otherwise) (within : Reach)
-        → Each Told (otherwise_sites within otherwise) → IsGivenElse known otherwise
+        → Each Told (otherwise_sites within otherwise) → IsGivenElse own otherwise
     else_given NoElse within h = tt
     else_given (Else body) within h = all_given body within h
 
   outer_given : (stmts : Stmts) (reach : Reach) (result : Option Base)
-      → Each Told (body_sites reach result stmts) → AreGivenStmts known stmts
+      → Each Told (body_sites reach result stmts) → AreGivenStmts own stmts
   outer_given NoStmt reach result h = tt
   outer_given (ThenStmt last NoStmt) reach result h =
       (stmt_given last (record reach { result = result }) h, tt)
@@ -323,7 +346,7 @@ module _ (program : Program) (known : Known)
   )
 
   outermost_given : (stmt : Stmt) (reach : Reach) (result : Option Base)
-      → Each Told (outermost_sites reach result stmt) → IsGivenStmt known stmt
+      → Each Told (outermost_sites reach result stmt) → IsGivenStmt own stmt
   outermost_given (Prefixed at prefixes (Block body)) reach result h =
       let inner = under_prefixes reach prefixes in (
         prefixes_given prefixes reach
@@ -350,11 +373,15 @@ module _ (program : Program) (known : Known)
   outermost_given (Prefixed at prefixes (Return value)) reach result h =
       stmt_given (Prefixed at prefixes (Return value)) reach h
 
-  pub routine_given : (routine : Routine)
+  pub routine_given : IsFaultless program → Among (routines_of program) routine
       → ((site : Site) → Contains (routine_sites program unknown_shapes routine) site
       → IsComputedAt program known site)
-      → IsGivenStmt known routine.procedure.body
-  routine_given routine sites =
+      → IsGivenStmt own routine.procedure.body
+  routine_given clean member computed =
+      let sites = routine_sites program unknown_shapes routine in
       outermost_given routine.procedure.body (in_body (scope_of program routine) unknown_shapes)
       routine.procedure.result
-      (each_from Told (routine_sites program unknown_shapes routine) sites)
+      (each_from Told sites
+      (λ site there.
+      let m = among_from_Contains sites site there in
+      (computed site there, (clean-routine program clean unknown_shapes routine member site m, m))))

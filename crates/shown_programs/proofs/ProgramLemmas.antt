@@ -7,7 +7,8 @@ use Rattle.zpl_arrays.specs.Array.{Array}
 use Rattle.zpl_tree.specs.Syntax.{Param, Program}
 use Rattle.zpl_tree.specs.Grammar.{IsProgram}
 use Rattle.zpl_names.specs.Declared.{Routine, IsProcedureOf, head_scope, signature_of, formals_of, scope_of, routines_of}
-use Rattle.zpl_names.specs.Reached.{longest_chain}
+use Rattle.zpl_names.specs.Reached.{longest_chain, Itself}
+use Rattle.zpl_names.specs.Expansion.{formal_names}
 use Rattle.zpl_names.specs.Accepted.{IsFaultless}
 use Rattle.zpl_names.specs.Shapes.{no_shapes}
 use Rattle.zpl_names.proofs.ListLemmas.{Among}
@@ -49,6 +50,7 @@ use Rattle.lowering_fits.proofs.KeptLemmas.{AreGivenOf}
 use Rattle.lowering_fits.proofs.GlobalsLemmas.{globals_fit}
 use Rattle.lowering_fits.proofs.ProgramFitLemmas.{AllBoxes, decls_boxed, boxes_kept}
 use Rattle.lowering_fits.proofs.MadeWholeLemmas.{entry_is_bare}
+use Rattle.lowered_flat.proofs.CalledLemmas.{AreGiven}
 use Rattle.shown_programs.specs.Text.{IsRoutine, IsShownCall, IsShownProgram, IsLeafForm}
 use Rattle.shown_programs.proofs.FrameLemmas.{apart_in}
 use Rattle.shown_programs.proofs.CallLemmas.{IsKnownAt}
@@ -155,7 +157,7 @@ module _ (program : Program) (settings : List Setting) (laws : Laws program)
   }
 
   known_there : (routine : Routine) → Among (routines_of program) routine
-      → IsKnownAt program settings laws grammar clean (outside routine) no_shapes
+      → IsKnownAt program settings laws grammar clean program.name.text (outside routine) no_shapes
   known_there routine among = record {
     owned = refl;
     names = λ name place home e. let no : ⊥ = cc in absurd no;
@@ -171,6 +173,10 @@ module _ (program : Program) (settings : List Setting) (laws : Laws program)
       vectors = accepted.vectors routine among;
     };
     given = accepted.given routine among;
+    long = accepted.long routine among;
+    called = Itself program.name.text;
+    homes = λ name place home e. let no : ⊥ = cc in absurd no;
+    copies = λ name shift there place home e. let no : ⊥ = cc in absurd no;
   }
 
   -- what the run is like at its end
@@ -199,6 +205,10 @@ module _ (program : Program) (settings : List Setting) (laws : Laws program)
       subst (λ (ps : List Param). AreGivenOf (low.global_numbers frame)
       (formals_of (head_scope sound.earlier routine.procedure) ps) [])
       (sym (entry_is_bare program clean routine it.named)) tt in
+      let bare : AreGiven program known program.name.text (formal_names routine.procedure.params)
+      [] =
+      subst (λ (ps : List Param). AreGiven program known program.name.text (formal_names ps) [])
+      (sym (entry_is_bare program clean routine it.named)) tt in
       let leaves = leaves_go program settings laws grammar clean tables n accepted.proper accepted.ranked
       in
       let begins = like routine now begun in
@@ -219,19 +229,19 @@ module _ (program : Program) (settings : List Setting) (laws : Laws program)
       (calls_go program settings laws grammar clean tables n accepted
       (Leaf program settings laws grammar clean) IsLeafForm leaves depth)
       routine among false spots w next now program.name.text [] 0 0 0 no_shapes
-      (known_there routine among) (signature_of sound.earlier routine.procedure) of givens
-      (stands routine) now begun.sound.filled.slots (λ k lt. refl) begins.held
-      (IsLike tables spots w next now)
+      it.named (Itself program.name.text) program.name.text (known_there routine among)
+      (signature_of sound.earlier routine.procedure) of givens (stands routine) now
+      begun.sound.filled.slots (λ k lt. refl) begins.held (IsLike tables spots w next now)
       (body_goes program settings laws grammar clean tables n accepted
       (Leaf program settings laws grammar clean) IsLeafForm leaves depth
       (IsShownCall IsLeafForm program depth)
       (calls_go program settings laws grammar clean tables n accepted
       (Leaf program settings laws grammar clean) IsLeafForm leaves depth)
       routine among false spots w next now program.name.text [] 0 0 0 no_shapes
-      (known_there routine among) (signature_of sound.earlier routine.procedure) of givens
-      (stands routine) now begun.sound.filled.slots (λ k lt. refl) begins.held it.shown)
-      next (itself next)
-      (omega arith) tt (λ k le. begun.zeros k)
+      it.named (Itself program.name.text) program.name.text (known_there routine among)
+      (signature_of sound.earlier routine.procedure) of givens (stands routine) now
+      begun.sound.filled.slots (λ k lt. refl) begins.held it.shown) next (itself next)
+      (omega arith) bare tt (λ k le. begun.zeros k)
       (λ k row le e kept. ap (λ (xs : List Array). slice_get xs k) begun.stores
       ∙ start_array tables k row e kept) room frame.store begins
       (record {

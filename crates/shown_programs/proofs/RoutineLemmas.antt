@@ -11,10 +11,11 @@ use Rattle.zpl_names.specs.Kinds.{Signature}
 use Rattle.zpl_names.specs.Scope.{Entry}
 use Rattle.zpl_names.specs.Shapes.{Shapes, variable_kind}
 use Rattle.zpl_names.specs.Sites.{Reach}
-use Rattle.zpl_names.specs.Declared.{Routine, IsProcedureOf, head_scope, entry_for, own_entries, routines_of, scope_of}
+use Rattle.zpl_names.specs.Declared.{Routine, IsProcedureOf, routine_named, head_scope, entry_for, own_entries, routines_of, scope_of}
 use Rattle.zpl_names.specs.Expansion.{FormalName, formal_names}
 use Rattle.zpl_names.specs.Accepted.{IsFaultless}
 use Rattle.zpl_names.proofs.ListLemmas.{Among}
+use Rattle.zpl_binding.specs.Formals as formals
 use Rattle.zpl_binding.specs.Settings.{Setting}
 use Rattle.zpl_meaning.specs.Store.{Thing, Names, Environment, Store, cut_back, with_scalar}
 use Rattle.zpl_meaning.specs.Context.{Currents, Edge, Setup, Place, reach_of}
@@ -49,7 +50,7 @@ use Rattle.lowering_runs.specs.Goes.{World, TestsGo}
 use Rattle.lowering_runs.specs.Called.{calling_at, called_at, world_at}
 use Rattle.lowering_runs.proofs.AgreeLemmas.{stored_agrees}
 use Rattle.lowering_runs.proofs.ControlLemmas.{}
-use Rattle.lowering_runs.proofs.FitLemmas.{all_taken_on, currents_kept, keeps_all, held_on}
+use Rattle.lowering_runs.proofs.FitLemmas.{all_taken_on, currents_kept, keeps_all, held_on, room_inside}
 use Rattle.lowering_runs.proofs.FrameLemmas.{map_append, numbered_append, names_below, known_both, known_more, misses_more}
 use Rattle.lowering_runs.proofs.NumberLemmas.{rises_on}
 use Rattle.lowering_runs.proofs.SuitLemmas.{LeafGoes}
@@ -69,18 +70,26 @@ use Rattle.zpl_tree.specs.Syntax.{Dir}
 use Rattle.zpl_meaning.specs.Regions.{vector_in}
 use Rattle.lowering_fits.specs.Storages.{IsStorage, AllKept}
 use Rattle.lowering_fits.specs.Declarations.{FitAllDeclared}
-use Rattle.lowering_fits.specs.Whole.{FitsVars, AllVars, given_frames, local_frame, name_frames, local_frames}
+use Rattle.lowering_fits.specs.Whole.{FitsVars, AllVars, body_frames, given_frames, local_frame, name_frames, local_frames}
 use Rattle.lowering_fits.proofs.KeptLemmas.{grows_none, HasKept, AreGivenOf, Nothing, formals_kept, locals_kept}
 use Rattle.lowering_fits.proofs.ReachLemmas.{names_fit, scalars_few}
 use Rattle.lowering_fits.proofs.CallsFitLemmas.{globals_grow}
 use Rattle.lowering_fits.proofs.ProgramFitLemmas.{vars_fit}
+use Rattle.zpl_region.specs.declared.regions.Region.{Region}
+use Rattle.zpl_region.specs.Tests.{is_within_limit}
+use Rattle.zpl_arrays.specs.Around.{copy_storage}
+use Rattle.lowered_flat.proofs.CalledLemmas.{AreGiven}
+use Rattle.lowered_flat.proofs.HomeLemmas.{IsToldHome}
+use Rattle.lowered_flat.proofs.ToldLemmas.{AreTold}
+use Rattle.shown_programs.proofs.SourceLemmas.{IsReadOf}
 use Rattle.shown_programs.specs.Text.{IsShownRoutine, IsRoutine, IsShownCall}
 use Rattle.shown_programs.proofs.AnswerLemmas.{with_answer, answer_given, answer_like, answer_numbered, answer_stands, answer_store, answering_suits, plain_like}
 use Rattle.shown_programs.proofs.FrameLemmas.{Framing, apart_in, arrays_more, cut_seen, longer_spots}
 use Rattle.shown_programs.proofs.GivenLemmas.{MayTake, givens_go}
 use Rattle.shown_programs.proofs.LocalLemmas.{AreFresh, AreFreshArrays, GoesOn, locals_go}
 use Rattle.shown_programs.proofs.KnownLemmas.{arrays_told, kept_at, mask_grown}
-use Rattle.shown_programs.proofs.CallLemmas.{setup, AreCalls, IsCalledBy, IsEntered, IsKnownAt}
+use Rattle.shown_programs.proofs.CountLemmas.{body_counted}
+use Rattle.shown_programs.proofs.CallLemmas.{setup, text_of, AreCalls, IsCalledBy, IsEntered, IsKnownAt}
 use Rattle.shown_programs.proofs.PlaceLemmas.{IsPlaced, IsGivenStmt, stmt_suits}
 
 -- ---- tests
@@ -169,22 +178,35 @@ module _ (program : Program) (settings : List Setting) (laws : Laws program)
         → KnowsGiven own.known (scope_of program routine)
     pub vectors : (routine : Routine) → Among (routines_of program) routine → (rank : ℕ) (dir : Dir)
         → dir_rank (scope_of program routine) dir ≡ Some rank → IsShift rank (vector_in own.known dir)
+    pub long : (routine : Routine) → Among (routines_of program) routine → (rank : ℕ) (dir : Dir)
+        → dir_rank (scope_of program routine) dir ≡ Some rank
+        → length (vector_in own.known dir) ≡ 3
     pub declared : (routine : Routine) → Among (routines_of program) routine
         → (earlier : List Entry) → routine.own ≡ own_entries earlier routine.procedure
         → FitAllDeclared own (head_scope earlier routine.procedure) routine.procedure.locals
-    pub posts : (routine : Routine) → Among (routines_of program) routine
-        → IsGivenStmt own.known routine.procedure.body
+    pub posts : (text : List ℕ) (routine : Routine) → routine_named program text ≡ Some routine
+        → IsGivenStmt (text_of program settings laws grammar clean text) routine.procedure.body
+    pub homes : (text : List ℕ) (routine : Routine) → routine_named program text ≡ Some routine
+        → (entry : CallEntry) (calling : Calling) (next : Next)
+        → AreGiven program own.known text (formal_names routine.procedure.params) calling.actuals
+        → (let last = (body_frames own entry routine calling next).frame in
+        AreTold program own.known text (record { names = last.names ++ own.globals }))
+    -- the copies of reads that wrap round
+    pub copies : (text : List ℕ) → formals.IsCalled program text → (name : Name) (shift : Dir)
+        (home : Region) → IsReadOf (text_of program settings laws grammar clean text) name shift
+        → IsToldHome program own.known text name.text home
+        → is_within_limit (copy_storage home (vector_in own.known shift)) ≡ true
 
   -- Forms that have no statements in them: what is asked of them by the text, what is asked of them
   -- where they are run, and that their code goes as they do, where what is called does.
   pub record AreLeaves (tables : Tables) (n : ℕ)
       (Leaf : (Bool → List ℕ → Type 0) → ℕ → Form → Where → Place → Type 0)
       (Text : (Bool → List ℕ → Type 0) → Reach → Form → Type 0) : Type 1 where
-    pub suits : (IsCallable : Bool → List ℕ → Type 0) (at : ℕ) (prefixes : List Prefix) (form : Form)
-        (spots : List Spot) (w : Where) (environment : Environment) (answer : ℕ)
-        (currents : Currents) (edge : Option Edge) (shapes : Shapes)
-        → IsPlaced program settings laws grammar clean at prefixes form spots w environment answer
-        currents edge shapes
+    pub suits : (text : List ℕ) (IsCallable : Bool → List ℕ → Type 0) (at : ℕ)
+        (prefixes : List Prefix) (form : Form) (spots : List Spot) (w : Where)
+        (environment : Environment) (answer : ℕ) (currents : Currents) (edge : Option Edge)
+        (shapes : Shapes) → IsPlaced program settings laws grammar clean text at prefixes form spots
+        w environment answer currents edge shapes
         → Text IsCallable (reach_of (place_of w environment answer currents edge)) form
         → Leaf IsCallable at form w (place_of w environment answer currents edge)
     pub go : (depth : ℕ) (IsCallable : Bool → List ℕ → Type 0)
@@ -203,7 +225,9 @@ module _ (program : Program) (settings : List Setting) (laws : Laws program)
           (routine : Routine) (among : Among (routines_of program) routine)
           (clears : Bool) (spots : List Spot) (w : Where) (low_next : Next) (start : Whole)
           (name : List ℕ) (givens : List Given) (answer target line : ℕ) (shapes : Shapes)
-          (inside : IsKnownAt program settings laws grammar clean w shapes)
+          (named : routine_named program name ≡ Some routine)
+          (comes : formals.IsCalled program name) (caller : List ℕ)
+          (inside : IsKnownAt program settings laws grammar clean caller w shapes)
           (signature : Signature) (of : IsProcedureOf signature routine)
           (givens_are : AreGivenOf w.numbers signature.formals givens)
           (stands : Stands spots w low_next) (now : Whole)
@@ -250,10 +274,12 @@ module _ (program : Program) (settings : List Setting) (laws : Laws program)
         pub record IsFramed (framed : Framed) (next : Next) : Type 0 where
           pub has : HasKept w.numbers routine.own framed
           pub kept : AllKept framed.numbers.arrays
+          pub homes : AreTold program own.known name
+              (record { names = framed.names ++ own.globals })
 
         known_inside : (framed : Framed) (next : Next) → IsFramed framed next
-            → IsKnownAt program settings laws grammar clean (low.where_in own routine calling framed)
-            shapes
+            → IsKnownAt program settings laws grammar clean name
+            (low.where_in own routine calling framed) shapes
         known_inside framed next f =
             let w' = low.where_in own routine calling framed in
             let globals = globals_grow program w.numbers framed.numbers f.has.grows own.globals
@@ -276,6 +302,12 @@ module _ (program : Program) (settings : List Setting) (laws : Laws program)
                 vectors = accepted.vectors routine among;
               };
               given = accepted.given routine among;
+              long = accepted.long routine among;
+              called = comes;
+              homes = f.homes;
+              copies = λ read shift there place home is.
+                  accepted.copies name comes read shift home there
+                  (f.homes read.text place home is);
             }
 
         abbrev Entered : (Store → Whole → Type 0) → Type 0
@@ -301,7 +333,7 @@ module _ (program : Program) (settings : List Setting) (laws : Laws program)
           there : Stands here (inner framed) next
           entered_is : IsEntered program settings laws grammar clean shapes
               (body_place framed here mid) routine.procedure.body
-          known : IsKnownAt program settings laws grammar clean (inner framed) shapes
+          known : IsKnownAt program settings laws grammar clean name (inner framed) shapes
           like : IsLike tables here (inner framed) next mid
               (seen_store here framed.numbers.arrays mid) mid
 
@@ -441,12 +473,12 @@ module _ (program : Program) (settings : List Setting) (laws : Laws program)
             suited_agrees_by (world depth) OperatedValue OperatedValue (Leaf IsCallable)
             (operated_tests (world depth)) (operated_values (world depth)) (leaves.go depth IsCallable calls)
             routine.procedure.body (sight here) (inner framed) next mid at.there
-            (stmt_suits program settings laws grammar clean accepted.proper accepted.ranked
-            (Leaf IsCallable) (Text IsCallable) (leaves.suits IsCallable) routine.procedure.body here
-            (inner framed) (body_place framed here mid).environment answer
-            (seen_currents mid w.currents) None shapes at.entered_is.here at.entered_is.visited at.known
-            (begins_seen here (inner framed) mid answer) at.entered_is.bounded shown
-            (accepted.posts routine among))
+            (stmt_suits program settings laws grammar clean name accepted.proper accepted.ranked
+            (Leaf IsCallable) (Text IsCallable) (leaves.suits name IsCallable)
+            routine.procedure.body here (inner framed) (body_place framed here mid).environment
+            answer (seen_currents mid w.currents) None shapes at.entered_is.here
+            at.entered_is.visited at.known (begins_seen here (inner framed) mid answer)
+            at.entered_is.bounded shown (accepted.posts name routine named))
             room (seen_store here framed.numbers.arrays mid) mid at.like) like_outside
 
         -- a body that ends in a `return`, where a new scalar takes the answer
@@ -462,12 +494,12 @@ module _ (program : Program) (settings : List Setting) (laws : Laws program)
             (suited_agrees_by (world depth) OperatedValue OperatedValue (Leaf IsCallable)
             (operated_tests (world depth)) (operated_values (world depth)) (leaves.go depth IsCallable calls))
             routine.procedure.body (sight here) (inner framed) next mid at.there
-            (answering_suits program settings laws grammar clean accepted.proper accepted.ranked
-            (Leaf IsCallable) (Text IsCallable) (leaves.suits IsCallable) routine.procedure.body here
-            (inner framed) (body_place framed here mid).environment answer
-            (seen_currents mid w.currents) None shapes at.entered_is.here at.entered_is.visited at.known
-            (begins_seen here (inner framed) mid answer) at.entered_is.bounded shown
-            (accepted.posts routine among))
+            (answering_suits program settings laws grammar clean name accepted.proper
+            accepted.ranked (Leaf IsCallable) (Text IsCallable) (leaves.suits name IsCallable)
+            routine.procedure.body here (inner framed) (body_place framed here mid).environment
+            answer (seen_currents mid w.currents) None shapes at.entered_is.here
+            at.entered_is.visited at.known (begins_seen here (inner framed) mid answer)
+            at.entered_is.bounded shown (accepted.posts name routine named))
             room (seen_store here framed.numbers.arrays mid) mid at.like)
             (λ framed here next mid f before kept s v h. record {
               before = seen_store base arrays h.mid;
@@ -501,6 +533,7 @@ module _ (program : Program) (settings : List Setting) (laws : Laws program)
         pub routine_agrees : (IsAlike : Store → Whole → Type 0) → Entered IsAlike → (next : Next)
             → IsBefore low_next next
             → AllGiven (length (numbered spots)) arrays low_next.scalars givens next.scalars
+            → AreGiven program own.known name (formal_names routine.procedure.params) givens
             → MayTake clears givens → AreFresh clears next.scalars now
             → AreFreshArrays tables clears next.arrays now
             → HasRoom tables next
@@ -511,7 +544,7 @@ module _ (program : Program) (settings : List Setting) (laws : Laws program)
             (run_routine own n (call_at own n depth) (Some routine) called store)
             (does tables n
             (low.routine_code own clears (low.call_code own depth) (Some routine) calling next).code now)
-        routine_agrees IsAlike body next before given may fresh clear room store like reached =
+        routine_agrees IsAlike goes next before given told may fresh clear room store like reached =
             let params = routine.procedure.params in
             let formals = formal_names params in
             let locals = routine.procedure.locals in
@@ -519,6 +552,13 @@ module _ (program : Program) (settings : List Setting) (laws : Laws program)
             let inner = low.in_call (low.reads_round own.program routine) next in
             let code = low.routine_code own clears (low.call_code own depth) (Some routine) calling
             next in
+            let body = low.body_code own entry (low.call_code own depth) routine calling inner in
+            let counted : length body.copies ≡ low.reads_round program routine =
+            body_counted program settings grammar clean
+            (λ place stmt visited. (
+              accepted.proper place stmt visited,
+              accepted.ranked place stmt visited,
+            )) depth entry routine among spots now calling inner called store reached.visited in
             let scope = head_scope of.earlier routine.procedure in
             let first = given_frames line formals givens empty inner in
             let fits = vars_fit own scope locals (accepted.declared routine among of.earlier of.own) in
@@ -540,9 +580,10 @@ module _ (program : Program) (settings : List Setting) (laws : Laws program)
               kept = vars_kept own entry locals first.frame first.next fits
                   (given_kept line formals givens empty inner (length (numbered spots)) arrays
                   low_next.scalars next.scalars given inside.kept inside.kept);
+              homes = accepted.homes name routine named entry calling inner told;
             } in
             let all = locals_go tables n own entry spots low_next arrays start IsAlike 0 locals IsFramed
-            IsReached run rest fits body in
+            IsReached run rest fits goes in
             subst (λ (s : Store). IsReached (entered own routine called.actuals s)
             → Agrees IsAlike n 0 (run_routine own n (call_at own n depth) (Some routine) called s)
             (does tables n code.code now)) (sym like.seen)
@@ -573,7 +614,7 @@ module _ (program : Program) (settings : List Setting) (laws : Laws program)
             framed_is
             (record { scalars = before.scalars; slots = before.slots; arrays = before.arrays })
             like.sound like.kept may fresh clear
-            (record { scalars = room.scalars; slots = room.slots; arrays = room.arrays; temps = room.temps }))
+            (room_inside tables next (low.reads_round program routine) body counted room))
             reached
 
       -- ---- down the chain of calls
@@ -604,13 +645,13 @@ module _ (program : Program) (settings : List Setting) (laws : Laws program)
               now))
               (sym it.named)
               (λ room. routine_agrees depth (MayCall depth) calls it.routine among true spots w bottom
-              start name givens 0 0 line from.shapes from.known from.signature of from.givens_are stands
-              now like.sound.filled.slots like.kept.slots like.held
-              (IsLike tables spots w bottom start)
+              start name givens 0 0 line from.shapes it.named from.comes from.caller from.known
+              from.signature of from.givens_are stands now like.sound.filled.slots like.kept.slots
+              like.held (IsLike tables spots w bottom start)
               (body_goes depth (MayCall depth) calls it.routine among true spots w bottom start name
-              givens 0 0 line from.shapes from.known from.signature of from.givens_are stands now
-              like.sound.filled.slots like.kept.slots like.held it.shown)
-              next before given tt tt tt room store like
+              givens 0 0 line from.shapes it.named from.comes from.caller from.known from.signature
+              of from.givens_are stands now like.sound.filled.slots like.kept.slots like.held
+              it.shown) next before given (from.homes it.routine it.named) tt tt tt room store like
               (from.entered it.routine store it.named)) room;
         }
 
@@ -645,15 +686,15 @@ module _ (program : Program) (settings : List Setting) (laws : Laws program)
               now))
               (sym it.named)
               (λ room. routine_agrees depth (MayCall depth) calls it.routine among true spots w bottom
-              start name givens answer target line from.shapes from.known from.signature of
-              from.givens_are longer now like.sound.filled.slots like.kept.slots like.held Ended
-              (body_answers depth (MayCall depth) calls it.routine among true spots w bottom start name
-              givens answer target line from.shapes from.known from.signature of from.givens_are longer
-              now like.sound.filled.slots like.kept.slots like.held it.shown base refl refl)
-              next before
+              start name givens answer target line from.shapes it.named from.comes from.caller
+              from.known from.signature of from.givens_are longer now like.sound.filled.slots
+              like.kept.slots like.held Ended (body_answers depth (MayCall depth) calls it.routine
+              among true spots w bottom start name givens answer target line from.shapes it.named
+              from.comes from.caller from.known from.signature of from.givens_are longer now
+              like.sound.filled.slots like.kept.slots like.held it.shown base refl refl) next before
               (subst (λ (ks : List ℕ). AllGiven (length ks) w.numbers.arrays bottom.scalars givens
               next.scalars) (sym numbers) given)
-              tt tt tt room begun alike
+              (from.homes it.routine it.named) tt tt tt room begun alike
               (subst (λ (c : Called). IsEntered program settings laws grammar clean from.shapes
               (place_in own it.routine c (entered own it.routine c.actuals begun))
               it.routine.procedure.body) (sym same) (from.entered it.routine begun it.named))) room);

@@ -59,7 +59,7 @@ plain_sites reach name None (Flood at source operand) h = refl
 plain_sites reach name None (Call at it actuals) h = absurd h
 
 module _ (program : Program) (settings : List Setting) (laws : Laws program)
-    (grammar : IsProgram program) (clean : IsFaultless program) where
+    (grammar : IsProgram program) (clean : IsFaultless program) (own_text : List ℕ) where
   abbrev own : Setup
   own = setup program settings laws grammar clean
 
@@ -260,8 +260,8 @@ module _ (program : Program) (settings : List Setting) (laws : Laws program)
 
     abbrev Placed : Form → Type 0
     Placed form =
-        IsPlaced program settings laws grammar clean at prefixes form spots w environment answer
-        currents edge shapes
+        IsPlaced program settings laws grammar clean own_text at prefixes form spots w environment
+        answer currents edge shapes
 
     split_suits : (form : Form) (h : Placed form) → is_shattered (reach_of place) form ≡ true
         → Every IsPlainPart (form_parts form) → IsRankedTested true place form → IsProperTested true place form
@@ -308,10 +308,10 @@ module _ (program : Program) (settings : List Setting) (laws : Laws program)
     if_suits arms otherwise h t plain (InStmt sites) =
         let form = If arms otherwise in
         placed_split form h t plain
-        (placed_ranked program settings laws grammar clean proper ranked at prefixes form spots w
-        environment answer currents edge shapes h)
-        (placed_proper program settings laws grammar clean proper ranked at prefixes form spots w
-        environment answer currents edge shapes h) sites
+        (placed_ranked program settings laws grammar clean own_text proper ranked at prefixes form
+        spots w environment answer currents edge shapes h)
+        (placed_proper program settings laws grammar clean own_text proper ranked at prefixes form
+        spots w environment answer currents edge shapes h) sites
 
     while_suits : (test : Expr) (body : Stmts) (h : Placed (While test body))
         → is_shattered (reach_of place) (While test body) ≡ true
@@ -320,10 +320,10 @@ module _ (program : Program) (settings : List Setting) (laws : Laws program)
     while_suits test body h t plain (InStmt sites) =
         let form = While test body in
         placed_split form h t plain
-        (placed_ranked program settings laws grammar clean proper ranked at prefixes form spots w
-        environment answer currents edge shapes h)
-        (placed_proper program settings laws grammar clean proper ranked at prefixes form spots w
-        environment answer currents edge shapes h) sites
+        (placed_ranked program settings laws grammar clean own_text proper ranked at prefixes form
+        spots w environment answer currents edge shapes h)
+        (placed_proper program settings laws grammar clean own_text proper ranked at prefixes form
+        spots w environment answer currents edge shapes h) sites
 
     repeat_suits : (body : Stmts) (until : ℕ) (test : Expr) (h : Placed (Repeat body until test))
         → is_shattered (reach_of place) (Repeat body until test) ≡ true
@@ -331,15 +331,15 @@ module _ (program : Program) (settings : List Setting) (laws : Laws program)
     repeat_suits body until test h t plain (InStmt sites) =
         let form = Repeat body until test in
         placed_split form h t plain
-        (placed_ranked program settings laws grammar clean proper ranked at prefixes form spots w
-        environment answer currents edge shapes h)
-        (placed_proper program settings laws grammar clean proper ranked at prefixes form spots w
-        environment answer currents edge shapes h) sites
+        (placed_ranked program settings laws grammar clean own_text proper ranked at prefixes form
+        spots w environment answer currents edge shapes h)
+        (placed_proper program settings laws grammar clean own_text proper ranked at prefixes form
+        spots w environment answer currents edge shapes h) sites
 
     sited : (form : Form) (h : Placed form) → Sited form h
     sited form h =
-        placed_inside program settings laws grammar clean proper ranked at prefixes form spots w
-        environment answer currents edge shapes h
+        placed_inside program settings laws grammar clean own_text proper ranked at prefixes form
+        spots w environment answer currents edge shapes h
 
     pub shattered_suits : (form : Form) → Placed form
         → is_shattered (reach_of place) form ≡ true → Every IsPlainPart (form_parts form)

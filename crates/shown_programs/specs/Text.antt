@@ -41,8 +41,8 @@ behind_prefixes reach (prefix ∷ rest) = behind_prefixes (behind_prefix reach p
 
 -- ---- values with operators over regions
 
--- A value with full and partial folds, scans, floods and remap reads, also in one another's operands.
--- Numbers are of 64 bits, also in brackets.
+-- A value with full and partial folds, scans, floods and remap reads, also in one another's
+-- operands, and reads that wrap round. Numbers are of 64 bits, also in brackets.
 abbrev mutual
   pub IsOperatedText : Expr → Type 0
   IsOperatedText (Number at value) = IsInteger value
@@ -61,7 +61,7 @@ abbrev mutual
   IsOperatedText (Flood at source operand) = HasSmallInner source × IsOperatedText operand
   IsOperatedText (Scan at operator along operand) = IsOperatedText operand
   IsOperatedText (Remap at name indices) = AreOperatedIndices indices
-  IsOperatedText (Around at name shift) = ⊥
+  IsOperatedText (Around at name shift) = Unit {0}
   IsOperatedText (Call at name actuals) = ⊥
 
   pub AreOperatedIndices : Exprs → Type 0

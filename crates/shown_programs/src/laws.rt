@@ -15,6 +15,7 @@ ghost use Rattle.zpl_meaning.specs.Regions.{vector_in};
 ghost use Rattle.row_runs.specs.Run.{Wrong};
 ghost use Rattle.flat_form.specs.Act.{flat_run};
 ghost use Rattle.zpl_lowering.specs.Tables.{flat_tables};
+ghost use Rattle.lowered_flat.specs.Apart.{NamesStandApart};
 ghost use Rattle.lowering_runs.specs.Shown.{Shows};
 ghost use Rattle.array_runs.specs.Reads.{IsShift};
 ghost use Rattle.served_places.specs.Given.{KnowsGiven};
@@ -29,6 +30,7 @@ use zpl_names::{
     declared_ranks_are_at_most_three, faultless_programs_have_faultless_sites,
     faultless_programs_leave_nothing_open, procedures_are_there, ranks_are_at_most_three,
 };
+use zpl_region::tests_tell_the_facts;
 
 /// With accepted settings, what a procedure of a program without faults names was computed before
 /// the run: declared regions are in their slots and have the shapes of their texts, and directions
@@ -52,20 +54,20 @@ pub fn what_is_named_is_given()
     procedures_are_there();
 }
 
-/// The flat program of a program, all of whose statements are of the forms that are proved
-/// (`IsShownProgram`), shows what the program means: with some bound on its jumps, where each loop
-/// that is entered may make n turns, it prints the same bytes and ends in the same way as the
-/// meaning does with n turns. The bound is few times the steps, or more turns are wanted and it is
-/// at least n.
+/// The flat program of a program in which no two arrays' names stand at one offset, and all of
+/// whose statements are of the forms of the language, with numbers of 64 bits (`IsShownProgram`),
+/// shows what the program means: with some bound on its jumps, where each loop that is entered may
+/// make n turns, it prints the same bytes and ends in the same way as the meaning does with n
+/// turns. The bound is few times the steps, or more turns are wanted and it is at least n.
 pub fn array_programs_are_shown()
     ensures shown { (program : Program) (settings : List Setting) → IsProgram program →
-        IsFaultless program → IsAcceptedWith program settings →
+        IsFaultless program → NamesStandApart program → IsAcceptedWith program settings →
         IsShownProgram program settings → (n : ℕ) →
         Shows (λ a. flat_run (flat_tables program settings) a n) n
         (outcome_of program settings n) }
     // It never comes to a row that may not stand there.
     ensures right { (program : Program) (settings : List Setting) → IsProgram program →
-        IsFaultless program → IsAcceptedWith program settings →
+        IsFaultless program → NamesStandApart program → IsAcceptedWith program settings →
         IsShownProgram program settings → (a n : ℕ) →
         (flat_run (flat_tables program settings) a n).stop ≢ Wrong }
 {
@@ -81,4 +83,5 @@ pub fn array_programs_are_shown()
     faultless_programs_have_faultless_sites();
     faultless_programs_leave_nothing_open();
     procedures_are_there();
+    tests_tell_the_facts();
 }

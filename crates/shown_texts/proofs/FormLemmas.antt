@@ -106,7 +106,7 @@ mutual
   operated_shown (Flood at source operand) form small =
       (inner_has source small.0, operated_shown operand form small.1)
   operated_shown (Remap at name indices) form small = indices_shown indices form small
-  operated_shown (Around at name shift) form small = absurd form
+  operated_shown (Around at name shift) form small = tt
   operated_shown (Call at name actuals) form small = absurd form
 
   indices_shown : (indices : Exprs) → HaveOperatedIndices indices → AreSmallExprs indices

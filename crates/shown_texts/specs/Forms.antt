@@ -36,7 +36,7 @@ HasPlainForm (Reduce at operator over operand) = ⊥
 HasPlainForm (Scan at operator along operand) = ⊥
 HasPlainForm (Flood at source operand) = ⊥
 
--- full and partial folds, scans, floods and remap reads, also in one another's operands
+-- any operators over regions, also in one another's operands, reads that wrap round, and no calls
 abbrev mutual
   pub HasOperatedForm : Expr → Type 0
   HasOperatedForm (Number at value) = ⊤
@@ -53,7 +53,7 @@ abbrev mutual
   HasOperatedForm (Scan at operator along operand) = HasOperatedForm operand
   HasOperatedForm (Flood at source operand) = HasOperatedForm operand
   HasOperatedForm (Remap at name indices) = HaveOperatedIndices indices
-  HasOperatedForm (Around at name shift) = ⊥
+  HasOperatedForm (Around at name shift) = ⊤
   HasOperatedForm (Call at name actuals) = ⊥
 
   pub HaveOperatedIndices : Exprs → Type 0

@@ -1,6 +1,6 @@
 use Rattle.zpl_names.specs.Shapes.{unknown_shapes}
 use Rattle.every_form.proofs.CallLemmas.{program_formed}
-use Rattle.every_form.proofs.faultless_programs_have_accepted_forms.Goals as goal
+use Rattle.every_form.proofs.faultless_programs_have_shown_forms.Goals as goal
 
 pub returns : goal.returns
 returns c = λ program faultless. program_formed program faultless
