@@ -152,13 +152,13 @@ no_rows : IsEmpty (piece.Rows [])
 no_rows at = refl
 
 -- the rows of each operator behind its operand
-abbrev part_rows : ℕ → ℕ → Fold → Slotted → Slotted → Expression → List Row
+abbrev pub part_rows : ℕ → ℕ → Fold → Slotted → Slotted → Expression → List Row
 part_rows line from operator over source left =
     kept_rows line from source.slot left None
     ++ row.Plain (instr.Room (suc from) over.slot)
     ∷ row.Plain (instr.Part (suc from) over.slot operator from source.slot) ∷ []
 
-abbrev flood_rows : ℕ → ℕ → Slotted → Slotted → Expression → List Row
+abbrev pub flood_rows : ℕ → ℕ → Slotted → Slotted → Expression → List Row
 flood_rows line from over source left =
     kept_rows line from source.slot left None
     ++ row.Plain (instr.Room (suc from) over.slot)
@@ -173,13 +173,13 @@ sum_rows numbers line scalar temp over storage =
     line ∷ [])
     ∷ row.Plain (instr.Fold scalar fold.Any) ∷ []
 
-abbrev place_rows : Numbers → ℕ → ℕ → ℕ → Slotted → Region → List Expression → List Row
+abbrev pub place_rows : Numbers → ℕ → ℕ → ℕ → Slotted → Region → List Expression → List Row
 place_rows numbers line scalar temp over storage indices =
     rooms over.slot (temps_from temp indices)
     ++ row.Loop over.slot (index_puts line (mask_code numbers over.mask) temp indices)
     ∷ sum_rows numbers line scalar temp over storage
 
-abbrev read_rows : ℕ → Slotted → ℕ → List Expression → List Row
+abbrev pub read_rows : ℕ → Slotted → ℕ → List Expression → List Row
 read_rows temp over array indices =
     row.Plain (instr.Room (temp + length indices) over.slot)
     ∷ row.Plain

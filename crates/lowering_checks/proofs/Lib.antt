@@ -11,6 +11,14 @@ pub mod FormLemmas
 pub mod BodyLemmas
 pub mod CallLemmas
 pub mod WholeLemmas
+pub mod AlikeLemmas
+pub mod AlikeHoistLemmas
+pub mod AlikeCodeLemmas
+pub mod MarkLemmas
+pub mod AlikeFormLemmas
+pub mod AlikeWalkLemmas
+pub mod AlikeCallLemmas
+pub mod AlikeTableLemmas
 pub mod TableLemmas
 pub mod NumberedLemmas
 pub mod FreeLemmas

@@ -12,6 +12,7 @@ ghost use Rattle.flat_form.specs.Row.{Row, all_inlined};
 ghost use Rattle.pass_parts.specs.Checks.{ChecksWhatFollows, StandsWithWhatFollows};
 ghost use Rattle.zpl_lowering.specs.Program.{lowered_program};
 ghost use Rattle.zpl_lowering.specs.Tables.{flat_tables, rows_of};
+ghost use Rattle.lowering_fits.specs.Declarations.{FitsProgram};
 ghost use Rattle.lowering_checks.specs.Prepared.{ArePrepared};
 ghost use Rattle.lowering_checks.specs.Stands.{PutsAlike, ReadsApart};
 ghost use Rattle.lowering_checks.specs.Totals.{AreApart, FirstPuts, NoneAccumulates};
@@ -19,7 +20,10 @@ ghost use Rattle.lowering_checks.specs.Walked.{AreChecked};
 
 use meaning_ranks::ranks_agree;
 use zpl_meaning::{no_stand_in_is_met, what_is_computed_has_a_value};
-use zpl_names::faultless_programs_leave_nothing_open;
+use zpl_names::{
+    declared_ranks_are_at_most_three, faultless_programs_have_faultless_sites,
+    faultless_programs_leave_nothing_open, procedures_are_there, ranks_are_at_most_three,
+};
 
 /// In the rows of a program of the grammar without faults, under settings that it accepts, the
 /// checks that alone stand between two loops over one slot are those of the second one's
@@ -82,4 +86,23 @@ pub fn loops_read_apart()
         ReadsApart (flat_tables program settings) }
 {
     faultless_programs_leave_nothing_open();
+}
+
+/// In the tables of a program of the grammar without faults, under settings that it accepts, where
+/// arrays are declared as the text says, a loop with checks alone between it and one before it over
+/// the same slot puts arrays with the flood dimensions of what that one puts.
+pub fn puts_are_alike()
+    ensures { (program : Program) (settings : List Setting) → IsProgram program →
+        IsFaultless program → IsAcceptedWith program settings → FitsProgram program settings →
+        all_inlined (flat_tables program settings) ≡ rows_of (lowered_program program settings) →
+        PutsAlike (flat_tables program settings) }
+{
+    ranks_agree();
+    no_stand_in_is_met();
+    what_is_computed_has_a_value();
+    ranks_are_at_most_three();
+    declared_ranks_are_at_most_three();
+    faultless_programs_have_faultless_sites();
+    faultless_programs_leave_nothing_open();
+    procedures_are_there();
 }

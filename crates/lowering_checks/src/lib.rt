@@ -8,5 +8,5 @@ mod laws;
 
 pub use laws::{
     all_rows_are_inline, checks_say_what_follows, loops_are_checked, loops_are_prepared,
-    loops_read_apart, loops_stand_where_others_do, totals_stand_apart,
+    loops_read_apart, loops_stand_where_others_do, puts_are_alike, totals_stand_apart,
 };
