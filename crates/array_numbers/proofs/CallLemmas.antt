@@ -137,13 +137,13 @@ module _ (Sound : ℕ → Region → Region → Type 0) where
 
 -- ---- what parameters take
 
-abbrev IsParameter : Formal → Parameter → Type 0
+abbrev pub IsParameter : Formal → Parameter → Type 0
 IsParameter (ScalarFormal by_ref base) one =
     (one.kind ≡ kind.Scalar base) × (one.name.by_ref ≡ by_ref)
 IsParameter (ArrayFormal by_ref base shape) one =
     (one.kind ≡ kind.Array base shape) × (one.name.by_ref ≡ by_ref)
 
-abbrev AreParameters : List Formal → List Parameter → Type 0
+abbrev pub AreParameters : List Formal → List Parameter → Type 0
 AreParameters [] [] = Unit {0}
 AreParameters (formal ∷ formals) (one ∷ rest) = IsParameter formal one × AreParameters formals rest
 AreParameters formals parameters = ⊥
@@ -307,7 +307,7 @@ module _ (Sound : ℕ → Region → Region → Type 0) (program : Program) (cal
   given_one (ArrayFormal by_ref base shape) formals one (Flood at source operand) actuals scalar is taken =
       absurd taken
 
-  are_given : (formals : List Formal) (parameters : List Parameter) (actuals : Exprs)
+  pub are_given : (formals : List Formal) (parameters : List Parameter) (actuals : Exprs)
       (scalar : ℕ) → AreParameters formals parameters → AreTaken program caller formals actuals →
       AreGiven Sound program caller first parameters actuals (given_to w scalar formals actuals)
   are_given [] [] NoExpr scalar are taken = tt
@@ -322,13 +322,13 @@ module _ (Sound : ℕ → Region → Region → Type 0) (program : Program) (cal
 
 -- ---- the parameters of a procedure
 
-abbrev parameter_of : Scope → Param → Name → Parameter
+abbrev pub parameter_of : Scope → Param → Name → Parameter
 parameter_of scope param name = record {
   kind = variable_kind scope param.shape param.base;
   name = record { by_ref = param.by_ref; name = name };
 }
 
-abbrev parameters_of : Scope → List Param → List Parameter
+abbrev pub parameters_of : Scope → List Param → List Parameter
 parameters_of scope params = flat_map (λ param. map (parameter_of scope param) param.names) params
 
 map_both : {A B : Type 0} (f : A → B) (xs ys : List A) → map f (xs ++ ys) ≡ map f xs ++ map f ys
@@ -340,7 +340,7 @@ map_twice : {A B C : Type 0} (f : B → C) (g : A → B) (xs : List A) →
 map_twice f g [] = refl
 map_twice f g (x ∷ xs) = ap (λ rest. f (g x) ∷ rest) (map_twice f g xs)
 
-each_of : {B : Type 0} (f : Parameter → B) (scope : Scope) (params : List Param) →
+pub each_of : {B : Type 0} (f : Parameter → B) (scope : Scope) (params : List Param) →
     map f (parameters_of scope params) ≡
     flat_map (λ param. map (λ name. f (parameter_of scope param name)) param.names) params
 each_of f scope [] = refl
@@ -368,7 +368,7 @@ names_are scope params = each_of name_of scope params ∙ by params
         (map_none param.names)
         ∙ ap (λ rest. param.names ++ rest) (by params)
 
-are_parameters : (scope : Scope) (params : List Param) →
+pub are_parameters : (scope : Scope) (params : List Param) →
     AreParameters (formals_of scope params) (parameters_of scope params)
 are_parameters scope [] = tt
 are_parameters scope (param ∷ params) = by param.shape param.names (are_parameters scope params)

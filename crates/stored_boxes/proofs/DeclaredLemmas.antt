@@ -97,13 +97,13 @@ module _ (program : Program) (known : Known) (apart : NamesStandApart program) w
   abbrev locals_of : Routine → List Shaped
   locals_of routine = flat_map shaped_by routine.procedure.locals
 
-  all_decls : SoundDecls Sound known (borders_of program) program.decls
+  pub all_decls : SoundDecls Sound known (borders_of program) program.decls
   all_decls =
       decls_sound program.decls
       (λ array m. left-among (flat_map shaped_in program.decls)
       (flat_map locals_of (routines_of program)) array m)
 
-  all_vars : (routine : Routine) → Among (routines_of program) routine →
+  pub all_vars : (routine : Routine) → Among (routines_of program) routine →
       SoundVars Sound known (borders_of program) routine.procedure.locals
   all_vars routine member =
       vars_sound routine.procedure.locals

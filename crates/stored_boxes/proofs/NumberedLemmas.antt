@@ -40,14 +40,14 @@ same_parts one other is =
       (Decides-eqb one.variable other.variable).0 both.1,
     )
 
-parts_same : (one other : ExpandedArray) → one.path ≡ other.path →
+pub parts_same : (one other : ExpandedArray) → one.path ≡ other.path →
     one.variable ≡ other.variable → is_same_array one other ≡ true
 parts_same one other path variable =
     both_true (bytes_eq one.path other.path) (one.variable == other.variable)
     ((bytes_eq-Decides one.path other.path).1 path)
     ((Decides-eqb one.variable other.variable).1 variable)
 
-differs_there : (one : ExpandedArray) (others : List ExpandedArray) → DiffersFrom one others →
+pub differs_there : (one : ExpandedArray) (others : List ExpandedArray) → DiffersFrom one others →
     (i : ℕ) (other : ExpandedArray) → slice_get others i ≡ Some other →
     is_same_array one other ≡ false
 differs_there one [] differs i other found = let wrong : ⊥ = cc in absurd wrong
@@ -132,7 +132,7 @@ filtered k f (one ∷ shifts) =
         (filter (λ one. one.array == k) shifts)) ∙ ap (λ n. f one.shift + n) later
     by false later = omega (arith, later)
 
-one_noted : (k number : ℕ) (f : List ℤ → ℕ) (storage : Region) (vector : List ℤ) →
+pub one_noted : (k number : ℕ) (f : List ℤ → ℕ) (storage : Region) (vector : List ℤ) →
     (number == k) ≡ true →
     sum_by (only k f) (shifts_of number (vector_over storage vector)) ≡
     sum_by f (noted storage vector)
@@ -150,7 +150,7 @@ one_noted k number f storage vector is = by (vector_over storage vector)
         sum_by f (cond (is_unmoved moved) [] (moved ∷ []))
     by moved = with_moved (is_unmoved moved) moved
 
-none_noted : (k number : ℕ) (f : List ℤ → ℕ) (shift : List ℤ) → (number == k) ≡ false →
+pub none_noted : (k number : ℕ) (f : List ℤ → ℕ) (shift : List ℤ) → (number == k) ≡ false →
     sum_by (only k f) (shifts_of number shift) ≡ 0
 none_noted k number f shift is = by (is_unmoved shift)
   where
@@ -215,7 +215,7 @@ module _ (program : Program) (known : Known) (number : ExpandedArray → ℕ) (k
 
 -- ---- copies
 
-above_apart : (a b : ℕ) → b < a → (a == b) ≡ false
+pub above_apart : (a b : ℕ) → b < a → (a == b) ≡ false
 above_apart a b less = by (a == b) (Decides-eqb a b)
   where
     by : (same : Bool) → Decides same (a ≡ b) → same ≡ false

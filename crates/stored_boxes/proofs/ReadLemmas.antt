@@ -93,7 +93,7 @@ module _ (program : Program) (known : Known) (number : ExpandedArray → ℕ) (i
       regroup [] b c = refl
       regroup (z ∷ a) b c = ap (λ rest. z ∷ rest) (regroup a b c)
 
-  noted_both : (first second : ℕ) (xs ys : List Site) (few more : List Region)
+  pub noted_both : (first second : ℕ) (xs ys : List Site) (few more : List Region)
       (shifts others : Free → List Shifted) (after : Free → Free) →
       second ≡ first + length few → IsNoted first xs few shifts → IsNoted second ys more others →
       IsNoted first (xs ++ ys) (few ++ more) (λ free. shifts free ++ others (after free))
@@ -123,7 +123,7 @@ module _ (program : Program) (known : Known) (number : ExpandedArray → ℕ) (i
     );
   }
 
-  noted_behind : (first : ℕ) (xs ys : List Site) (storages : List Region)
+  pub noted_behind : (first : ℕ) (xs ys : List Site) (storages : List Region)
       (shifts : Free → List Shifted) → IsQuiet xs → IsNoted first ys storages shifts →
       IsNoted first (xs ++ ys) storages shifts
   noted_behind first xs ys storages shifts quiet is =

@@ -1,0 +1,398 @@
+-- The sites of a procedure's statements: what is in reach of reads with a shift, and the vectors
+-- that
+-- stand in them.
+use Rattle.std.proofs.Common.{◌≡◌, Bool, true, false, cond, List, [], ◌∷◌, ◌++◌, map}
+use Rattle.std.proofs.Common.{Option, Some, None, option_to_list, refl, ap, ◌∙◌}
+use Rattle.std.specs.List.{flat_map}
+use Rattle.zpl_nums.specs.declared.operators.Op.{Op}
+use Rattle.zpl_tree.specs.Syntax.{Name, Pre, RegionBase, NamedRegion, Ditto, Expr, Number, Truth}
+use Rattle.zpl_tree.specs.Syntax.{Coord, Named, Shifted, Around, Remap, Call, Paren, Neg, Not, Abs}
+use Rattle.zpl_tree.specs.Syntax.{Pair, Reduce, Scan, Flood, Exprs, NoExpr, ThenExpr, Dir, NamedDir}
+use Rattle.zpl_tree.specs.Syntax.{Vector, Inner, Rexpr, Dims, NoBracket, Bracketed, Posts, NoPost}
+use Rattle.zpl_tree.specs.Syntax.{ThenPost, DimText, Blank, Star, One, Span, DimTexts, NoDim}
+use Rattle.zpl_tree.specs.Syntax.{ThenDim, Mask, Prefix, Item, Str, Value, Stmt, Prefixed, Stmts}
+use Rattle.zpl_tree.specs.Syntax.{NoStmt, ThenStmt, Form, Assign, Invoke, Block, If, While, Repeat}
+use Rattle.zpl_tree.specs.Syntax.{For, Border, Write, Return, Arm, Tested, Arms, NoArm, ThenArm}
+use Rattle.zpl_tree.specs.Syntax.{Otherwise, NoElse, Else, Base, Program}
+use Rattle.zpl_names.specs.Kinds.{Rank}
+use Rattle.zpl_names.specs.Ranks.{inner_rank, own_rank, is_index, mask_rank}
+use Rattle.zpl_names.specs.Shapes.{unknown_shapes}
+use Rattle.zpl_names.specs.Declared.{Routine, scope_of, globals_of}
+use Rattle.zpl_names.specs.Sites.{Reach, in_body, in_vector, over_source, under_prefix}
+use Rattle.zpl_names.specs.Sites.{under_prefixes}
+use Rattle.zpl_names.specs.Sites.{inside, Role, Bound, Component, Limit, Result, Test as TestRole}
+use Rattle.zpl_names.specs.Sites.{Printed, Actual, Operand, Assigned, whole_rank, Site, AtWhole}
+use Rattle.zpl_names.specs.Sites.{AtExpr, AtMask}
+use Rattle.zpl_names.specs.Sites.{index_sites, expr_sites, exprs_sites, actuals_sites, dir_sites}
+use Rattle.zpl_names.specs.Sites.{components_sites, region_sites, posts_sites, dims_sites}
+use Rattle.zpl_names.specs.Sites.{dim_sites}
+use Rattle.zpl_names.specs.Sites.{whole_sites, prefixes_sites, value_sites, item_sites}
+use Rattle.zpl_names.specs.Sites.{step_sites, stmt_sites, stmts_sites, form_sites, arms_sites}
+use Rattle.zpl_names.specs.Sites.{arm_sites, otherwise_sites, body_sites, outermost_sites}
+use Rattle.zpl_names.specs.Sites.{routine_sites, arms_rank, test_rank}
+use Rattle.zpl_meaning.proofs.DepthLemmas.{Each, each_left, each_right}
+
+-- ---- what is told of the sites of a procedure's statements
+
+-- the names in reach are those of the procedure
+pub record IsIn (program : Program) (routine : Routine) (reach : Reach) : Type 0 where
+  pub own : reach.scope.own ≡ routine.own
+  pub globals : reach.scope.globals ≡ globals_of program
+
+module _ (program : Program) (routine : Routine) (Fine : Site → Type 0) where
+  abbrev pub Told : Site → Type 0
+  Told (AtExpr reach rank (Shifted at name shift)) =
+      IsIn program routine reach × Each Fine (dir_sites reach shift)
+  Told (AtExpr reach rank (Around at name shift)) =
+      IsIn program routine reach × Each Fine (dir_sites reach shift)
+  Told site = Unit {0}
+
+  record Goes (sites : List Site) : Type 0 where
+    go : Each Fine sites → Each Told sites
+
+  none : Goes []
+  none = record { go = λ h. tt }
+
+  skip : {site : Site} {sites : List Site} → Told site → Goes sites → Goes (site ∷ sites)
+  skip told rest = record { go = λ h. (told, rest.go h.1) }
+
+  join : (xs ys : List Site) → Each Told xs → Each Told ys → Each Told (xs ++ ys)
+  join [] ys h k = k
+  join (x ∷ xs) ys h k = (h.0, join xs ys h.1 k)
+
+  both : {xs ys : List Site} → Goes xs → Goes ys → Goes (xs ++ ys)
+  both {xs} {ys} one other =
+      record {
+        go = λ h. join xs ys (one.go (each_left Fine xs ys h))
+            (other.go (each_right Fine xs ys h));
+      }
+
+  read : {site : Site} (reach : Reach) (shift : Dir) →
+      (Each Fine (dir_sites reach shift) → Told site) → Goes (dir_sites reach shift) →
+      Goes (site ∷ dir_sites reach shift)
+  read reach shift told rest = record { go = λ h. (told h.1, rest.go h.1) }
+
+  again : (reach within : Reach) → within.scope ≡ reach.scope → IsIn program routine reach
+      → IsIn program routine within
+  again reach within scope k = record {
+    own = ap (λ s. s.own) scope ∙ k.own;
+    globals = ap (λ s. s.globals) scope ∙ k.globals;
+  }
+
+  vector_is : (reach : Reach) → IsIn program routine reach → IsIn program routine (in_vector reach)
+  vector_is reach k = record { own = k.own; globals = k.globals }
+
+  index_told : (reach : Reach) (pre : List Pre) (base : RegionBase) (post : Posts)
+      → Goes (index_sites reach pre base post)
+  index_told reach pre (Ditto at) post = none
+  index_told reach pre (NamedRegion name) post = by (is_index reach.scope pre name post)
+    where
+      by : (b : Bool)
+          → Goes (cond b (AtWhole reach Bound (Named name.at name) ∷
+          AtExpr reach (whole_rank reach Bound (Named name.at name)) (Named name.at name) ∷ []) [])
+      by true = skip tt (skip tt none)
+      by false = none
+
+  mutual
+    expr_told : (expr : Expr) (reach : Reach) (rank : Rank) → IsIn program routine reach
+        → Goes (expr_sites reach rank expr)
+    expr_told (Number at value) reach rank k = skip tt none
+    expr_told (Truth at value) reach rank k = skip tt none
+    expr_told (Coord at dimension) reach rank k = skip tt none
+    expr_told (Named at name) reach rank k = skip tt none
+    expr_told (Shifted at name shift) reach rank k =
+        read reach shift (λ h. (k, h)) (dir_told shift reach k)
+    expr_told (Around at name shift) reach rank k =
+        read reach shift (λ h. (k, h)) (dir_told shift reach k)
+    expr_told (Remap at name indices) reach rank k = skip tt (exprs_told indices reach rank k)
+    expr_told (Call at name actuals) reach rank k =
+        skip tt (actuals_told actuals reach k)
+    expr_told (Paren at inside) reach rank k = skip tt (expr_told inside reach rank k)
+    expr_told (Neg at operand) reach rank k = skip tt (expr_told operand reach rank k)
+    expr_told (Not at operand) reach rank k = skip tt (expr_told operand reach rank k)
+    expr_told (Abs at operand) reach rank k = skip tt (expr_told operand reach rank k)
+    expr_told (Pair at op left right) reach rank k =
+        skip tt (both (expr_told left reach rank k) (expr_told right reach rank k))
+    expr_told (Reduce at operator NoBracket operand) reach rank k =
+        skip tt (skip tt (expr_told operand reach (whole_rank reach Operand operand) k))
+    expr_told (Reduce at operator (Bracketed source) operand) reach rank k =
+        let hint = own_rank reach.scope reach.prefix operand in
+        let over = inner_rank reach.scope hint reach.prefix source in
+        skip tt
+        (both (region_told source reach hint k)
+        (expr_told operand (over_source reach over source) over
+        (again reach (over_source reach over source) refl k)))
+    expr_told (Scan at operator along operand) reach rank k =
+        skip tt (expr_told operand reach rank k)
+    expr_told (Flood at source operand) reach rank k =
+        let hint = own_rank reach.scope reach.prefix operand in
+        let over = inner_rank reach.scope hint reach.prefix source in
+        skip tt
+        (both (region_told source reach hint k)
+        (expr_told operand (over_source reach over source) over
+        (again reach (over_source reach over source) refl k)))
+
+    exprs_told : (exprs : Exprs) (reach : Reach) (rank : Rank) → IsIn program routine reach
+        → Goes (exprs_sites reach rank exprs)
+    exprs_told NoExpr reach rank k = none
+    exprs_told (ThenExpr first rest) reach rank k =
+        both (expr_told first reach rank k) (exprs_told rest reach rank k)
+
+    actuals_told : (exprs : Exprs) (reach : Reach) → IsIn program routine reach
+        → Goes (actuals_sites reach exprs)
+    actuals_told NoExpr reach k = none
+    actuals_told (ThenExpr (Named at name) rest) reach k = skip tt (actuals_told rest reach k)
+    actuals_told (ThenExpr (Number at value) rest) reach k =
+        skip tt (both (skip tt none) (actuals_told rest reach k))
+    actuals_told (ThenExpr (Truth at value) rest) reach k =
+        skip tt (both (skip tt none) (actuals_told rest reach k))
+    actuals_told (ThenExpr (Coord at dimension) rest) reach k =
+        skip tt (both (skip tt none) (actuals_told rest reach k))
+    actuals_told (ThenExpr (Shifted at name shift) rest) reach k =
+        skip tt (both (expr_told (Shifted at name shift) reach
+        (whole_rank reach Actual (Shifted at name shift)) k) (actuals_told rest reach k))
+    actuals_told (ThenExpr (Around at name shift) rest) reach k =
+        skip tt (both (expr_told (Around at name shift) reach
+        (whole_rank reach Actual (Around at name shift)) k) (actuals_told rest reach k))
+    actuals_told (ThenExpr (Remap at name indices) rest) reach k =
+        skip tt (both (expr_told (Remap at name indices) reach
+        (whole_rank reach Actual (Remap at name indices)) k) (actuals_told rest reach k))
+    actuals_told (ThenExpr (Call at name actuals) rest) reach k =
+        skip tt (both (expr_told (Call at name actuals) reach
+        (whole_rank reach Actual (Call at name actuals)) k) (actuals_told rest reach k))
+    actuals_told (ThenExpr (Paren at inside) rest) reach k =
+        skip tt (both (expr_told (Paren at inside) reach
+        (whole_rank reach Actual (Paren at inside)) k) (actuals_told rest reach k))
+    actuals_told (ThenExpr (Neg at operand) rest) reach k =
+        skip tt (both (expr_told (Neg at operand) reach
+        (whole_rank reach Actual (Neg at operand)) k) (actuals_told rest reach k))
+    actuals_told (ThenExpr (Not at operand) rest) reach k =
+        skip tt (both (expr_told (Not at operand) reach
+        (whole_rank reach Actual (Not at operand)) k) (actuals_told rest reach k))
+    actuals_told (ThenExpr (Abs at operand) rest) reach k =
+        skip tt (both (expr_told (Abs at operand) reach
+        (whole_rank reach Actual (Abs at operand)) k) (actuals_told rest reach k))
+    actuals_told (ThenExpr (Pair at op left right) rest) reach k =
+        skip tt (both (expr_told (Pair at op left right) reach
+        (whole_rank reach Actual (Pair at op left right)) k) (actuals_told rest reach k))
+    actuals_told (ThenExpr (Reduce at operator source operand) rest) reach k =
+        skip tt (both (expr_told (Reduce at operator source operand) reach
+        (whole_rank reach Actual (Reduce at operator source operand)) k)
+        (actuals_told rest reach k))
+    actuals_told (ThenExpr (Scan at operator along operand) rest) reach k =
+        skip tt (both (expr_told (Scan at operator along operand) reach
+        (whole_rank reach Actual (Scan at operator along operand)) k) (actuals_told rest reach k))
+    actuals_told (ThenExpr (Flood at source operand) rest) reach k =
+        skip tt (both (expr_told (Flood at source operand) reach
+        (whole_rank reach Actual (Flood at source operand)) k) (actuals_told rest reach k))
+
+    dir_told : (dir : Dir) (reach : Reach) → IsIn program routine reach → Goes (dir_sites reach dir)
+    dir_told (NamedDir name) reach k = skip tt none
+    dir_told (Vector parts) reach k =
+        skip tt (components_told parts (in_vector reach) (vector_is reach k))
+
+    components_told : (exprs : Exprs) (reach : Reach) → IsIn program routine reach
+        → Goes (components_sites reach exprs)
+    components_told NoExpr reach k = none
+    components_told (ThenExpr first rest) reach k =
+        skip tt (both (expr_told first reach (whole_rank reach Component first) k)
+        (components_told rest reach k))
+
+    region_told : (region : Inner) (reach : Reach) (hint : Rank) → IsIn program routine reach
+        → Goes (region_sites reach hint region)
+    region_told (Rexpr pre base post) reach hint k =
+        skip tt (both (index_told reach pre base post) (posts_told post reach k))
+    region_told (Dims dims) reach hint k = skip tt (dims_told dims reach k)
+
+    posts_told : (post : Posts) (reach : Reach) → IsIn program routine reach
+        → Goes (posts_sites reach post)
+    posts_told NoPost reach k = none
+    posts_told (ThenPost stride dir rest) reach k =
+        both (dir_told dir reach k) (posts_told rest reach k)
+
+    dims_told : (dims : DimTexts) (reach : Reach) → IsIn program routine reach
+        → Goes (dims_sites reach dims)
+    dims_told NoDim reach k = none
+    dims_told (ThenDim first rest) reach k = both (dim_told first reach k) (dims_told rest reach k)
+
+    dim_told : (dim : DimText) (reach : Reach) → IsIn program routine reach
+        → Goes (dim_sites reach dim)
+    dim_told (Blank at) reach k = none
+    dim_told (Star at) reach k = none
+    dim_told (One index) reach k =
+        skip tt (expr_told index reach (whole_rank reach Bound index) k)
+    dim_told (Span low high) reach k =
+        skip tt (both (expr_told low reach (whole_rank reach Bound low) k)
+        (skip tt (expr_told high reach (whole_rank reach Bound high) k)))
+
+  whole_told : (reach : Reach) (role : Role) (expr : Expr) → IsIn program routine reach
+      → Goes (whole_sites reach role expr)
+  whole_told reach role expr k = skip tt (expr_told expr reach (whole_rank reach role expr) k)
+
+  mask_told : (reach : Reach) (prefix : Prefix) (mask : Option Mask)
+      → Goes (map (AtMask reach prefix) (option_to_list mask))
+  mask_told reach prefix None = none
+  mask_told reach prefix (Some mask) = skip tt none
+
+  prefixes_told : (prefixes : List Prefix) (reach : Reach) → IsIn program routine reach
+      → Goes (prefixes_sites reach prefixes)
+  prefixes_told [] reach k = none
+  prefixes_told (prefix ∷ rest) reach k =
+      both
+      (both (region_told prefix.region reach (mask_rank reach.scope prefix.mask) k)
+      (mask_told reach prefix prefix.mask))
+      (prefixes_told rest (under_prefix reach prefix)
+      (again reach (under_prefix reach prefix) refl k))
+
+  prefixes_in : (prefixes : List Prefix) (reach : Reach) → IsIn program routine reach
+      → IsIn program routine (under_prefixes reach prefixes)
+  prefixes_in [] reach k = k
+  prefixes_in (prefix ∷ rest) reach k =
+      prefixes_in rest (under_prefix reach prefix)
+      (again reach (under_prefix reach prefix) refl k)
+
+  assigned_told : (reach : Reach) (name : Name) (op : Option Op) (value : Expr)
+      → IsIn program routine reach → Goes (value_sites reach name op value)
+  assigned_told reach name None (Call at callee actuals) k =
+      skip tt (skip tt
+      (actuals_told actuals reach k))
+  assigned_told reach name None (Number at value) k = skip tt (skip tt none)
+  assigned_told reach name None (Truth at value) k = skip tt (skip tt none)
+  assigned_told reach name None (Coord at dimension) k = skip tt (skip tt none)
+  assigned_told reach name None (Named at read) k = skip tt (skip tt none)
+  assigned_told reach name None (Shifted at read shift) k =
+      whole_told reach (Assigned name None) (Shifted at read shift) k
+  assigned_told reach name None (Around at read shift) k =
+      whole_told reach (Assigned name None) (Around at read shift) k
+  assigned_told reach name None (Remap at read indices) k =
+      whole_told reach (Assigned name None) (Remap at read indices) k
+  assigned_told reach name None (Paren at inside) k =
+      whole_told reach (Assigned name None) (Paren at inside) k
+  assigned_told reach name None (Neg at operand) k =
+      whole_told reach (Assigned name None) (Neg at operand) k
+  assigned_told reach name None (Not at operand) k =
+      whole_told reach (Assigned name None) (Not at operand) k
+  assigned_told reach name None (Abs at operand) k =
+      whole_told reach (Assigned name None) (Abs at operand) k
+  assigned_told reach name None (Pair at op left right) k =
+      whole_told reach (Assigned name None) (Pair at op left right) k
+  assigned_told reach name None (Reduce at operator source operand) k =
+      whole_told reach (Assigned name None) (Reduce at operator source operand) k
+  assigned_told reach name None (Scan at operator along operand) k =
+      whole_told reach (Assigned name None) (Scan at operator along operand) k
+  assigned_told reach name None (Flood at source operand) k =
+      whole_told reach (Assigned name None) (Flood at source operand) k
+  assigned_told reach name (Some op) value k = whole_told reach (Assigned name (Some op)) value k
+
+  items_told : (items : List Item) (reach : Reach) → IsIn program routine reach
+      → Goes (flat_map (item_sites reach) items)
+  items_told [] reach k = none
+  items_told (Str bytes ∷ items) reach k = both none (items_told items reach k)
+  items_told (Value value ∷ items) reach k =
+      both (whole_told reach Printed value k) (items_told items reach k)
+
+  step_told : (step : Option Expr) (reach : Reach) → IsIn program routine reach
+      → Goes (step_sites reach step)
+  step_told None reach k = none
+  step_told (Some step) reach k = whole_told reach Limit step k
+
+  in_inside : (reach : Reach) (rank : Rank) → IsIn program routine reach
+      → IsIn program routine (inside reach rank)
+  in_inside reach rank k = again reach (inside reach rank) refl k
+
+  mutual
+    stmt_told : (stmt : Stmt) (reach : Reach) → IsIn program routine reach
+        → Goes (stmt_sites reach stmt)
+    stmt_told (Prefixed at prefixes form) reach k =
+        both (prefixes_told prefixes reach k)
+        (skip tt (form_told form (under_prefixes reach prefixes) (prefixes_in prefixes reach k)))
+
+    stmts_told : (stmts : Stmts) (reach : Reach) → IsIn program routine reach
+        → Goes (stmts_sites reach stmts)
+    stmts_told NoStmt reach k = none
+    stmts_told (ThenStmt first rest) reach k =
+        both (stmt_told first reach k) (stmts_told rest reach k)
+
+    form_told : (form : Form) (reach : Reach) → IsIn program routine reach
+        → Goes (form_sites reach form)
+    form_told (Assign name op value) reach k = assigned_told reach name op value k
+    form_told (Invoke name actuals) reach k =
+        skip tt (actuals_told actuals reach k)
+    form_told (Block body) reach k =
+        stmts_told body (inside reach (Some 0)) (in_inside reach (Some 0) k)
+    form_told (If arms otherwise) reach k =
+        let rank = arms_rank reach arms in
+        both (arms_told arms reach (inside reach rank) k (in_inside reach rank k))
+        (otherwise_told otherwise (inside reach rank) (in_inside reach rank k))
+    form_told (While test body) reach k =
+        let rank = test_rank reach test in
+        both (whole_told reach TestRole test k)
+        (stmts_told body (inside reach rank) (in_inside reach rank k))
+    form_told (Repeat body until test) reach k =
+        let rank = test_rank reach test in
+        both (stmts_told body (inside reach rank) (in_inside reach rank k))
+        (whole_told reach TestRole test k)
+    form_told (For head body) reach k =
+        both
+        (both (both (whole_told reach Limit head.first k) (whole_told reach Limit head.last k))
+        (step_told head.step reach k))
+        (stmts_told body (inside reach (Some 0)) (in_inside reach (Some 0) k))
+    form_told (Border border names) reach k = none
+    form_told (Write line items) reach k = items_told items reach k
+    form_told (Return value) reach k = whole_told reach (Result reach.result) value k
+
+    arms_told : (arms : Arms) (reach within : Reach) → IsIn program routine reach
+        → IsIn program routine within → Goes (arms_sites reach within arms)
+    arms_told NoArm reach within k j = none
+    arms_told (ThenArm first rest) reach within k j =
+        both (arm_told first reach within k j) (arms_told rest reach within k j)
+
+    arm_told : (arm : Arm) (reach within : Reach) → IsIn program routine reach
+        → IsIn program routine within → Goes (arm_sites reach within arm)
+    arm_told (Tested at test body) reach within k j =
+        both (whole_told reach TestRole test k) (stmts_told body within j)
+
+    otherwise_told : (otherwise : Otherwise) (reach : Reach) → IsIn program routine reach
+        → Goes (otherwise_sites reach otherwise)
+    otherwise_told NoElse reach k = none
+    otherwise_told (Else body) reach k = stmts_told body reach k
+
+  body_told : (stmts : Stmts) (reach : Reach) (answer : Option Base)
+      → IsIn program routine reach → Goes (body_sites reach answer stmts)
+  body_told NoStmt reach answer k = none
+  body_told (ThenStmt last NoStmt) reach answer k =
+      stmt_told last (record reach { result = answer })
+      (again reach (record reach { result = answer }) refl k)
+  body_told (ThenStmt first (ThenStmt second rest)) reach answer k =
+      both (stmt_told first reach k) (body_told (ThenStmt second rest) reach answer k)
+
+  outermost_told : (stmt : Stmt) (reach : Reach) (answer : Option Base)
+      → IsIn program routine reach → Goes (outermost_sites reach answer stmt)
+  outermost_told (Prefixed at prefixes (Block body)) reach answer k =
+      both (prefixes_told prefixes reach k)
+      (body_told body (under_prefixes reach prefixes) answer (prefixes_in prefixes reach k))
+  outermost_told (Prefixed at prefixes (Assign name op value)) reach answer k =
+      stmt_told (Prefixed at prefixes (Assign name op value)) reach k
+  outermost_told (Prefixed at prefixes (Invoke name actuals)) reach answer k =
+      stmt_told (Prefixed at prefixes (Invoke name actuals)) reach k
+  outermost_told (Prefixed at prefixes (If arms otherwise)) reach answer k =
+      stmt_told (Prefixed at prefixes (If arms otherwise)) reach k
+  outermost_told (Prefixed at prefixes (While test body)) reach answer k =
+      stmt_told (Prefixed at prefixes (While test body)) reach k
+  outermost_told (Prefixed at prefixes (Repeat body until test)) reach answer k =
+      stmt_told (Prefixed at prefixes (Repeat body until test)) reach k
+  outermost_told (Prefixed at prefixes (For head body)) reach answer k =
+      stmt_told (Prefixed at prefixes (For head body)) reach k
+  outermost_told (Prefixed at prefixes (Border border names)) reach answer k =
+      stmt_told (Prefixed at prefixes (Border border names)) reach k
+  outermost_told (Prefixed at prefixes (Write line items)) reach answer k =
+      stmt_told (Prefixed at prefixes (Write line items)) reach k
+  outermost_told (Prefixed at prefixes (Return value)) reach answer k =
+      stmt_told (Prefixed at prefixes (Return value)) reach k
+
+  pub sites_told : Each Fine (routine_sites program unknown_shapes routine) →
+      Each Told (routine_sites program unknown_shapes routine)
+  sites_told h =
+      (outermost_told routine.procedure.body
+      (in_body (scope_of program routine) unknown_shapes) routine.procedure.result
+      (record { own = refl; globals = refl })).go h
