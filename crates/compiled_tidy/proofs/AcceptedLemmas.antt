@@ -1,7 +1,8 @@
--- The code of an accepted text is tidy as far as its lowered tables are laid out tidily. What is said
--- of its tables elsewhere is handed in: names of arrays that stand apart, tables that are a flat
--- program's, words that its text holds, checks in front of its loops, and loops that stand apart.
-use Rattle.std.proofs.Common.{◌≡◌, ℕ, ◌+◌, ◌*◌, ◌≤◌, true, List, length, arith}
+-- The lowered tables of an accepted text are laid out tidily. What is said of them elsewhere is handed
+-- in: names of arrays that stand apart, tables that are a flat program's, words that the text holds,
+-- checks in front of loops, loops that stand apart, arrays that are declared as the text says, loops
+-- that put arrays alike, and stored arrays that are the program's.
+use Rattle.std.proofs.Common.{◌≡◌, ℕ, List, length}
 use Rattle.std.specs.Prelude.{None}
 use Rattle.zpl_text.specs.declared.tokens.Token.{Token}
 use Rattle.zpl_text.specs.Tokens.{IsTokens}
@@ -10,7 +11,10 @@ use Rattle.zpl_tree.specs.Syntax.{Program}
 use Rattle.zpl_grammar.specs.Texts.{IsTreeOf}
 use Rattle.zpl_names.specs.Accepted.{IsFaultless}
 use Rattle.zpl_binding.specs.Bound.{IsAcceptedWith}
+use Rattle.zpl_binding.specs.Declarations.{known_of}
 use Rattle.zpl_binding.specs.Settings.{Setting}
+use Rattle.grid_meaning.specs.Stored.{arrangement_of}
+use Rattle.zpl_claims.specs.Boxes.{boxes_of}
 use Rattle.node_form.specs.declared.tables.Tables.{Tables}
 use Rattle.flat_form.specs.Flat.{IsFlat}
 use Rattle.flat_form.specs.Row.{Row, all_inlined}
@@ -18,7 +22,8 @@ use Rattle.pass_parts.specs.Checks.{ChecksWhatFollows}
 use Rattle.zpl_lowering.specs.Program.{lowered_program}
 use Rattle.zpl_lowering.specs.Tables.{flat_tables, rows_of}
 use Rattle.lowered_flat.specs.Apart.{NamesStandApart}
-use Rattle.lowering_checks.specs.Stands.{ReadsApart}
+use Rattle.lowering_fits.specs.Declarations.{FitsProgram}
+use Rattle.lowering_checks.specs.Stands.{PutsAlike, ReadsApart}
 use Rattle.lowering_checks.specs.Totals.{AreApart, FirstPuts, NoneAccumulates}
 use Rattle.lowering_checks.specs.Walked.{AreChecked}
 use Rattle.lowering_sizes.specs.Sizes.{HasTokens, HoldsItsWords}
@@ -27,7 +32,7 @@ use Rattle.zpl_claims.specs.Origin.{origin_of}
 use Rattle.compiled_sizes.specs.Lowered.{IsLowered}
 use Rattle.compiled_sizes.proofs.BaseLemmas.{read}
 use Rattle.compiled_tidy.specs.Accepted.{IsAcceptedText}
-use Rattle.compiled_tidy.specs.Lowered.{IsLaidTidily, IsLoweredTidily}
+use Rattle.compiled_tidy.specs.Lowered.{IsLoweredTidily}
 
 pub grammar_of : (text : List ℕ) (tokens : List Token) (program : Program) →
     IsTreeOf text tokens program → IsProgram program
@@ -61,12 +66,22 @@ module _
     all_inlined (flat_tables program settings) ≡ rows_of (lowered_program program settings) →
     ChecksWhatFollows (flat_tables program settings) →
     ReadsApart (flat_tables program settings))
+    (declared : (program : Program) (settings : List Setting) → IsProgram program →
+    IsFaultless program → IsAcceptedWith program settings → FitsProgram program settings)
+    (put_alike : (program : Program) (settings : List Setting) → IsProgram program →
+    IsFaultless program → IsAcceptedWith program settings → FitsProgram program settings →
+    all_inlined (flat_tables program settings) ≡ rows_of (lowered_program program settings) →
+    PutsAlike (flat_tables program settings))
+    (stored : (text : List ℕ) (tokens : List Token) (program : Program) (settings : List Setting) →
+    IsTokens text tokens → IsTreeOf text tokens program → IsFaultless program →
+    IsAcceptedWith program settings → (arrangement_of (flat_tables program settings)).boxes ≡
+    boxes_of program (known_of program settings))
     (text : List ℕ) (tokens : List Token) (program : Program) (build : Build)
     (accepted : IsAcceptedText text tokens program build) where
   grammar : IsProgram program
   grammar = grammar_of text tokens program accepted.tree
 
-  pub accepted_lowered : IsLowered build program
+  accepted_lowered : IsLowered build program
   accepted_lowered = record {
     faultless = accepted.faultless;
     holds = holds text tokens program accepted.are_tokens accepted.tree;
@@ -80,9 +95,8 @@ module _
       (read program build.settings accepted_lowered.flat)
       (checked program build.settings grammar accepted.faultless accepted.accepts)
 
-  pub accepted_tidily : (let origin = origin_of build program (length tokens) in
-      IsLaidTidily origin → IsLoweredTidily origin)
-  accepted_tidily laid = record {
+  pub accepted_tidily : IsLoweredTidily (origin_of build program (length tokens))
+  accepted_tidily = record {
     lowered = accepted_lowered;
     tokens = has text tokens program accepted.tree;
     checks = checks;
@@ -94,5 +108,9 @@ module _
         (read program build.settings accepted_lowered.flat) (stand_apart program build.settings);
     reads = read_apart program build.settings accepted.faultless
         (read program build.settings accepted_lowered.flat) checks;
-    laid = laid;
+    alike = put_alike program build.settings grammar accepted.faultless accepted.accepts
+        (declared program build.settings grammar accepted.faultless accepted.accepts)
+        (read program build.settings accepted_lowered.flat);
+    boxes = stored text tokens program build.settings accepted.are_tokens accepted.tree
+        accepted.faultless accepted.accepts;
   }

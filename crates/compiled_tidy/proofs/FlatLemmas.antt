@@ -1,5 +1,5 @@
 -- The tables whose loops are joined: a flat program's, which fit.
-use Rattle.std.proofs.Common.{◌≡◌, refl, sym, arith, ℕ, ◌+◌, ◌≤◌, Bool, true, false, true≢false}
+use Rattle.std.proofs.Common.{◌≡◌, refl, arith, Bool, true, false, true≢false}
 use Rattle.std.proofs.Common.{List, [], ◌∷◌}
 use Rattle.std.specs.Prelude.{All, count_by}
 use Rattle.std.specs.List.{AllByRecursion}

@@ -80,10 +80,9 @@ tidy origin is =
     let lowered = is.lowered in
     record {
       lean = lean origin lowered is.tokens;
-      boxes = ap (λ (a : Arrangement). a.boxes) (laid_out build program) ∙ is.laid.boxes;
+      boxes = ap (λ (a : Arrangement). a.boxes) (laid_out build program) ∙ is.boxes;
       fused = λ asked.
           all_fused build (lowered_for build program)
           (can_be_fused (lowered_for build program) lowered.flat is.checks
-          (stands_from (lowered_for build program) is.totals is.puts is.reads
-          (is.laid.alike asked))) asked;
+          (stands_from (lowered_for build program) is.totals is.puts is.reads is.alike)) asked;
     }

@@ -1,5 +1,5 @@
 -- What tidy code asks of the tables that a program is lowered to.
-use Rattle.std.specs.Prelude.{◌≡◌, true}
+use Rattle.std.specs.Prelude.{◌≡◌}
 use Rattle.zpl_tree.specs.Syntax.{Program}
 use Rattle.node_form.specs.declared.tables.Tables.{Tables}
 use Rattle.grid_meaning.specs.Stored.{arrangement_of}
@@ -16,18 +16,11 @@ use Rattle.compiled_sizes.specs.Lowered.{IsLowered}
 abbrev pub lowered_for : Build → Program → Tables
 lowered_for build program = flat_tables program build.settings
 
--- What is asked of the lowered tables besides: the stored arrays are the program's; and, where loops
--- are joined, a loop with checks alone between it and one before it over the same slot puts arrays
--- with the flood dimensions of what that one puts.
-pub record IsLaidTidily (origin : Origin) : Type 0 where
-  pub boxes : (arrangement_of (lowered_for origin.build origin.program)).boxes ≡ origin.boxes
-  pub alike : origin.build.options.fuse ≡ true →
-      PutsAlike (lowered_for origin.build origin.program)
-
 -- The program is lowered to a flat program, and is written as at most so many tokens. Wherever
 -- checks alone stand between two loops, neither accumulates, and the first one puts an array; and
--- over one slot, the second one reads no scalar that some loop accumulates, and its references are
--- among theirs.
+-- over one slot, the second one reads no scalar that some loop accumulates, puts arrays with the
+-- flood dimensions of what the first one puts, and its references are among theirs. Its stored arrays
+-- are the program's.
 pub record IsLoweredTidily (origin : Origin) : Type 0 where
   pub lowered : IsLowered origin.build origin.program
   pub tokens : HasTokens origin.program origin.tokens
@@ -35,4 +28,5 @@ pub record IsLoweredTidily (origin : Origin) : Type 0 where
   pub totals : NoneAccumulates (lowered_for origin.build origin.program)
   pub puts : FirstPuts (lowered_for origin.build origin.program)
   pub reads : ReadsApart (lowered_for origin.build origin.program)
-  pub laid : IsLaidTidily origin
+  pub alike : PutsAlike (lowered_for origin.build origin.program)
+  pub boxes : (arrangement_of (lowered_for origin.build origin.program)).boxes ≡ origin.boxes

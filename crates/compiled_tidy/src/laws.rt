@@ -1,5 +1,5 @@
 //! The laws of compiled code.
-ghost use Rattle.std.specs.Prelude.{◌≡◌, ℕ, List, [], length, true, false};
+ghost use Rattle.std.specs.Prelude.{◌≡◌, ℕ, List, [], length, true};
 ghost use Rattle.zpl_text.specs.declared.tokens.Token.{Token};
 ghost use Rattle.zpl_tree.specs.Syntax.{Program};
 ghost use Rattle.flat_form.specs.Flat.{IsFlat};
@@ -13,14 +13,15 @@ ghost use Rattle.zpl_claims.specs.Origin.{Origin, origin_of};
 ghost use Rattle.zpl_claims.specs.Tidy.{IsLean, IsTidy};
 ghost use Rattle.zpl_compile.specs.Compile.{compiled};
 ghost use Rattle.compiled_tidy.specs.Accepted.{IsAcceptedText};
-ghost use Rattle.compiled_tidy.specs.Lowered.{IsLaidTidily, IsLoweredTidily, lowered_for};
+ghost use Rattle.compiled_tidy.specs.Lowered.{IsLoweredTidily, lowered_for};
 
-use lowered_flat::{lowered_programs_are_flat, parsed_names_stand_apart};
+use lowered_flat::{declarations_fit, lowered_programs_are_flat, parsed_names_stand_apart};
 use lowering_checks::{
-    checks_say_what_follows, loops_are_checked, loops_read_apart, totals_stand_apart,
+    checks_say_what_follows, loops_are_checked, loops_read_apart, puts_are_alike,
+    totals_stand_apart,
 };
 use lowering_sizes::texts_hold_their_words;
-use stored_boxes::arrays_are_as_many;
+use program_boxes::boxes_of_texts_are_stored;
 
 /// The code of a program is free of what each optimisation leaves out that is asked for, whichever
 /// others are: of repeated exchanges, of exchanges that could be one, and of starts that could be
@@ -49,22 +50,13 @@ pub fn compiled_code_is_tidy()
         IsTidy origin (compiled origin.build origin.program) }
 {}
 
-/// Of each text whose program is accepted the code is for the grid that is asked for, no larger
-/// than is allowed, and free of what each optimisation but `fuse` leaves out (`lean`); and it is
-/// tidy where the stored arrays are the program's and where, if loops are joined, they may stand
-/// where that puts them. So it is where the program stores no arrays and no loops are joined.
+/// The code of each text whose program is accepted is tidy: it is for the grid that is asked for, no
+/// larger than is allowed, has the program's arrays and no others, and is free of what each
+/// optimisation leaves out.
 pub fn accepted_code_is_tidy()
-    ensures lean { (text : List ℕ) (tokens : List Token) (program : Program) (build : Build) →
+    ensures { (text : List ℕ) (tokens : List Token) (program : Program) (build : Build) →
         IsAcceptedText text tokens program build →
-        IsLean (origin_of build program (length tokens)) (compiled build program) }
-    ensures tidy { (text : List ℕ) (tokens : List Token) (program : Program) (build : Build) →
-        IsAcceptedText text tokens program build →
-        (let origin = origin_of build program (length tokens) in
-        IsLaidTidily origin → IsTidy origin (compiled build program)) }
-    ensures without_arrays { (text : List ℕ) (tokens : List Token) (program : Program)
-        (build : Build) → IsAcceptedText text tokens program build →
-        (let origin = origin_of build program (length tokens) in
-        origin.boxes ≡ [] → build.options.fuse ≡ false → IsTidy origin (compiled build program)) }
+        IsTidy (origin_of build program (length tokens)) (compiled build program) }
 {
     lowered_programs_are_flat();
     parsed_names_stand_apart();
@@ -73,6 +65,8 @@ pub fn accepted_code_is_tidy()
     checks_say_what_follows();
     totals_stand_apart();
     loops_read_apart();
-    arrays_are_as_many();
+    declarations_fit();
+    puts_are_alike();
+    boxes_of_texts_are_stored();
     compiled_code_is_tidy();
 }

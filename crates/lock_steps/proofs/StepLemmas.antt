@@ -24,7 +24,7 @@ use Rattle.plan_orders.specs.InStep.{IsInStep, least_moves, run_most, some_turns
 use Rattle.lock_steps.specs.Meant.{ComesInOrder, IsMeant, IsPlanOf, meanings, steps_in}
 
 -- ---- what is kept of what isn't wrong is the same
-kept_same : (old new : Result) → old.stop ≢ Wrong → Keeps old new → old ≡ new
+pub kept_same : (old new : Result) → old.stop ≢ Wrong → Keeps old new → old ≡ new
 kept_same old new right (WasWrong wrong) = absurd (right wrong)
 kept_same old new right (Same same) = same
 

@@ -1,3 +1,4 @@
+pub mod MeantLemmas
 pub mod TypedLemmas
 pub mod SettledLemmas
 pub mod LoopLemmas

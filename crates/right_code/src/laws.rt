@@ -7,27 +7,26 @@ ghost use Rattle.zpl_meaning.specs.Program.{mean_of, outcome_of, steps_of};
 ghost use Rattle.node_form.specs.Grid.{IsGrid};
 ghost use Rattle.zpl_lowering.specs.Tables.{flat_tables};
 ghost use Rattle.lock_steps.specs.Meant.{IsMeant};
-ghost use Rattle.shown_programs.specs.Text.{IsShownProgram};
-ghost use Rattle.shown_texts.specs.Forms.{HasShownForms};
 ghost use Rattle.zpl_claims.specs.Bound.{EndsInBound};
 ghost use Rattle.zpl_claims.specs.Build.{Build, OverAllLinks};
 ghost use Rattle.zpl_claims.specs.Good.{IsGood};
 ghost use Rattle.zpl_claims.specs.LockStep.{HasLockSteps};
-ghost use Rattle.zpl_claims.specs.Compiled.{IsCompiled, IsFaithful};
+ghost use Rattle.zpl_claims.specs.Compiled.{IsCompiled};
 ghost use Rattle.zpl_claims.specs.Origin.{origin_of};
-ghost use Rattle.zpl_compile.specs.Compile.{compiled};
+ghost use Rattle.zpl_compile.specs.Compile.{compiled, settled};
 ghost use Rattle.compiled_tidy.specs.Accepted.{IsAcceptedText};
-ghost use Rattle.compiled_tidy.specs.Lowered.{IsLaidTidily};
 ghost use Rattle.right_code.specs.Accepted.{IsAccepted};
 
 use arranged_runs::plan_passes_keep_runs;
 use compiled_runs::compiled_plans_keep_runs;
 use compiled_tidy::accepted_code_is_tidy;
+use every_form::faultless_programs_have_shown_forms;
 use lock_steps::emitted_code_comes_in_step;
 use lowered_flat::{lowered_programs_are_flat, lowered_tables_are_typed, parsed_names_stand_apart};
 use lowering_loops::groups_turn_as_statements_do;
 use owed_tables::lowered_tables_owe_nothing_more;
 use pass_promises::groups_gain_no_loops;
+use settled_runs::flat_passes_keep_runs;
 use sharable_tables::settled_tables_are_sharable;
 use shown_programs::array_programs_are_shown;
 use shown_texts::texts_of_shown_forms_are_shown;
@@ -62,38 +61,36 @@ pub fn code_of_meant_programs_is_right()
     settled_tables_are_sharable();
 }
 
-/// So is that of a program whose statements are of the forms of which it is proved that their code
-/// goes as they do, under prefixes and with calls.
-pub fn code_of_shown_programs_is_right()
-    ensures in_step { (program : Program) (build : Build) → IsAccepted program build →
-        IsShownProgram program build.settings → OverAllLinks build (λ links.
-        HasLockSteps (compiled build program) links (mean_of program build.settings)) }
-    ensures good { (program : Program) (build : Build) → IsAccepted program build →
-        IsShownProgram program build.settings → OverAllLinks build (λ links.
-        IsGood (compiled build program) links (mean_of program build.settings)) }
-    ensures in_time { (program : Program) (build : Build) → IsAccepted program build →
-        IsShownProgram program build.settings → OverAllLinks build (λ links.
-        EndsInBound (compiled build program) links (mean_of program build.settings)
-        (steps_of program build.settings) (shattered_loops program)) }
+/// The lowered program of an accepted text shows what the text means, for each bound on the turns of
+/// loops, and never comes to a row that may not stand there (`lowered`). So it is behind the passes
+/// over flat programs that a build asks for, fused, contracted or not (`settled`).
+pub fn accepted_texts_are_shown()
+    ensures lowered { (text : List ℕ) (tokens : List Token) (program : Program) (build : Build) →
+        IsAcceptedText text tokens program build →
+        IsMeant (flat_tables program build.settings) (outcome_of program build.settings) }
+    ensures settled { (text : List ℕ) (tokens : List Token) (program : Program) (build : Build) →
+        IsAcceptedText text tokens program build →
+        IsMeant (settled build (flat_tables program build.settings))
+        (outcome_of program build.settings) }
 {
-    code_of_meant_programs_is_right();
     array_programs_are_shown();
+    faultless_programs_have_shown_forms();
+    flat_passes_keep_runs();
+    lowered_programs_are_flat();
+    lowered_tables_are_typed();
+    parsed_names_stand_apart();
+    texts_of_shown_forms_are_shown();
 }
 
-/// So is that of a text, all of whose statements are of such forms (`HasShownForms`), whatever its
-/// numbers are (`faithful`). All that is claimed of code (`IsCompiled`) holds of it where it is
-/// tidy as `IsLaidTidily` asks for.
-pub fn code_of_shown_texts_is_right()
-    ensures faithful { (text : List ℕ) (tokens : List Token) (program : Program) (build : Build) →
-        IsAcceptedText text tokens program build → IsGrid build.grid → HasShownForms program →
-        IsFaithful (origin_of build program (length tokens)) (compiled build program) }
-    ensures compiled { (text : List ℕ) (tokens : List Token) (program : Program) (build : Build) →
-        IsAcceptedText text tokens program build → IsGrid build.grid → HasShownForms program →
-        IsLaidTidily (origin_of build program (length tokens)) →
+/// All that is claimed of code holds of the code of every accepted text: over all links that it is
+/// for it is right after every order of turns, in step, and over in time; and it is tidy.
+pub fn code_of_accepted_texts_is_right()
+    ensures { (text : List ℕ) (tokens : List Token) (program : Program) (build : Build) →
+        IsAcceptedText text tokens program build → IsGrid build.grid →
         IsCompiled (origin_of build program (length tokens)) (compiled build program) }
 {
     accepted_code_is_tidy();
-    code_of_shown_programs_is_right();
+    accepted_texts_are_shown();
+    code_of_meant_programs_is_right();
     parsed_names_stand_apart();
-    texts_of_shown_forms_are_shown();
 }

@@ -8,5 +8,5 @@
 mod laws;
 
 pub use laws::{
-    code_of_meant_programs_is_right, code_of_shown_programs_is_right, code_of_shown_texts_is_right,
+    accepted_texts_are_shown, code_of_accepted_texts_is_right, code_of_meant_programs_is_right,
 };
