@@ -8,15 +8,13 @@ use Rattle.zpl_names.specs.Accepted.{HasTooManyNodes, HasTooManyStatements}
 use Rattle.zpl_binding.specs.Outcome.{BindFault}
 use Rattle.zpl_binding.specs.Bound.{HasBindFault}
 use Rattle.node_form.specs.Grid.{IsGrid}
-use Rattle.code_layout.specs.Room.{HasRoom}
 use Rattle.zpl_claims.specs.Build.{Build}
 use Rattle.zpl_compile.specs.Compilable.{IsCounted}
-use Rattle.zpl_compile.specs.Compile.{compiled}
 use Rattle.call_claims.specs.Accepted.{IsAccepted, IsAcceptedUnder}
 use Rattle.call_claims.specs.Refusal.{IsFault}
 use Rattle.call_claims.specs.Texts.{bad_shape_text, bind_name, settings_text}
 use Rattle.call_claims.specs.Texts.{too_much_storage_text, whole_text}
-use Rattle.list_claims.specs.Code.{HasNoProgram}
+use Rattle.list_claims.specs.Code.{HasNoProgram, IsTooMuchFor}
 
 -- ---- a text that is to be built
 -- It has no code, and this is told of it: it is faulty; or it isn't, nor are its settings, and it
@@ -33,7 +31,7 @@ pub data IsCodeless (text : List ℕ) (build : Build) : List ℕ → Type 0 wher
 -- Something is wrong with what it is built for, and this is told of it: the grid is none; or it is
 -- one, the text is accepted, and its settings, or its declarations under them, have a fault; or
 -- they have none, the program isn't too much to compile, and what the processors of the grid would
--- hold of the arrays in its compiled tables is.
+-- hold of its arrays is.
 pub data IsSetWrong (text : List ℕ) (build : Build) : List ℕ → Type 0 where
   bad_shape : ¬ IsGrid build.grid → IsSetWrong text build bad_shape_text
   declared : (program : Program) (fault : BindFault) → IsGrid build.grid
@@ -41,7 +39,7 @@ pub data IsSetWrong (text : List ℕ) (build : Build) : List ℕ → Type 0 wher
       → IsSetWrong text build (settings_text (bind_name fault))
   no_room : (program : Program) → IsGrid build.grid
       → IsAcceptedUnder text build.settings program → IsCounted program
-      → ¬ HasRoom (compiled build program)
+      → IsTooMuchFor build program
       → IsSetWrong text build too_much_storage_text
 
 -- The text has no program that is built so, and such a fault is told.

@@ -1,13 +1,13 @@
 -- Calls of `list` that have all that they need, and what they then answer.
 use Rattle.std.specs.Prelude.{◌≡◌, ℕ, List, Some}
 use Rattle.zpl_tree.specs.Syntax.{Program}
-use Rattle.node_form.specs.declared.tables.Tables.{Tables}
+use Rattle.zpl_compile.specs.Compile.{compiled}
 use Rattle.call_claims.specs.Call.{Call}
 use Rattle.call_claims.specs.Command.{Asked, build_of}
 use Rattle.call_claims.specs.Execution.{Execution}
 use Rattle.call_claims.specs.Source.{Source}
 use Rattle.call_claims.specs.declared.status.TheConstants.{DONE}
-use Rattle.list_claims.specs.Code.{IsAcceptedFor, IsCodeOf}
+use Rattle.list_claims.specs.Code.{IsAcceptedFor}
 
 -- The file tells a text that has a program for what the words ask for.
 pub record CanList (call : Call) (file : List ℕ) (asked : Asked) : Type 0 where
@@ -15,11 +15,8 @@ pub record CanList (call : Call) (file : List ℕ) (asked : Asked) : Type 0 wher
   pub program : Program
   pub accepted : IsAcceptedFor source.text (build_of asked) program
 
--- Code was made of the text, and all was done.
-pub record HasListed (call : Call) (file : List ℕ) (asked : Asked) (execution : Execution)
-    (status : ℕ) : Type 0 where
+-- What the program is compiled to was made, and all was done.
+pub record HasListed {call : Call} {file : List ℕ} {asked : Asked} (can : CanList call file asked)
+    (execution : Execution) (status : ℕ) : Type 0 where
   pub done : status ≡ DONE
-  pub source : Source call file
-  pub code : Tables
-  pub of_text : IsCodeOf source.text (build_of asked) code
-  pub made : execution.code ≡ Some code
+  pub made : execution.code ≡ Some (compiled (build_of asked) can.program)

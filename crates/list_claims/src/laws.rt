@@ -1,5 +1,7 @@
-//! The law of causes.
-ghost use Rattle.std.specs.Prelude.{ℕ, List};
+//! The laws of causes and of programs of texts.
+ghost use Rattle.std.specs.Prelude.{◌≡◌, ℕ, List};
+ghost use Rattle.zpl_tree.specs.Syntax.{Program};
+ghost use Rattle.call_claims.specs.Accepted.{IsAccepted};
 ghost use Rattle.call_claims.specs.Call.{call_of};
 ghost use Rattle.call_claims.specs.Command.{Asked, IsList};
 ghost use Rattle.call_claims.specs.Decided.{IsSettled};
@@ -9,6 +11,17 @@ ghost use Rattle.list_claims.specs.Decided.{IsExact};
 ghost use Rattle.list_claims.specs.Whole.{CanList, HasListed};
 
 use zpl_io::Files;
+use zpl_parse::texts_have_one_tree;
+use zpl_text::text_is_cut_one_way;
+
+/// A text has at most one program.
+pub fn texts_have_one_program()
+    ensures { (text : List ℕ) (program other : Program) → IsAccepted text program →
+        IsAccepted text other → program ≡ other }
+{
+    text_is_cut_one_way();
+    texts_have_one_tree();
+}
 
 /// A status that has its cause comes just where its own cause is, where memory wasn't wanting and
 /// no put failed; for some, where no fetch failed and the files tell one text a name.
@@ -19,14 +32,16 @@ pub fn list_statuses_are_exact<F: Files>()
         Cause call ran n told → IsExact call ran n }
 {}
 
-/// A call of `list` whose file tells an accepted program has listed it: code was made of the file's
-/// text, and the status is that of work that was done, where it has its cause, memory wasn't
+/// A call of `list` whose file tells an accepted program has listed it: what the program is compiled
+/// to was made, and the status is that of work that was done, where it has its cause, memory wasn't
 /// wanting, no put and no fetch failed, and the files tell one text a name.
 pub fn accepted_programs_are_listed<F: Files>()
     ensures { (files : F) (words : List (List ℕ)) (ran : Execution) (status : ℕ) (told : List ℕ) →
         let call = call_of words (F.tells files) (F.may_fail files)
         (F.may_fail_later files) in
         Cause call ran status told → IsSettled call status → (file : List ℕ) (asked : Asked) →
-        IsList words file asked → CanList call file asked →
-        HasListed call file asked ran status }
-{}
+        IsList words file asked → (can : CanList call file asked) →
+        HasListed can ran status }
+{
+    texts_have_one_program();
+}

@@ -7,4 +7,4 @@
 
 mod laws;
 
-pub use laws::{accepted_programs_are_listed, list_statuses_are_exact};
+pub use laws::{accepted_programs_are_listed, list_statuses_are_exact, texts_have_one_program};

@@ -17,7 +17,6 @@ use Rattle.list_claims.proofs.ProgramLemmas.{IsOther, fault_other, none_made, on
 use Rattle.list_claims.proofs.ProgramLemmas.{unbound_of, was_refused_in, was_too_long_in, was_unbound_in}
 use Rattle.call_claims.specs.Command.{Asked, IsRun, RunTakes, build_of}
 use Rattle.list_claims.specs.Code.{IsCodeOf}
-use Rattle.shown_texts.specs.Forms.{HasShownForms}
 use Rattle.call_claims.proofs.MetLemmas.{is_met}
 use Rattle.call_claims.proofs.OneLemmas.{as_asked}
 use Rattle.exec_claims.specs.Cause.{OrderCause, OrderFileCause, RunCause, run_of}
@@ -28,14 +27,14 @@ use Rattle.exec_claims.specs.Decided.{HasBadOrder, HasLongOrder, IsDoneAt, IsOne
 use Rattle.exec_claims.specs.Decided.{IsStuckOrIdleAt, IsTrapAt}
 use Rattle.exec_claims.specs.declared.status.TheConstants.{ORDER_REFUSED, STUCK}
 use Rattle.exec_claims.proofs.Exact.{order_file_cause, order_file_run, run_done, run_limit}
-use Rattle.exec_claims.proofs.Exact.{run_stuck, run_trap, told_done, told_limit, told_stuck}
+use Rattle.exec_claims.proofs.Exact.{run_stuck, run_trap, told_done, told_limit}
 use Rattle.exec_claims.proofs.Exact.{told_trap}
 use Rattle.exec_claims.proofs.RunStatus.{IsRunStatus, is_done, is_limit, is_stuck, is_trapped}
 use Rattle.exec_claims.proofs.OneCause.{IsOneFile, order_file_one}
 use Rattle.exec_claims.proofs.OrderExact.{bad_order_file, long_order, was_bad_order, was_long_order}
 use Rattle.run_claims.specs.Cause.{Cause, RunFileCause, Runs}
 use Rattle.run_claims.specs.Cause.Cause.{no_memory, run}
-use Rattle.run_claims.specs.Decided.{HasCodeOf, HasLongFile, IsCutShort, IsExact, IsStopped}
+use Rattle.run_claims.specs.Decided.{HasCodeOf, HasLongFile, IsCutShort, IsExact}
 use Rattle.run_claims.specs.Decided.{IsUnder}
 use Rattle.run_claims.proofs.CodeLemmas.{Laws, never_idle, never_stuck, too_few}
 
@@ -264,35 +263,30 @@ module _ (call : Call) (ex : Execution) where
       }
 
   module _ (laws : Laws) where
-    -- the code of a program with the forms that are proved is never stuck
+    -- code is never stuck
     goes_on : {text : List ℕ} {code : Tables} (asked : Asked)
-        → (of_text : IsCodeOf text (build_of asked) code) → HasShownForms of_text.program
-        → IsCapacity asked.links → IsUnder call asked ex.turns IsStuckOrIdleAt code → ⊥
-    goes_on asked of_text shown met u = elim u.holds [
-      | inl is ↦ never_stuck laws asked of_text shown met u.text u.order u.read ex.turns is.0 is.1 is.2
-      | inr is ↦ never_idle laws asked of_text shown met u.text u.order u.read ex.turns is.0 is.1
+        → IsCodeOf text (build_of asked) code → IsCapacity asked.links
+        → IsUnder call asked ex.turns IsStuckOrIdleAt code → ⊥
+    goes_on asked of_text met u = elim u.holds [
+      | inl is ↦ never_stuck laws asked of_text met u.text u.order u.read ex.turns is.0 is.1 is.2
+      | inr is ↦ never_idle laws asked of_text met u.text u.order u.read ex.turns is.0 is.1
     ]
 
-    stopped : (file : List ℕ) (asked : Asked) → IsRun call.words file asked
-        → Under IsStuckOrIdleAt file asked → IsStopped call file asked ex
-    stopped file asked given h = record {
-      of_code = h;
-      not_shown = λ shown. goes_on asked h.of_text shown (is_met given.worded).links h.holds;
-    }
-
-    stuck_of : {n : ℕ} {told : List ℕ} → Cause call ex n told → n ≡ STUCK
-        → Runs call (λ file asked. IsStopped call file asked ex)
-    stuck_of = from STUCK (λ file asked. IsStopped call file asked ex) (λ e. omega arith)
-        (λ file asked given c e. stopped file asked given
-        (run_to STUCK IsStuckOrIdleAt is_stuck (λ a report k m t. run_stuck a report k)
-        file asked c e))
+    never : {n : ℕ} {told : List ℕ} → Cause call ex n told → n ≢ STUCK
+    never cause e =
+        let r = from STUCK (λ file asked. ⊥) (λ e. omega arith)
+        (λ file asked given c e.
+        let h = run_to STUCK IsStuckOrIdleAt is_stuck (λ a report k m t. run_stuck a report k)
+        file asked c e in
+        goes_on asked h.of_text (is_met given.worded).links h.holds) cause e in
+        r.holds
 
     cut_short : (file : List ℕ) (asked : Asked)
         → IsRun call.words file asked → Under IsLimitedAt file asked
         → IsCutShort call file asked ex
     cut_short file asked given h = record {
       of_code = h;
-      too_few = λ shown. too_few laws asked h.of_text shown (is_met given.worded).links h.holds.text
+      too_few = too_few laws asked h.of_text (is_met given.worded).links h.holds.text
           h.holds.order h.holds.read ex.turns h.holds.holds;
     }
 
@@ -352,22 +346,17 @@ exactly call ex laws n told cause = record {
         (s.order file asked given) (λ e. omega arith) told_trap h) cause,
   );
   turn_limit = λ s. (
-    from call ex TURN_LIMIT (λ file asked. IsCutShort call file asked ex)
-        (λ e. omega arith)
-        (λ file asked given c e. cut_short call ex laws file asked given
-        (run_to call ex TURN_LIMIT IsLimitedAt is_limit (λ a report k m t. run_limit a report k)
-        file asked c e)) cause,
-    back call ex TURN_LIMIT (λ file asked. IsCutShort call file asked ex)
-        s.decided
-        (λ file asked given c h. file_was call ex file asked TURN_LIMIT
-        IsLimitedAt c (s.order file asked given) (λ e. omega arith) told_limit h.of_code)
-        cause,
+    from call ex TURN_LIMIT (Under call ex IsLimitedAt) (λ e. omega arith)
+        (λ file asked given c e. run_to call ex TURN_LIMIT IsLimitedAt is_limit
+        (λ a report k m t. run_limit a report k) file asked c e) cause,
+    back call ex TURN_LIMIT (Under call ex IsLimitedAt) s.decided
+        (λ file asked given c h. file_was call ex file asked TURN_LIMIT IsLimitedAt c
+        (s.order file asked given) (λ e. omega arith) told_limit h) cause,
   );
-  stuck = λ s. (
-    stuck_of call ex laws cause,
-    back call ex STUCK (λ file asked. IsStopped call file asked ex) s.decided
-        (λ file asked given c h. file_was call ex file asked STUCK IsStuckOrIdleAt c
-        (s.order file asked given) (λ e. omega arith) told_stuck h.of_code) cause,
-  );
-  never_stuck = stuck_of call ex laws cause;
+  too_few = from call ex TURN_LIMIT (λ file asked. IsCutShort call file asked ex)
+      (λ e. omega arith)
+      (λ file asked given c e. cut_short call ex laws file asked given
+      (run_to call ex TURN_LIMIT IsLimitedAt is_limit (λ a report k m t. run_limit a report k)
+      file asked c e)) cause;
+  never_stuck = never call ex laws cause;
 }

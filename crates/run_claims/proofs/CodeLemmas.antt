@@ -15,7 +15,6 @@ use Rattle.grid_meaning.specs.Order.{IsOrder, given, turn_number}
 use Rattle.grid_order.specs.Reading.{reading}
 use Rattle.grid_runs.specs.Run.{grid_at, IsIdleAt, IsLimitedAt, IsStuckAt}
 use Rattle.list_claims.specs.Code.{IsCodeOf, origin_for}
-use Rattle.shown_texts.specs.Forms.{HasShownForms}
 use Rattle.needs_runs.proofs.HoldsLemmas.{some_processors}
 use Rattle.call_claims.specs.Command.{Asked, build_of, limit_of}
 use Rattle.exec_claims.specs.Cause.{run_of}
@@ -78,11 +77,11 @@ many_enough None = tt
 many_enough (Some capacity) = omega arith
 
 module _ (laws : Laws) {text : List ℕ} {code : Tables} (asked : Asked)
-    (of_text : IsCodeOf text (build_of asked) code) (shown : HasShownForms of_text.program)
+    (of_text : IsCodeOf text (build_of asked) code)
     (capacity : IsCapacity asked.links) (more : List ℕ) (order : List ℕ)
     (read : reading (processors code) more ≡ Ok order) where
   faithful : IsFaithful (origin_for of_text.accepted) code
-  faithful = of_text.faithful shown
+  faithful = of_text.right.faithful
 
   built_for : IsBuiltFor (build_of asked) asked.links
   built_for = (capacity, λ early. many_enough asked.links)

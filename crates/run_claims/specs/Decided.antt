@@ -4,7 +4,6 @@
 --   HasCodeOf         code was made of the file's text
 --   IsUnder           it was run under the order that the words ask for
 --   IsTooFew          fewer turns than the bound on those of the code, wherever the meaning ends
---   IsStopped         the code is stuck, or none of its processors moves
 --   IsExact           each status comes just where its own cause is
 use Rattle.std.specs.Prelude.{◌≡◌, ◌≢◌, ◌⊎◌, ◌↔◌, ℕ, ◌<◌, List, Some, Ok}
 use Rattle.zpl_nums.specs.declared.ends.End.TheVariants.{More}
@@ -22,14 +21,13 @@ use Rattle.list_claims.specs.Decided.{HasNoProgramIn, HasUnboundIn}
 use Rattle.call_claims.specs.Decided.{IsDecided, IsSettled}
 use Rattle.call_claims.specs.Execution.{Execution}
 use Rattle.list_claims.specs.Code.{IsCodeOf}
-use Rattle.shown_texts.specs.Forms.{HasShownForms}
 use Rattle.call_claims.specs.Source.{Source}
 use Rattle.call_claims.specs.declared.status.TheConstants.{DONE, TOO_LONG, REFUSED}
 use Rattle.call_claims.specs.declared.status.TheConstants.{UNBOUND, TRAPPED, TURN_LIMIT}
 use Rattle.call_claims.specs.Command.{Asked, IsRun, build_of, limit_of}
 use Rattle.exec_claims.specs.Cause.{run_of}
 use Rattle.exec_claims.specs.Decided.{HasBadOrder, HasLongOrder, IsDoneAt, IsOneOrder, IsOrderText}
-use Rattle.exec_claims.specs.Decided.{IsStuckOrIdleAt, IsTrapAt}
+use Rattle.exec_claims.specs.Decided.{IsTrapAt}
 use Rattle.exec_claims.specs.declared.status.TheConstants.{ORDER_REFUSED, STUCK}
 use Rattle.run_claims.specs.Cause.{Runs}
 
@@ -78,29 +76,20 @@ abbrev pub IsTooFew : ℕ → Tables → (ℕ → Meaning) → (ℕ → ℕ) →
 IsTooFew limit code mean steps loops =
     (n : ℕ) → (mean n).ending ≢ More → limit < turn_bound code steps loops n
 
--- so where the statements of the code's program are of the forms that are proved
+-- so of the code's program
 abbrev pub IsTooFewFor : {text : List ℕ} {build : Build} {code : Tables} → ℕ
     → IsCodeOf text build code → Type 0
 IsTooFewFor {build = build} {code = code} limit of_text =
-    HasShownForms of_text.program → IsTooFew limit code (mean_of of_text.program build.settings)
+    IsTooFew limit code (mean_of of_text.program build.settings)
     (steps_of of_text.program build.settings) (shattered_loops of_text.program)
 
 -- 8: all turns of the order, and all that may follow it, were given, and the run isn't over. Those
--- that may follow are fewer than the bound wherever the meaning ends, where the forms of the
--- program's statements are proved.
+-- that may follow are fewer than the bound wherever the meaning ends.
 pub record IsCutShort (call : Call) (file : List ℕ) (asked : Asked) (execution : Execution)
     : Type 0 where
   pub of_code : HasCodeOf call file (build_of asked) execution
       (IsUnder call asked execution.turns IsLimitedAt)
   pub too_few : IsTooFewFor (limit_of asked) of_code.of_text
-
--- ---- 12: a processor is stuck, or none can move
--- The code is that of a program whose statements aren't all of the forms that are proved.
-pub record IsStopped (call : Call) (file : List ℕ) (asked : Asked) (execution : Execution)
-    : Type 0 where
-  pub of_code : HasCodeOf call file (build_of asked) execution
-      (IsUnder call asked execution.turns IsStuckOrIdleAt)
-  pub not_shown : ¬ HasShownForms of_code.of_text.program
 
 -- ---- 3: the program's file is too long, or that of the order, where code was made
 abbrev pub HasLongFile : Call → List ℕ → Asked → Execution → Type 0
@@ -122,10 +111,9 @@ pub record IsExact (call : Call) (execution : Execution) (status : ℕ) : Type 0
   pub done : IsRunSettled call status → (status ≡ DONE) ↔ RunsTo call execution IsDoneAt
   pub trap : IsRunSettled call status → (status ≡ TRAPPED) ↔ RunsTo call execution IsTrapAt
   pub turn_limit : IsRunSettled call status
-      → (status ≡ TURN_LIMIT) ↔ Runs call (λ file asked. IsCutShort call file asked execution)
-  -- 12 never comes of a program whose statements are of the forms that are proved: its code goes on
-  -- until it is over.
-  pub stuck : IsRunSettled call status
-      → (status ≡ STUCK) ↔ Runs call (λ file asked. IsStopped call file asked execution)
-  pub never_stuck : status ≡ STUCK
-      → Runs call (λ file asked. IsStopped call file asked execution)
+      → (status ≡ TURN_LIMIT) ↔ RunsTo call execution IsLimitedAt
+  -- then the turns were too few
+  pub too_few : status ≡ TURN_LIMIT
+      → Runs call (λ file asked. IsCutShort call file asked execution)
+  -- 12 never comes: the code goes on until it is over.
+  pub never_stuck : status ≢ STUCK

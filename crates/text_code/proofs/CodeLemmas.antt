@@ -1,6 +1,7 @@
 -- From the parts of the compilers to code of a text.
-use Rattle.std.proofs.Common.{◌≡◌, ◌↔◌, ℕ, Bool, true, false, IsTrue, ◌≤◌, List, [], length, Option, Result, Ok, Err}
-use Rattle.std.proofs.Common.{IfErr, IsErrAnd, sym, ◌∙◌, subst}
+use Rattle.std.proofs.Common.{◌≡◌, ◌↔◌, ℕ, Bool, true, false, IsTrue, ◌≤◌, List, length, Option, Result, Ok, Err}
+use Rattle.std.proofs.Common.{IfErr, IsErrAnd, sym, ap, ◌∙◌, subst, inl, inr, arith}
+use Rattle.std.proofs.lemmas.Bool.{cases_lt}
 use Rattle.zpl_text.specs.declared.tokens.Token.{Token}
 use Rattle.zpl_text.specs.Tokens.{IsTokens}
 use Rattle.zpl_tree.specs.Grammar.{IsProgram}
@@ -9,10 +10,14 @@ use Rattle.zpl_text.specs.declared.TheConstants.{MOST_SOURCE}
 use Rattle.zpl_grammar.specs.Texts.{IsShallowTree}
 use Rattle.node_form.specs.declared.tables.Tables.{Tables}
 use Rattle.zpl_claims.specs.Build.{Build}
-use Rattle.zpl_claims.specs.Compiled.{IsFaithful}
-use Rattle.zpl_claims.specs.Tidy.{IsLean, IsTidy}
+use Rattle.grid_layout.specs.declared.boxes.ArrayBox.{ArrayBox}
+use Rattle.grid_layout.specs.Words.{words_of}
+use Rattle.grid_meaning.specs.Stored.{arrangement_of}
+use Rattle.zpl_claims.specs.Boxes.{HasTooMuchStorage, most_words}
+use Rattle.zpl_claims.specs.Compiled.{IsCompiled}
+use Rattle.zpl_claims.specs.Tidy.{IsTidy}
 use Rattle.zpl_claims.specs.declared.options.Options.{Options}
-use Rattle.zpl_claims.specs.Origin.{origin_of}
+use Rattle.zpl_claims.specs.Origin.{Origin, origin_of}
 use Rattle.zpl_binding.specs.Bound.{HasBindFault}
 use Rattle.zpl_binding.specs.Settings.{Setting}
 use Rattle.node_form.specs.Grid.{IsGrid}
@@ -20,12 +25,10 @@ use Rattle.call_claims.specs.Refusal.{IsFault}
 use Rattle.list_claims.specs.Refusal.{IsCodeless, IsRefusal, IsSetWrong}
 use Rattle.list_claims.specs.Refusal.IsCodeless.{faulty, many_nodes, many_statements}
 use Rattle.list_claims.specs.Refusal.IsSetWrong.{bad_shape, declared, no_room}
-use Rattle.list_claims.specs.Code.{HasNoProgram, IsCodeOf}
+use Rattle.list_claims.specs.Code.{HasNoProgram, IsCodeOf, IsTooMuchFor}
 use Rattle.compiled_tidy.specs.Accepted.{IsAcceptedText}
-use Rattle.compiled_tidy.specs.Lowered.{IsLaidTidily}
-use Rattle.shown_texts.specs.Forms.{HasShownForms}
 use Rattle.call_claims.specs.Accepted.{IsAccepted, IsAcceptedUnder, IsFaulty}
-use Rattle.zpl_compile.specs.Compilable.{IsCompilable, IsCompiledTo, IsCounted}
+use Rattle.zpl_compile.specs.Compilable.{IsCompiledTo, IsCounted}
 use Rattle.program_code.specs.Outcome.{IsUncompiled}
 use Rattle.zpl_compile.specs.Compile.{compiled}
 use Rattle.program_code.specs.declared.faults.CompileFault.{CompileFault}
@@ -45,31 +48,25 @@ abbrev pub OneWay : Type 0
 OneWay = (text : List ℕ) (tokens others : List Token) → IsTokens text tokens → IsTokens text others
     → tokens ≡ others
 
--- the code that the program of a text is compiled to is faithful, where its forms are proved
-abbrev pub AreFaithful : Type 0
-AreFaithful = (text : List ℕ) (tokens : List Token) (program : Program) (build : Build)
-    → IsAcceptedText text tokens program build → IsGrid build.grid → HasShownForms program
-    → IsFaithful (origin_of build program (length tokens)) (compiled build program)
+-- ---- what processors hold of the arrays in code is what they hold of the program's
+words_are : (origin : Origin) (code : Tables) → IsTidy origin code → words_of (arrangement_of code)
+    ≡ words_of (record { grid = origin.build.grid; boxes = origin.boxes })
+words_are origin code tidy =
+    ap (λ (grid : List ℕ). words_of (record { grid = grid; boxes = (arrangement_of code).boxes }))
+    tidy.lean.grid
+    ∙ ap (λ (boxes : List ArrayBox). words_of (record { grid = origin.build.grid; boxes = boxes }))
+    tidy.boxes
 
--- it is lean
-abbrev pub AreLean : Type 0
-AreLean = (text : List ℕ) (tokens : List Token) (program : Program) (build : Build)
-    → IsAcceptedText text tokens program build
-    → IsLean (origin_of build program (length tokens)) (compiled build program)
+has_room : (origin : Origin) (code : Tables) → IsTidy origin code → HasRoom code
+    → ¬ HasTooMuchStorage origin.build.grid origin.boxes
+has_room origin code tidy room much = omega (arith, words_are origin code tidy, room, much)
 
--- and tidy, where it is laid out so
-abbrev pub AreTidy : Type 0
-AreTidy = (text : List ℕ) (tokens : List Token) (program : Program) (build : Build)
-    → IsAcceptedText text tokens program build
-    → IsLaidTidily (origin_of build program (length tokens))
-    → IsTidy (origin_of build program (length tokens)) (compiled build program)
-
--- and where it stores no arrays and joins no loops
-abbrev pub AreBare : Type 0
-AreBare = (text : List ℕ) (tokens : List Token) (program : Program) (build : Build)
-    → IsAcceptedText text tokens program build
-    → (origin_of build program (length tokens)).boxes ≡ [] → build.options.fuse ≡ false
-    → IsTidy (origin_of build program (length tokens)) (compiled build program)
+lacks_room : (origin : Origin) (code : Tables) → IsTidy origin code → ¬ HasRoom code
+    → HasTooMuchStorage origin.build.grid origin.boxes
+lacks_room origin code tidy lacks = elim (cases_lt most_words (words_of (arrangement_of code))) [
+  | inl less ↦ omega (arith, words_are origin code tidy, less)
+  | inr within ↦ absurd (lacks within)
+]
 
 -- ---- refusals of a text, for a grid
 module _ (text : List ℕ) (build : Build) (grid : IsGrid build.grid) where
@@ -135,8 +132,10 @@ module _ (text : List ℕ) (build : Build) (grid : IsGrid build.grid) where
   module _ (program : Program)
       (under : IsAcceptedUnder text build.settings program)
       (only : (other : Program) → IsAccepted text other → program ≡ other) where
-    -- the code is what it is compiled to
-    accepted_text : IsAcceptedText text under.accepted.tokens program build
+    abbrev origin : Origin
+    origin = origin_of build program (length under.accepted.tokens)
+
+    pub accepted_text : IsAcceptedText text under.accepted.tokens program build
     accepted_text = record {
       are_tokens = under.accepted.of_text;
       tree = under.accepted.tree.tree;
@@ -144,70 +143,68 @@ module _ (text : List ℕ) (build : Build) (grid : IsGrid build.grid) where
       accepts = under.bound;
     }
 
-    pub compiled_is : AreFaithful → AreLean → AreTidy → AreBare → (code : Tables) → IsCompiledTo build program code
-        → IsCodeOf text build code
-    compiled_is faithful lean tidy bare code is = record {
-      program = program;
-      accepted = record { under = under; grid = grid; can = is.can };
-      compiled = is;
-      lean = subst (IsLean (origin_of build program (length under.accepted.tokens))) (sym is.is)
-          (lean text under.accepted.tokens program build accepted_text);
-      faithful = λ shown. subst
-          (IsFaithful (origin_of build program (length under.accepted.tokens))) (sym is.is)
-          (faithful text under.accepted.tokens program build accepted_text grid shown);
-      tidy = λ laid. subst
-          (IsTidy (origin_of build program (length under.accepted.tokens))) (sym is.is)
-          (tidy text under.accepted.tokens program build accepted_text laid);
-      without_arrays = λ empty off. subst
-          (IsTidy (origin_of build program (length under.accepted.tokens))) (sym is.is)
-          (bare text under.accepted.tokens program build accepted_text empty off);
-    }
+    module _ (right : IsCompiled origin (compiled build program)) where
+      -- the code is what it is compiled to
+      pub compiled_is : (code : Tables) → IsCompiledTo build program code → IsCodeOf text build code
+      compiled_is code made = record {
+        program = program;
+        accepted = record {
+          under = under;
+          grid = grid;
+          counted = made.can.counted;
+          room = has_room origin (compiled build program) right.tidy made.can.room;
+        };
+        is = made.is;
+        right = subst (IsCompiled origin) (sym made.is) right;
+      }
 
-    -- or it can't be compiled
-    none_built : ¬ IsCompilable build program → HasNoProgram text build
-    none_built cannot other is =
-        cannot (subst (IsCompilable build) (sym (only other is.under.accepted)) is.can)
+      -- or it can't be compiled
+      none_built : ¬ (IsCounted program × (¬ IsTooMuchFor build program)) → HasNoProgram text build
+      none_built cannot other is =
+          cannot (subst (λ p. IsCounted p × (¬ IsTooMuchFor build p))
+          (sym (only other is.under.accepted)) (is.counted, is.room))
 
-    -- for want of room alone it isn't told that something is wrong with what it is built for
-    abbrev LacksRoom : Program → Type 0
-    LacksRoom p = IsCounted p × (¬ HasRoom (compiled build p))
+      -- for want of room alone it isn't told that something is wrong with what it is built for
+      abbrev LacksRoom : Program → Type 0
+      LacksRoom p = IsCounted p × IsTooMuchFor build p
 
-    set_right : {told : List ℕ} → ¬ LacksRoom program → ¬ IsSetWrong text build told
-    set_right has (bad_shape bad) = bad grid
-    set_right has (declared other fault good accepted holds) =
-        under.bound fault (subst (λ p. HasBindFault p build.settings fault)
-        (sym (only other accepted)) holds)
-    set_right has (no_room other good also counted room) =
-        has (subst LacksRoom (sym (only other also.accepted)) (counted, room))
+      set_right : {told : List ℕ} → ¬ LacksRoom program → ¬ IsSetWrong text build told
+      set_right has (bad_shape bad) = bad grid
+      set_right has (declared other fault good accepted holds) =
+          under.bound fault (subst (λ p. HasBindFault p build.settings fault)
+          (sym (only other accepted)) holds)
+      set_right has (no_room other good also counted much) =
+          has (subst LacksRoom (sym (only other also.accepted)) (counted, much))
 
-    refused_for : {told : List ℕ} → ¬ IsCompilable build program → ¬ LacksRoom program
-        → IsCodeless text build told → IsRefusal text build told
-    refused_for cannot has why = record {
-      none = none_built cannot;
-      not_unbound = λ unbound. set_right has unbound.1.wrong;
-      fault = why;
-    }
+      refused_for : {told : List ℕ} → ¬ IsCounted program → IsCodeless text build told
+          → IsRefusal text build told
+      refused_for uncounted why = record {
+        none = none_built (λ can. uncounted can.0);
+        not_unbound = λ unbound. set_right (λ lacks. uncounted lacks.0) unbound.1.wrong;
+        fault = why;
+      }
 
-    pub uncompiled_refuses : (fault : CompileFault) → IsUncompiled build program fault
-        → Refuses text build (of_compile fault)
-    uncompiled_refuses compile.TooManyStatements many =
-        refused_for (λ can. can.counted.statements many) (λ lacks. lacks.0.statements many)
-        (many_statements program under many)
-    uncompiled_refuses compile.TooManyNodes many =
-        refused_for (λ can. can.counted.nodes many.1) (λ lacks. lacks.0.nodes many.1)
-        (many_nodes program under many.0 many.1)
-    uncompiled_refuses compile.TooMuchStorage is = record {
-      none = none_built (λ can. is.1 can.room);
-      wrong = no_room program grid under is.0 is.1;
-    }
-    uncompiled_refuses compile.NoMemory is = tt
+      pub uncompiled_refuses : (fault : CompileFault) → IsUncompiled build program fault
+          → Refuses text build (of_compile fault)
+      uncompiled_refuses compile.TooManyStatements many =
+          refused_for (λ counted. counted.statements many) (many_statements program under many)
+      uncompiled_refuses compile.TooManyNodes many =
+          refused_for (λ counted. counted.nodes many.1)
+          (many_nodes program under many.0 many.1)
+      uncompiled_refuses compile.TooMuchStorage is =
+          let much = lacks_room origin (compiled build program) right.tidy is.1 in
+          record {
+            none = none_built (λ can. can.1 much);
+            wrong = no_room program grid under is.0 much;
+          }
+      uncompiled_refuses compile.NoMemory is = tt
 
-    pub fault_passed_on : {A : Type 0} (r : Result A Uncoded) (fault : CompileFault)
-        → IsErrAnd r (λ f. f ≡ of_compile fault) → IsUncompiled build program fault
-        → IfErr r (Refuses text build)
-    fault_passed_on (Ok v) fault is h = tt
-    fault_passed_on (Err f) fault is h =
-        subst (Refuses text build) (sym is) (uncompiled_refuses fault h)
+      pub fault_passed_on : {A : Type 0} (r : Result A Uncoded) (fault : CompileFault)
+          → IsErrAnd r (λ f. f ≡ of_compile fault) → IsUncompiled build program fault
+          → IfErr r (Refuses text build)
+      fault_passed_on (Ok v) fault is h = tt
+      fault_passed_on (Err f) fault is h =
+          subst (Refuses text build) (sym is) (uncompiled_refuses fault h)
 
   pub rejection_passed_on : {A : Type 0} (one : (program other : Program)
       → IsAccepted text program → IsAccepted text other → program ≡ other)

@@ -18,11 +18,10 @@ use bound_texts::{accepted_tree, tokens_of, tree_of};
 use bumpalo::Bump;
 use call_answers::{Answer, BuildFault, Refusal};
 use call_words::Asked;
-use compiled_tidy::accepted_code_is_tidy;
 use lowered_flat::parsed_names_stand_apart;
 use node_form::{NodeProgram, is_grid};
 use program_code::{Build, CompileFault, compile as compile_program};
-use right_code::code_of_shown_texts_is_right;
+use right_code::code_of_accepted_texts_is_right;
 use std::alloc::{AllocError, Global};
 use zpl_text::{Token, text_is_cut_one_way};
 use zpl_tree::Program;
@@ -120,8 +119,7 @@ fn code_of_tree<'a>(
 {
     text_is_cut_one_way();
     parsed_names_stand_apart();
-    code_of_shown_texts_is_right();
-    accepted_code_is_tidy();
+    code_of_accepted_texts_is_right();
     let found = accepted_tree(alloc, arena, text, tokens, program, asked.words)?;
     let build = Build {
         grid: asked.factors(),

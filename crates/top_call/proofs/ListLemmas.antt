@@ -1,5 +1,5 @@
 -- The cause of the answer of a listing, and what out took.
-use Rattle.std.proofs.Common.{◌≡◌, ◌≢◌, ◌⊎◌, ℕ, List, Some, None, refl, sym, ◌∙◌, ap}
+use Rattle.std.proofs.Common.{◌≡◌, ◌≢◌, ◌⊎◌, ℕ, List, Some, None, sym, ◌∙◌, ap}
 use Rattle.std.proofs.Common.{subst, inl, inr, arith}
 use Rattle.zpl_io.specs.Sink.{Takes, TakesFront}
 use Rattle.node_form.specs.declared.tables.Tables.{Tables}
@@ -11,7 +11,7 @@ use Rattle.call_claims.specs.Cause.FileCause.{work as of_text}
 use Rattle.list_claims.specs.Cause.IsListed.{listed}
 use Rattle.call_claims.specs.Command.{Asked, build_of}
 use Rattle.call_claims.specs.Decided.{IsDecided}
-use Rattle.call_claims.specs.Execution.{HasNoRun}
+use Rattle.call_claims.specs.Execution.{Execution, HasNoRun}
 use Rattle.list_claims.specs.Listing.{IsMadeOf, TakesListing, TakesListingFront}
 use Rattle.call_claims.specs.Stream.{Stream}
 use Rattle.call_claims.specs.declared.status.TheConstants.{DONE, PUT_FAILED, UNREADABLE}
@@ -63,6 +63,15 @@ pub listing_taken : (work : Work) (code : Tables) (before after : List ℕ → T
     → TakesListing (execution_in work) before after
 listing_taken work code before after is takes =
     record { code = code; made = is; takes = takes }
+
+-- that of code which was made
+pub listing_of_made : (execution : Execution) (code : Tables) (before after : List ℕ → Type 0)
+    → execution.code ≡ Some code → TakesListing execution before after
+    → Takes before (listing_of code) after
+listing_of_made execution code before after is t =
+    let made : Some t.code ≡ Some code = sym t.made ∙ is in
+    let same : t.code ≡ code = cc in
+    subst (λ (c : Tables). Takes before (listing_of c) after) same t.takes
 
 pub listing_cut : (work : Work) (code : Tables) (before after : List ℕ → Type 0)
     → work.code ≡ Some code → TakesFront before (listing_of code) after

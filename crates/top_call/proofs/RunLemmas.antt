@@ -1,5 +1,5 @@
 -- From the work on the code of a program to what is said of a `run`.
-use Rattle.std.proofs.Common.{◌≡◌, ◌≢◌, ℕ, List, Some, None, MatchOption}
+use Rattle.std.proofs.Common.{◌≡◌, ◌≢◌, ℕ, List, Some, MatchOption}
 use Rattle.std.proofs.Common.{sym, ap, subst, inl, inr}
 use Rattle.node_form.specs.declared.tables.Tables.{Tables}
 use Rattle.call_claims.specs.Call.{Call}

@@ -9,7 +9,11 @@ use Rattle.call_claims.specs.Answer.{IsAnswered, IsHalfAnswered}
 use Rattle.call_claims.specs.Call.{Call}
 use Rattle.list_claims.specs.Cause.{Cause, Lists}
 use Rattle.call_claims.specs.Command.{Asked, IsExec, IsGen, IsList, IsMean, IsRun, IsTime, build_of}
+use Rattle.call_claims.specs.Decided.{IsSettled}
 use Rattle.list_claims.specs.Decided.{IsExact}
+use Rattle.list_claims.specs.Whole.{CanList, HasListed}
+use Rattle.listing_rows.specs.Listing.{listing_of}
+use Rattle.zpl_compile.specs.Compile.{compiled}
 use Rattle.call_claims.specs.Execution.{execution_of, HasNoCounts}
 use Rattle.list_claims.specs.Listing.{IsMadeOf, TakesListingFront}
 use Rattle.list_claims.specs.Listing.{TakesOutput}
@@ -19,6 +23,7 @@ use Rattle.call_claims.specs.declared.status.TheConstants.{PUT_FAILED, USAGE}
 use Rattle.run_claims.specs.Answer.{IsMadeFor, IsOutputCut, TakesPrinted}
 use Rattle.run_claims.specs.Cause as ran
 use Rattle.run_claims.specs.Decided.{IsExact as IsRunExact}
+use Rattle.run_claims.specs.Whole.{CanFinish, HasFinished, meant_by}
 
 -- ---- words
 abbrev pub AsksList : List (List ℕ) → Type 0
@@ -42,11 +47,10 @@ AsksGen words = (n : ℕ) × (asked : Asked) × IsGen words n asked
 -- ---- run
 pub record IsRan (call : Call) (answered : Ran) (out errs : Stream) : Type 0 where
   -- The code is made of the text that the file of the words tells, for the build that they ask for.
-  -- It is what the program is compiled to, and lean. Where the program's statements are of the forms
-  -- that are proved, it is over all links that it is for right after every order of turns, some order
-  -- brings it in step to each bound of the meaning, and it comes to its end in time; and it is tidy
-  -- where it is laid out tidily. It was not run, or it was under the order that the words ask for, and
-  -- the counts are those of the grid after the given turns, before which it is neither over nor idle.
+  -- It is what the program is compiled to: over all links that it is for it is right after every
+  -- order of turns, some order brings it in step to each bound of the meaning, and it comes to its end
+  -- in time; and it is tidy. It was not run, or it was under the order that the words ask for, and the
+  -- counts are those of the grid after the given turns, before which it is neither over nor idle.
   pub code : MatchOption answered.code (HasNoCounts answered) (IsMadeFor call answered)
   -- Out took what that grid has printed.
   pub output : answered.status ≢ PUT_FAILED
@@ -55,10 +59,16 @@ pub record IsRan (call : Call) (answered : Ran) (out errs : Stream) : Type 0 whe
   -- behind it.
   pub cause : answered.status ≢ PUT_FAILED
       → IsAnswered (ran.Cause call (execution_of answered)) answered.status errs.before errs.after
-  -- When each status comes. That a processor is stuck, or that none can move, never comes of a small
-  -- program.
+  -- When each status comes. That a processor is stuck, or that none can move, never comes.
   pub exact : answered.status ≢ PUT_FAILED
       → IsRunExact call (execution_of answered) answered.status
+  -- Where the file tells an accepted program, and the turns are enough for it under the order that
+  -- the words ask for, the run is over, and out took just what the program means; unless memory was
+  -- wanting, or a put or a fetch failed.
+  pub finished : IsSettled call answered.status → (file : List ℕ) (asked : Asked)
+      → IsRun call.words file asked → (n : ℕ) (can : CanFinish call file asked n)
+      → HasFinished can (execution_of answered) answered.status
+      × Takes out.before (meant_by can).bytes out.after
   -- A put failed: one of out, and errs took nothing, or one of errs, once out had taken all.
   pub put_failed : answered.status ≡ PUT_FAILED
       → (IsOutputCut call answered out.before out.after
@@ -82,6 +92,12 @@ pub record IsListed (call : Call) (answered : Ran) (out errs : Stream) : Type 0 
       → IsAnswered (Cause call (execution_of answered)) answered.status errs.before errs.after
   -- When each status comes.
   pub exact : answered.status ≢ PUT_FAILED → IsExact call (execution_of answered) answered.status
+  -- Where the file tells an accepted program, out took the listing of what it is compiled to, and all
+  -- was done; unless memory was wanting, or a put or a fetch failed.
+  pub listed : IsSettled call answered.status → (file : List ℕ) (asked : Asked)
+      → IsList call.words file asked → (can : CanList call file asked)
+      → HasListed can (execution_of answered) answered.status
+      × Takes out.before (listing_of (compiled (build_of asked) can.program)) out.after
   -- A put failed: one of out, which took a front of the listing, and errs took nothing; or one of
   -- errs. Of a listing that was put nothing is told, so that out took none then.
   pub put_failed : answered.status ≡ PUT_FAILED

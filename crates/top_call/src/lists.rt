@@ -21,7 +21,7 @@ use crate::fetches::code_of_file;
 use call_answers::{Answer, Stop, Work, answered};
 use call_claims::Ran;
 use call_words::FileCommand;
-use list_claims::list_statuses_are_exact;
+use list_claims::{accepted_programs_are_listed, list_statuses_are_exact};
 use listing_rows::write_listing;
 use node_form::NodeProgram;
 use std::alloc::Global;
@@ -64,6 +64,7 @@ pub fn list<F: Files, O: Sink, E: Sink>(
         (E.has_failed errs.old) (E.has_failed errs.new) (errs.new ≡ errs.old) }
 {
     list_statuses_are_exact::<F>();
+    accepted_programs_are_listed::<F>();
     let work = list_file(alloc, command, files, out);
     answered(alloc, work, errs)
 }

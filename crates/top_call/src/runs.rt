@@ -21,7 +21,7 @@ use call_answers::{Answer, Work, answered};
 use call_claims::Ran;
 use call_words::FileCommand;
 use grid_call::run_code;
-use run_claims::run_causes_are_exact;
+use run_claims::{run_causes_are_exact, runs_print_what_is_meant};
 use std::alloc::Global;
 use zpl_io::{Files, Sink};
 
@@ -63,6 +63,7 @@ pub fn run<F: Files, O: Sink, E: Sink>(
         (E.has_failed errs.old) (E.has_failed errs.new) (errs.new ≡ errs.old) }
 {
     run_causes_are_exact::<F>();
+    runs_print_what_is_meant::<F, O>();
     let work = work_for(alloc, command, files, out);
     answered(alloc, work, errs)
 }

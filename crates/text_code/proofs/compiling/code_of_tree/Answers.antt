@@ -1,12 +1,14 @@
-use Rattle.std.proofs.Common.{sym, subst}
+use Rattle.std.proofs.Common.{◌≡◌, sym, subst}
+use Rattle.zpl_tree.specs.Syntax.{Program}
 use Rattle.zpl_tree.specs.View.{syntax_of}
 use Rattle.code_layout.specs.Room.{HasRoom}
 use Rattle.zpl_compile.specs.Compilable.{IsCompiledTo}
 use Rattle.program_code.specs.Outcome.{IsUncompiled}
+use Rattle.call_claims.specs.Accepted.{IsAccepted, IsAcceptedUnder}
 use Rattle.call_claims.specs.Command.{build_of}
 use Rattle.call_words.specs.Reading.{asked_in}
 use Rattle.bound_texts.specs.Accepted.{program_of}
-use Rattle.text_code.proofs.CodeLemmas.{compiled_is, fault_passed_on, one_accepted}
+use Rattle.text_code.proofs.CodeLemmas.{accepted_text, compiled_is, fault_passed_on, one_accepted}
 use Rattle.text_code.proofs.CodeLemmas.{rejection_passed_on, with_parts}
 use Rattle.text_code.proofs.compiling.code_of_tree.Goals as goal
 
@@ -31,11 +33,16 @@ returns-in_err-code-clause-refused c =
     let found = c.in_ok-found.ensures {u = tt} in
     let program = program_of c.in_ok-found.found in
     let fault = c.in_err-code.field-0.0 in
-    fault_passed_on text (build_of asked) c.requires.grid program
-    (record { accepted = found.accepted; bound = found.with_settings })
-    (λ other is. one_accepted text c.args.tokens.now (syntax_of c.args.program.now)
+    let under : IsAcceptedUnder text (build_of asked).settings program =
+    record { accepted = found.accepted; bound = found.with_settings } in
+    let only : (other : Program) → IsAccepted text other → program ≡ other = λ other is.
+    one_accepted text c.args.tokens.now (syntax_of c.args.program.now)
     c.text_is_cut_one_way.ensures.tokens c.requires.tokens c.requires.only program other
-    found.accepted is)
+    found.accepted is in
+    fault_passed_on text (build_of asked) c.requires.grid program
+    under only
+    (c.code_of_accepted_texts_is_right.ensures text found.accepted.tokens program (build_of asked)
+    (accepted_text text (build_of asked) c.requires.grid program under only) c.requires.grid)
     c.from_residual-in_err-code.result fault c.from_residual-in_err-code.ensures.1
     (with_parts (λ build. IsUncompiled build program fault) c.factors.result _ c.chosen.result _
     asked.links asked.settings c.factors.ensures c.chosen.ensures
@@ -48,13 +55,16 @@ returns-clause-code c =
     let found = c.in_ok-found.ensures {u = tt} in
     let program = program_of c.in_ok-found.found in
     let code = c.in_ok-code.code in
-    compiled_is text (build_of asked) c.requires.grid program
-    (record { accepted = found.accepted; bound = found.with_settings })
-    (λ other is. one_accepted text c.args.tokens.now (syntax_of c.args.program.now)
+    let under : IsAcceptedUnder text (build_of asked).settings program =
+    record { accepted = found.accepted; bound = found.with_settings } in
+    let only : (other : Program) → IsAccepted text other → program ≡ other = λ other is.
+    one_accepted text c.args.tokens.now (syntax_of c.args.program.now)
     c.text_is_cut_one_way.ensures.tokens c.requires.tokens c.requires.only program other
-    found.accepted is) c.code_of_shown_texts_is_right.ensures.faithful
-    c.accepted_code_is_tidy.ensures.lean c.accepted_code_is_tidy.ensures.tidy
-    c.accepted_code_is_tidy.ensures.without_arrays code
+    found.accepted is in
+    compiled_is text (build_of asked) c.requires.grid program under only
+    (c.code_of_accepted_texts_is_right.ensures text found.accepted.tokens program (build_of asked)
+    (accepted_text text (build_of asked) c.requires.grid program under only) c.requires.grid)
+    code
     (with_parts (λ build. IsCompiledTo build program code) c.factors.result _ c.chosen.result _
     asked.links asked.settings c.factors.ensures c.chosen.ensures
     ((c.in_ok-code.ensures {u = tt}).compiled asked.settings found.carries.bound))

@@ -1,14 +1,14 @@
-use Rattle.std.proofs.Common.{◌≡◌, ◌≢◌, None, inl, inr, sym, ◌∙◌, ap, subst, arith}
+use Rattle.std.proofs.Common.{◌≡◌, ◌≢◌, inl, inr, sym, ◌∙◌, ap, subst, arith}
 use Rattle.call_claims.specs.Call.{call_of}
 use Rattle.call_claims.specs.Stream.{stream_of}
 use Rattle.list_claims.specs.Cause.{Cause, Lists}
 use Rattle.list_claims.specs.Cause.Cause.{list, no_memory}
 use Rattle.call_claims.specs.Command.{build_of}
 use Rattle.call_claims.specs.Decided.{IsDecided}
-use Rattle.list_claims.specs.Listing.{IsMadeOf}
+use Rattle.list_claims.specs.Listing.{IsMadeOf, TakesOutput}
+use Rattle.call_claims.specs.declared.status.TheConstants.{PUT_FAILED}
 use Rattle.call_answers.specs.Answers.{status_of, told_of}
 use Rattle.call_answers.specs.Work.{execution_in}
-use Rattle.call_answers.specs.declared.answers.Answer.TheVariants as answer
 use Rattle.call_answers.proofs.CallLemmas.{answered, call_stops, failed_put, fetches_counted}
 use Rattle.call_answers.proofs.CallLemmas.{puts_counted, status_caused, work_other}
 use Rattle.call_answers.proofs.CallLemmas.FailedPut.{in_work, in_telling}
@@ -16,7 +16,7 @@ use Rattle.call_words.specs.Reading.{asked_in}
 use Rattle.top_call.specs.Call.{IsListed}
 use Rattle.top_call.proofs.FileLemmas.{on_some}
 use Rattle.top_call.proofs.KnownLemmas.{list_known}
-use Rattle.top_call.proofs.ListLemmas.{not_done, told_done}
+use Rattle.top_call.proofs.ListLemmas.{listing_of_made, not_done, told_done}
 use Rattle.top_call.proofs.lists.list.Goals as goal
 
 pub returns-clause-listed : goal.returns-clause-listed
@@ -44,6 +44,14 @@ returns-clause-listed g c = λ words given.
     let errs = stream_of (g.E.Sink.tells c.args.errs.now) (g.E.Sink.tells c.answered.new.errs)
     (g.E.Sink.faults c.args.errs.now) (g.E.Sink.faults c.answered.new.errs)
     (c.answered.new.errs ≡ c.args.errs.now) in
+    let taken : status ≢ PUT_FAILED
+    → TakesOutput status (execution_in work.result) out.before out.after = λ n. record {
+      listed = λ done. work.ensures.listed
+          (work.ensures.done (told_done work.result.answer status _ told n done));
+      not_listed = λ other. work.ensures.not_listed
+          (λ e. other (told.is ∙ ap status_of (told.told.quiet e ∙ e)))
+          (work_other work.result.answer status _ told n);
+    } in
     subst (λ ran. IsListed call ran out errs) (sym c.answered.ensures.ran) (record {
       code = on_some work.result.code (IsMadeOf call file (build_of asked))
           (λ code. Lists call (λ file asked. IsMadeOf call file (build_of asked) code))
@@ -54,16 +62,19 @@ returns-clause-listed g c = λ words given.
         sends = ap (λ counts. counts.sends) work.ensures.no_counts;
         words = ap (λ counts. counts.words) work.ensures.no_counts;
       };
-      output = λ n. record {
-        listed = λ done. work.ensures.listed
-            (work.ensures.done (told_done work.result.answer status _ told n done));
-        not_listed = λ other. work.ensures.not_listed
-            (λ e. other (told.is ∙ ap status_of (told.told.quiet e ∙ e)))
-            (work_other work.result.answer status _ told n);
-      };
+      output = taken;
       cause = answered work.result.answer status _ told caused_by no_memory has_cause;
       exact = λ n. c.list_statuses_are_exact.ensures c.args.files.now words
           (execution_in work.result) status (told_of told.answer) (cause n);
+      listed = λ settled named wanted worded can.
+          let n = settled.decided.put in
+          let done = c.accepted_programs_are_listed.ensures c.args.files.now words
+          (execution_in work.result) status (told_of told.answer) (cause n) settled named wanted worded
+          can in (
+            done,
+            listing_of_made (execution_in work.result) _ out.before out.after done.made
+                ((taken n).listed done.done),
+          );
       put_failed = λ nine.
           elim (failed_put work.result.answer status _ told caused_by no_memory has_cause nine) [
             | in_work cut_off same ↦ inl (

@@ -3,7 +3,7 @@ use Rattle.call_claims.specs.Call.{call_of}
 use Rattle.call_claims.specs.Stream.{stream_of}
 use Rattle.call_claims.proofs.MetLemmas.{is_met}
 use Rattle.call_answers.specs.Answers.{told_of}
-use Rattle.call_answers.specs.Work.{execution_in}
+use Rattle.call_answers.specs.Work.{execution_in, ran_of}
 use Rattle.call_answers.proofs.CallLemmas.{answered, call_stops, failed_put, fetches_counted}
 use Rattle.call_answers.proofs.CallLemmas.{puts_counted, status_caused, work_other}
 use Rattle.call_answers.proofs.CallLemmas.FailedPut.{in_work, in_telling}
@@ -46,6 +46,17 @@ returns-clause-ran g c = λ words given.
       cause = answered work.result.answer status _ told caused_by no_memory has_cause;
       exact = λ n. c.run_causes_are_exact.ensures c.args.files.now words
           (execution_in work.result) status (told_of told.answer) (cause n);
+      finished = λ settled named wanted worded bound can.
+          let n = settled.decided.put in
+          let done = c.runs_print_what_is_meant.ensures.finished c.args.files.now words
+          (execution_in work.result) status (told_of told.answer) (cause n) settled named wanted worded
+          bound can in (
+            done,
+            c.runs_print_what_is_meant.ensures.taken c.args.files.now c.args.out.now work.new.out
+                words (ran_of status work.result) status settled named wanted worded bound can done
+                (printed call file asked given work.result before after status is
+                (work_other work.result.answer status _ told n)),
+          );
       put_failed = λ nine.
           elim (failed_put work.result.answer status _ told caused_by no_memory has_cause nine) [
             | in_work cut_off same ↦ inl (
