@@ -2,7 +2,6 @@
 use Rattle.std.proofs.Common.{◌≡◌, ◌≢◌, ◌⊎◌, ℕ, ◌<◌, ◌≤◌, Bool, false, List, [], ◌∷◌, ◌++◌, Option, Some, None}
 use Rattle.std.proofs.Common.{MatchOption, refl, sym, ◌∙◌, ap, subst, inl, inr, arith}
 use Rattle.std.proofs.lemmas.List.{append-nil, append_assoc}
-use Rattle.zpl_lists.specs.Front.{IsFrontOf}
 use Rattle.zpl_io.specs.CountSink.{Tally, tally_of}
 use Rattle.zpl_io.specs.Faults.{CountsFaults, last_count}
 use Rattle.zpl_io.specs.Sink.{StopsAtFault, Takes, TakesFront}
@@ -15,7 +14,7 @@ use Rattle.zpl_claims.specs.Build.{Build}
 use Rattle.call_claims.specs.Command.{Asked, asked_on, build_of}
 use Rattle.call_claims.specs.Decided.{IsDecided}
 use Rattle.call_claims.specs.Execution.{Execution}
-use Rattle.call_claims.specs.declared.status.TheConstants.{DONE, PUT_FAILED}
+use Rattle.call_claims.specs.declared.status.TheConstants.{DONE}
 use Rattle.exec_claims.specs.Cause.{RunCause, run_of}
 use Rattle.exec_claims.specs.Cause.RunCause.{done, trap, turn_limit, stuck, idle}
 use Rattle.list_claims.specs.Cause.{TextFault}
@@ -31,10 +30,10 @@ use Rattle.call_answers.proofs.AnswerLemmas.{failed_or}
 use Rattle.grid_call.specs.Work.{IsRunOn}
 use Rattle.text_code.specs.Refusals.{IsUncoded}
 use Rattle.program_texts.specs.Text.{drawn_program}
-use Rattle.gen_claims.specs.Grids.{NamedGrid, IsNext, line_of, line_of_tally}
-use Rattle.gen_claims.specs.Runs.{EndsNormally, IsRunOf, Went, execution_with, line_for}
-use Rattle.gen_claims.specs.Runs.Went.{none_yet, one_more}
-use Rattle.gen_call.specs.Work.{AreCounts, HasStopped, IsCame, IsCounted, IsLastCode, IsLinePut}
+use Rattle.gen_claims.specs.Grids.{NamedGrid, IsNext, line_of_tally}
+use Rattle.gen_claims.specs.Runs.{IsRunOf, Went, execution_with, line_for}
+use Rattle.gen_claims.specs.Runs.Went.{one_more}
+use Rattle.gen_call.specs.Work.{AreCounts, IsCame, IsCounted, IsLastCode, IsLinePut}
 use Rattle.gen_call.specs.Work.{IsOtherEnd, IsStep, IsToldRun, PutsMore, StopsMore}
 use Rattle.gen_call.specs.Work.IsLinePut.{whole, cut, wanting}
 use Rattle.gen_call.specs.Work.IsToldRun.{lined, line_cut, otherwise}

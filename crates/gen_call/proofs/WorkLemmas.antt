@@ -1,5 +1,5 @@
 -- From what came of the work to what is said of a call.
-use Rattle.std.proofs.Common.{◌≡◌, ◌≢◌, ◌⊎◌, ℕ, Bool, List, [], ◌∷◌, ◌++◌, Option, Some, None, MatchOption}
+use Rattle.std.proofs.Common.{◌≡◌, ◌≢◌, ℕ, Bool, List, [], ◌∷◌, ◌++◌, Option, Some, None, MatchOption}
 use Rattle.std.proofs.Common.{refl, sym, ◌∙◌, ap, subst, inl, inr, arith}
 use Rattle.zpl_io.specs.Sink.{Takes}
 use Rattle.node_form.specs.declared.tables.Tables.{Tables}
@@ -10,7 +10,7 @@ use Rattle.call_claims.specs.Command.{Asked, IsGen}
 use Rattle.call_claims.specs.Decided.{IsDecided}
 use Rattle.call_claims.specs.Execution.{Execution, HasNoCounts}
 use Rattle.call_claims.specs.Stream.{Stream}
-use Rattle.call_claims.specs.declared.status.TheConstants.{DONE, PUT_FAILED, UNREADABLE, USAGE}
+use Rattle.call_claims.specs.declared.status.TheConstants.{DONE, UNREADABLE, USAGE}
 use Rattle.exec_claims.specs.Cause.{RunCause}
 use Rattle.exec_claims.specs.Cause.RunCause.{done, trap, turn_limit, stuck, idle}
 use Rattle.list_claims.specs.Cause.{TextFault}
@@ -23,14 +23,16 @@ use Rattle.call_answers.specs.declared.answers.Answer.TheVariants as answer
 use Rattle.call_answers.specs.declared.answers.Stop.TheVariants as stop
 use Rattle.call_answers.specs.declared.work.Work.{Work}
 use Rattle.gen_claims.specs.Answer.{AreLines, IsLastRun, IsRunFor, TakesLines, TakesLinesFront}
+use Rattle.gen_claims.specs.Answer.{TellMeant}
 use Rattle.gen_claims.specs.Cause.{Cause, GenCause, Gens}
 use Rattle.gen_claims.specs.Cause.Cause.{no_memory, gen}
 use Rattle.gen_claims.specs.Cause.GenCause.{all_done, faulty, ended}
-use Rattle.gen_claims.specs.Grids.{IsNext, five, grids, one, three_by_one, two_by_two}
-use Rattle.gen_claims.specs.Runs.{Begun, Went, execution_with, no_execution}
+use Rattle.gen_claims.specs.Grids.{NamedGrid, IsNext, five, grids, one, three_by_one, two_by_two}
+use Rattle.gen_claims.specs.Meant.{AreMeantFor}
+use Rattle.gen_claims.specs.Runs.{Begun, Went, execution_with, line_for, no_execution}
 use Rattle.gen_claims.specs.Runs.Begun.{all_ended, one_begun}
-use Rattle.gen_claims.specs.Runs.Went.{none_yet}
-use Rattle.gen_call.specs.Work.{AreCounts, HasStopped, IsCame, IsCounted, IsLastCode, IsWorkOn}
+use Rattle.gen_claims.specs.Runs.Went.{none_yet, one_more}
+use Rattle.gen_call.specs.Work.{HasStopped, IsCame, IsCounted, IsLastCode, IsWorkOn}
 use Rattle.gen_call.specs.Work.HasStopped.{without_code, ended_otherwise, put_failed}
 use Rattle.gen_call.specs.Work.IsCame.{going, stopped}
 use Rattle.gen_call.proofs.RunLemmas.{execution_is, takes_none}
@@ -79,6 +81,13 @@ not_drawn seed asked work told codes counts is = record {
       (λ e. omega (arith, e, ap status_of is));
   takes = takes_none told;
 }
+
+-- ---- lines
+-- the law that is needed: those of runs that ended normally tell of what is meant
+abbrev pub TellsMeant : ℕ → Asked → Type 0
+TellsMeant seed asked =
+    (so_far : List NamedGrid) (last : Execution) (lines : List ℕ)
+    → Went seed asked so_far last lines → AreMeantFor seed asked so_far lines
 
 -- ---- the cause
 fault_known : {text told : List ℕ} {build : Build} {n : ℕ} (m : ℕ) → TextFault text build n told
@@ -158,24 +167,58 @@ module _ (words : List (List ℕ)) (seed : ℕ) (asked : Asked) (given : IsGen w
     stop_begun (put_failed grid code front went next made run ends is_front is) other =
         absurd (other is)
 
-    came_lines : {lines : List ℕ} (status : ℕ) → IsCame seed asked grids work lines
-        → work.answer ≢ answer.PutFailed → (status ≡ DONE → status_of work.answer ≡ DONE)
-        → AreLines seed asked (execution_in work) status lines
-    came_lines status (going went is) put told = record { begun = all_ended went; all = λ e. went }
-    came_lines status (stopped why other) put told =
-        record { begun = stop_begun why put; all = λ e. absurd (other (told e)) }
+    next_meant : TellsMeant seed asked → (status : ℕ) → status ≢ DONE → (so_far : List NamedGrid)
+        (grid : NamedGrid) {last : Execution} {lines : List ℕ} → Went seed asked so_far last lines
+        → IsNext so_far grid → TellMeant seed asked status lines
+    next_meant law status other so_far grid {last = last} {lines = lines} went next = record {
+      so_far = so_far;
+      first = record { rest = grid ∷ next.rest; joins = next.is };
+      all = λ e. absurd (other e);
+      are = law so_far last lines went;
+    }
 
-    pub lines_for : (status : ℕ) → work.answer ≢ answer.PutFailed
+    stop_meant : TellsMeant seed asked → (status : ℕ) → status ≢ DONE → {lines : List ℕ}
+        → HasStopped seed asked work lines → work.answer ≢ answer.PutFailed
+        → TellMeant seed asked status lines
+    stop_meant law n undone (without_code {done = gone} grid went next put why) other =
+        next_meant law n undone gone grid went next
+    stop_meant law n undone (ended_otherwise {done = gone} grid code went next made run end) other =
+        next_meant law n undone gone grid went next
+    stop_meant law n undone (put_failed grid code front went next made run ends is_front is) other =
+        absurd (other is)
+
+    came_lines : TellsMeant seed asked → {lines : List ℕ} (status : ℕ)
+        → IsCame seed asked grids work lines → work.answer ≢ answer.PutFailed
+        → (status ≡ DONE → status_of work.answer ≡ DONE)
+        → AreLines seed asked (execution_in work) status lines
+    came_lines law {lines} status (going went is) put told = record {
+      begun = all_ended went;
+      all = λ e. went;
+      meant = record {
+        so_far = grids;
+        first = record { rest = []; joins = refl };
+        all = λ e. refl;
+        are = law grids (execution_in work) lines went;
+      };
+    }
+    came_lines law status (stopped why other) put told = record {
+      begun = stop_begun why put;
+      all = λ e. absurd (other (told e));
+      meant = stop_meant law status (λ e. other (told e)) why put;
+    }
+
+    pub lines_for : TellsMeant seed asked → (status : ℕ) → work.answer ≢ answer.PutFailed
         → (status ≡ DONE → status_of work.answer ≡ DONE)
         → TakesLines words (execution_in work) status before after
-    lines_for status put told =
-        gens_with (on.lines, came_lines status on.came put told, on.takes)
+    lines_for law status put told =
+        gens_with (on.lines, came_lines law status on.came put told, on.takes)
 
-    stop_cut : {lines : List ℕ} → HasStopped seed asked work lines → Takes before lines after
-        → work.answer ≡ answer.PutFailed → TakesLinesFront words (execution_in work) before after
-    stop_cut (without_code grid went next put why) takes e = absurd (put e)
-    stop_cut (ended_otherwise grid code went next made run end) takes e = absurd (end.put e)
-    stop_cut (put_failed {done = gone} {last = last} {lines = lines} grid code front went next made run ends is_front is) takes e =
+    stop_cut : TellsMeant seed asked → {lines : List ℕ} → HasStopped seed asked work lines
+        → Takes before lines after → work.answer ≡ answer.PutFailed
+        → TakesLinesFront words (execution_in work) before after
+    stop_cut law (without_code grid went next put why) takes e = absurd (put e)
+    stop_cut law (ended_otherwise grid code went next made run end) takes e = absurd (end.put e)
+    stop_cut law (put_failed {done = gone} {last = last} {lines = lines} grid code front went next made run ends is_front is) takes e =
         gens_with (record {
           so_far = gone;
           last = last;
@@ -188,20 +231,24 @@ module _ (words : List (List ℕ)) (seed : ℕ) (asked : Asked) (given : IsGen w
           run = run;
           ends = ends;
           made = execution_is seed asked work code made;
+          meant = law (gone ++ grid ∷ []) (execution_with code work.counts.turns)
+              (lines ++ line_for seed asked grid code work.counts.turns)
+              (one_more grid code work.counts.turns went run ends);
           front = front;
           is_front = is_front;
           takes = takes;
         })
 
-    came_cut : {lines : List ℕ} → IsCame seed asked grids work lines → Takes before lines after
-        → work.answer ≡ answer.PutFailed → TakesLinesFront words (execution_in work) before after
-    came_cut (going went is) takes e =
-        absurd (let no : answer.PutFailed ≡ answer.Stopped stop.Done None = sym e ∙ is in cc)
-    came_cut (stopped why other) takes e = stop_cut why takes e
-
-    pub cut_for : work.answer ≡ answer.PutFailed
+    came_cut : TellsMeant seed asked → {lines : List ℕ} → IsCame seed asked grids work lines
+        → Takes before lines after → work.answer ≡ answer.PutFailed
         → TakesLinesFront words (execution_in work) before after
-    cut_for e = came_cut on.came on.takes e
+    came_cut law (going went is) takes e =
+        absurd (let no : answer.PutFailed ≡ answer.Stopped stop.Done None = sym e ∙ is in cc)
+    came_cut law (stopped why other) takes e = stop_cut law why takes e
+
+    pub cut_for : TellsMeant seed asked → work.answer ≡ answer.PutFailed
+        → TakesLinesFront words (execution_in work) before after
+    cut_for law e = came_cut law on.came on.takes e
 
 -- ---- statuses that never come
 run_known : {run : Run} {report : Bool} {k n : ℕ} {told : List ℕ} → RunCause run report k n told

@@ -8,7 +8,7 @@
 --   IsCounted    the counts are those of the last run
 --   PutsMore, StopsMore    what the sink tells behind that
 --   IsWorkOn     what came of the work of a call
-use Rattle.std.specs.Prelude.{◌≡◌, ◌≢◌, ℕ, ◌≤◌, false, List, [], ◌∷◌, ◌++◌, MatchOption, Some, None}
+use Rattle.std.specs.Prelude.{◌≡◌, ◌≢◌, ℕ, ◌≤◌, false, List, [], ◌++◌, MatchOption, Some, None}
 use Rattle.zpl_lists.specs.Front.{IsFrontOf}
 use Rattle.zpl_io.specs.Faults.{CountsFaults}
 use Rattle.zpl_io.specs.Sink.{StopsAtFault, Takes, TakesFront}

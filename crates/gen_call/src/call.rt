@@ -16,7 +16,7 @@ use crate::runs::{Drawn, on_grids};
 use call_answers::{Answer, Stop, Work, answered};
 use call_claims::Ran;
 use call_words::GenCommand;
-use gen_claims::gen_statuses_are_exact;
+use gen_claims::{gen_statuses_are_exact, lines_tell_what_is_meant};
 use program_texts::{drawn_program, drawn_programs_are_short};
 use std::alloc::{AllocError, Global};
 use zpl_io::Sink;
@@ -56,6 +56,7 @@ pub fn generate<O: Sink, E: Sink>(
         (E.has_failed errs.old) (E.has_failed errs.new) (errs.new ≡ errs.old) }
 {
     gen_statuses_are_exact();
+    lines_tell_what_is_meant();
     let work = work_for(alloc, command, out);
     answered(alloc, work, errs)
 }

@@ -13,6 +13,7 @@ use Rattle.list_claims.specs.Code.{IsCodeOf}
 use Rattle.program_texts.specs.Text.{drawn_program}
 use Rattle.gen_claims.specs.Cause.{Gens}
 use Rattle.gen_claims.specs.Grids.{NamedGrid, IsNext, grids}
+use Rattle.gen_claims.specs.Meant.{AreMeantFor}
 use Rattle.gen_claims.specs.Runs.{Begun, EndsNormally, IsRunOf, Went, execution_with, line_for}
 
 -- ---- the code and the counts
@@ -29,18 +30,27 @@ abbrev pub IsRunFor : List (List ℕ) → Ran → Tables → Type 0
 IsRunFor words ran code = Gens words (λ seed asked. IsLastRun seed asked ran code)
 
 -- ---- what the stream for output took
+-- They tell of what the program means, for the first grids; with status 0 for all.
+pub record TellMeant (seed : ℕ) (asked : Asked) (status : ℕ) (lines : List ℕ) : Type 0 where
+  pub so_far : List NamedGrid
+  pub first : IsFrontOf so_far grids
+  pub all : status ≡ DONE → so_far ≡ grids
+  pub are : AreMeantFor seed asked so_far lines
+
 -- The lines of the runs before the last one; with status 0 that of the last one too.
 pub record AreLines (seed : ℕ) (asked : Asked) (execution : Execution) (status : ℕ)
     (lines : List ℕ) : Type 0 where
   pub begun : Begun seed asked execution lines
   pub all : status ≡ DONE → Went seed asked grids execution lines
+  pub meant : TellMeant seed asked status lines
 
 abbrev pub TakesLines :
     List (List ℕ) → Execution → ℕ → (List ℕ → Type 0) → (List ℕ → Type 0) → Type 0
 TakesLines words execution status before after = Gens words (λ seed asked.
     (lines : List ℕ) × AreLines seed asked execution status lines × Takes before lines after)
 
--- The last run ended normally, and the stream took the lines of those before and a front of its own.
+-- The last run ended normally, and the stream took the lines of those before and a front of its
+-- own. Whole, they would tell of what the program means.
 pub record IsLineCut (seed : ℕ) (asked : Asked) (execution : Execution)
     (before after : List ℕ → Type 0) : Type 0 where
   pub so_far : List NamedGrid
@@ -54,6 +64,8 @@ pub record IsLineCut (seed : ℕ) (asked : Asked) (execution : Execution)
   pub run : IsRunOf seed asked grid code turns
   pub ends : EndsNormally asked code turns
   pub made : execution ≡ execution_with code turns
+  pub meant : AreMeantFor seed asked (so_far ++ grid ∷ [])
+      (lines ++ line_for seed asked grid code turns)
   pub front : List ℕ
   pub is_front : IsFrontOf front (line_for seed asked grid code turns)
   pub takes : Takes before (lines ++ front) after

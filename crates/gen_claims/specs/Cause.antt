@@ -1,5 +1,5 @@
 -- Why a call of `gen` has its status, and what is told of it.
-use Rattle.std.specs.Prelude.{◌≢◌, ℕ, false, List, [], ◌∷◌, ◌++◌}
+use Rattle.std.specs.Prelude.{◌≢◌, ℕ, false, List, []}
 use Rattle.node_form.specs.declared.tables.Tables.{Tables}
 use Rattle.call_claims.specs.Command.{Asked, IsGen, asked_on, build_of}
 use Rattle.call_claims.specs.Execution.{Execution}

@@ -2,4 +2,5 @@ pub mod Answer
 pub mod Cause
 pub mod Decided
 pub mod Grids
+pub mod Meant
 pub mod Runs

@@ -3,7 +3,7 @@
 --   IsRunOf   the program's code for a grid, run for so many turns round its processors
 --   Went      on the grids so far the runs ended normally; the last one, and their lines
 --   Begun     the runs that were begun
-use Rattle.std.specs.Prelude.{◌≡◌, ℕ, List, [], ◌∷◌, ◌++◌, Some, None}
+use Rattle.std.specs.Prelude.{ℕ, List, [], ◌∷◌, ◌++◌, Some, None}
 use Rattle.zpl_nums.specs.declared.ends.End.TheVariants.{Done}
 use Rattle.node_form.specs.declared.tables.Tables.{Tables}
 use Rattle.grid_meaning.specs.Grid.{EndsAs}

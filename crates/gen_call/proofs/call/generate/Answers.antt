@@ -30,6 +30,7 @@ returns-clause-generated g c = λ words given.
     let after = g.O.Sink.tells work.new.out in
     let on = work.ensures.work in
     let caused_by = Cause words (execution_in work.result) in
+    let law = c.lines_tell_what_is_meant.ensures words seed asked given in
     let has_cause = caused words seed asked given work.result before after on in
     let cause = status_caused work.result.answer status _ told caused_by no_memory has_cause in
     let out = stream_of (g.O.Sink.tells c.args.out.now) (g.O.Sink.tells c.work_for-work.new.out)
@@ -40,7 +41,7 @@ returns-clause-generated g c = λ words given.
     (c.answered.new.errs ≡ c.args.errs.now) in
     subst (λ ran. IsGenerated words ran out errs) (sym c.answered.ensures.ran) (record {
       code = run_for words seed asked given work.result before after on status;
-      output = λ n. lines_for words seed asked given work.result before after on status
+      output = λ n. lines_for words seed asked given work.result before after on law status
           (work_other work.result.answer status _ told n)
           (done_told work.result.answer status _ told);
       cause = answered work.result.answer status _ told caused_by no_memory has_cause;
@@ -49,12 +50,12 @@ returns-clause-generated g c = λ words given.
       put_failed = λ nine.
           elim (failed_put work.result.answer status _ told caused_by no_memory has_cause nine) [
             | in_work cut_off same ↦ inl (
-              cut_for words seed asked given work.result before after on cut_off,
+              cut_for words seed asked given work.result before after on law cut_off,
               work.ensures.puts.rises cut_off,
               same,
             )
             | in_telling other failed rose half ↦ inr (
-              lines_for words seed asked given work.result before after on status other
+              lines_for words seed asked given work.result before after on law status other
                   (done_told work.result.answer status _ told),
               rose,
               half,
