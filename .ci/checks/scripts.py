@@ -11,7 +11,8 @@ Run it at the top of the repository, once the program is built: .ci/checks/scrip
 - what `why` says of examples with lines `Hint:` in the comment at their head, and of some words that are no command;
 - the statements that docs/LANGUAGE.md shows as examples of faults and traps, and what is told of them;
 - the lines that docs/LISTING.md says break a rule of listings;
-- the messages and words of forms, as docs/COSTS.md reckons them.
+- the messages and words of forms, as docs/COSTS.md reckons them;
+- what `costs --lines` adds up and what `exec` reports, and the ticks that `picture` draws and that `time` tells.
 
 Each script says how it is called, with --help.
 """
@@ -25,7 +26,8 @@ import sys
 import tempfile
 
 SCRIPTS = ["show", "why", "costs", "picture"]
-SHOWN = [*SCRIPTS, "zplgrid"]
+PROGRAMS = ["zplgrid", "gridtrace"]
+SHOWN = [*SCRIPTS, *PROGRAMS]
 NAMES = {"call_claims": r'(?:judged_name|bind_name|trap_name) \S+ = codes "([^"]+)"|settings_text \(codes "(\w+)"\)',
          "list_claims": r'whole_text \(codes "(\w+)"\)', "exec_claims": r'(?:kind_name \S+|idle_name) = codes "(\w+)"|listing_refused_text \(codes "(\w+)"\)'}
 # what is told of no run of the program: it would be an instruction that names what isn't in a table
@@ -236,12 +238,27 @@ def wrong_costs():
             yield f" sends {wanted[0]} words {wanted[1]}" not in told[-1] and f"docs/COSTS.md: {name} on {count} has {told[-1]}, not {wanted}"
 
 
+# ---- traces
+def wrong_traces():
+    """Turns, messages and words line by line are those of the whole run, and the moves of a trace end when `time` says so."""
+    for path in sorted(glob.glob("examples/costs/*.zpl")):
+        told = told_by(["./costs", path, "--lines", "--grids", "4"])[-1].split()
+        wanted = told_by(["./zplgrid", "run", path, "grid=4", "report"])[-1]
+        yield wanted != f"turns {told[2]} sends {told[4]} words {told[5]}" and f"./costs {path} --lines ends with {told}, not {wanted}"
+    with tempfile.TemporaryDirectory() as folder:
+        for path in sorted(glob.glob("examples/listings/*.lst")):
+            ticks = re.search(r"ticks (\d+)", told_by(["./zplgrid", "time", path])[0])
+            told = told_by(["./picture", path, "--out", f"{folder}/run.svg"])
+            yield ticks and f": {ticks[1]} ticks, " not in read(f"{folder}/run.svg") and f"./picture {path} draws other ticks than {ticks[1]}: {told}"
+
+
 def main():
-    if not os.access("crates/zplgrid/out/zplgrid", os.X_OK):
-        print("the program isn't built: ./build first")
-        return 1
+    for program in PROGRAMS:
+        if not os.access(f"crates/{program}/out/{program}", os.X_OK):
+            print(f"{program} isn't built: ./build first")
+            return 1
     count = wrong = 0
-    for check in (wrong_calls, wrong_helps, wrong_listings, wrong_texts, wrong_hints, wrong_examples, wrong_rules, wrong_costs):
+    for check in (wrong_calls, wrong_helps, wrong_listings, wrong_texts, wrong_hints, wrong_examples, wrong_rules, wrong_costs, wrong_traces):
         for it in check():
             count += 1
             if it:

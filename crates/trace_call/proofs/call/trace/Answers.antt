@@ -1,0 +1,107 @@
+use Rattle.std.proofs.Common.{◌≡◌, inl, inr, sym, subst, arith}
+use Rattle.call_claims.specs.Call.{call_of}
+use Rattle.call_claims.specs.Stream.{stream_of}
+use Rattle.call_claims.proofs.MetLemmas.{is_met}
+use Rattle.call_answers.specs.Answers.{told_of}
+use Rattle.call_answers.specs.Work.{execution_in}
+use Rattle.call_answers.proofs.CallLemmas.{answered, call_stops, failed_put, fetches_counted}
+use Rattle.call_answers.proofs.CallLemmas.{puts_counted, status_caused}
+use Rattle.call_answers.proofs.CallLemmas.FailedPut.{in_work, in_telling}
+use Rattle.call_words.specs.Reading.{asked_in}
+use Rattle.exec_claims.specs.Cause.{Cause}
+use Rattle.exec_claims.specs.Cause.Cause.{no_memory}
+use Rattle.exec_claims.proofs.KnownLemmas.{cause_known}
+use Rattle.trace_call.specs.Call.{IsTraced}
+use Rattle.trace_call.proofs.WorkLemmas.{by_status, caused, read_for, taken_for, told_lines, told_some}
+use Rattle.trace_call.proofs.call.trace.Goals as goal
+
+pub work_for-work-requires : goal.work_for-work-requires
+work_for-work-requires g c = record { asked = is_met c.requires.given.1.worded }
+
+pub returns-clause-traced : goal.returns-clause-traced
+returns-clause-traced g c = λ words given.
+    let call = call_of words (g.F.Files.tells c.args.files.now)
+    (g.F.Files.may_fail c.args.files.now) (g.F.Files.may_fail_later c.args.files.now) in
+    let file = c.args.command.file.now in
+    let asked = asked_in c.args.command.asked in
+    let work = c.work_for-work in
+    let told = c.answered.ensures.told in
+    let status = c.answered.result.status in
+    let before = g.O.Sink.tells c.args.out.now in
+    let after = g.O.Sink.tells work.new.out in
+    let turns = work.result.counts.turns in
+    let is = work.ensures.work words in
+    let caused_by = Cause call (execution_in work.result) in
+    let has_cause = caused call file asked work.result before after given is in
+    let cause = status_caused work.result.answer status _ told caused_by no_memory has_cause in
+    let all = c.exec_statuses_are_exact.ensures in
+    let at = execution_in work.result in
+    let text = told_of told.answer in
+    let out = stream_of (g.O.Sink.tells c.args.out.now) (g.O.Sink.tells c.work_for-work.new.out)
+    (g.O.Sink.faults c.args.out.now) (g.O.Sink.faults c.work_for-work.new.out)
+    (c.work_for-work.new.out ≡ c.args.out.now) in
+    let errs = stream_of (g.E.Sink.tells c.args.errs.now) (g.E.Sink.tells c.answered.new.errs)
+    (g.E.Sink.faults c.args.errs.now) (g.E.Sink.faults c.answered.new.errs)
+    (c.answered.new.errs ≡ c.args.errs.now) in
+    subst (λ ran. IsTraced call ran out errs) (sym c.answered.ensures.ran) (record {
+      code = read_for status call file asked work.result before after given is;
+      output = λ n. taken_for status call file asked work.result before after given _
+          (λ run. by_status run work.result status _ told n before after) is;
+      cause = answered work.result.answer status _ told caused_by no_memory has_cause;
+      too_long = λ settled. all.too_long c.args.files.now words at status text
+          (cause settled.decided.put) settled;
+      order_refused = λ settled. all.order c.args.files.now words at status text
+          (cause settled.decided.put) settled;
+      refused = λ settled. all.listing c.args.files.now words at status text
+          (cause settled.decided.put) settled;
+      done = λ settled. all.done c.args.files.now words at status text
+          (cause settled.decided.put) settled;
+      trap = λ settled. all.trap c.args.files.now words at status text
+          (cause settled.decided.put) settled;
+      turn_limit = λ settled. all.turn_limit c.args.files.now words at status text
+          (cause settled.decided.put) settled;
+      stuck = λ settled. all.stuck c.args.files.now words at status text
+          (cause settled.decided.put) settled;
+      put_failed = λ nine.
+          elim (failed_put work.result.answer status _ told caused_by no_memory has_cause nine) [
+            | in_work cut_off same ↦ inl (
+              taken_for status call file asked work.result before after given _
+                  (λ run. told_some run turns before after work.result.answer cut_off) is,
+              work.ensures.puts.rises cut_off,
+              same,
+            )
+            | in_telling other failed rose half ↦ inr (
+              taken_for status call file asked work.result before after given _
+                  (λ run. told_lines run turns before after work.result.answer other) is,
+              rose,
+              half,
+            )
+          ];
+    })
+
+pub returns-clause-known : goal.returns-clause-known
+returns-clause-known g c = λ e.
+    let given = c.requires.given in
+    let call = call_of given.0 (g.F.Files.tells c.args.files.now)
+    (g.F.Files.may_fail c.args.files.now) (g.F.Files.may_fail_later c.args.files.now) in
+    let work = c.work_for-work in
+    cause_known (status_caused work.result.answer c.answered.result.status _
+    c.answered.ensures.told (Cause call (execution_in work.result)) no_memory
+    (caused call c.args.command.file.now (asked_in c.args.command.asked) work.result
+    (g.O.Sink.tells c.args.out.now) (g.O.Sink.tells work.new.out) given.1
+    (work.ensures.work given.0)) (λ f. omega (arith, e, f))) e
+
+pub returns-clause-fetches : goal.returns-clause-fetches
+returns-clause-fetches g c =
+    fetches_counted c.work_for-work.result.answer _ _ c.answered.ensures.told _ _
+    c.work_for-work.ensures.fetches
+
+pub returns-clause-puts : goal.returns-clause-puts
+returns-clause-puts g c =
+    puts_counted c.work_for-work.result.answer _ _ c.answered.ensures.told _ _
+    c.work_for-work.ensures.puts
+
+pub returns-clause-stops : goal.returns-clause-stops
+returns-clause-stops g c =
+    call_stops c.work_for-work.result.answer _ _ c.answered.ensures.told _ _ _ _
+    c.work_for-work.ensures.stops c.answered.ensures.stops

@@ -1,0 +1,34 @@
+use Rattle.std.proofs.Common.{[]}
+use Rattle.grid_meaning.specs.Local.{processors}
+use Rattle.call_claims.specs.Call.{call_of}
+use Rattle.call_claims.specs.Command.{limit_of}
+use Rattle.call_words.specs.Reading.{asked_in}
+use Rattle.call_answers.proofs.FetchLemmas.{not_fetched}
+use Rattle.grid_call.proofs.WorkLemmas.{turns_fit}
+use Rattle.trace_call.specs.Work.IsCodeWork.{traced}
+use Rattle.trace_call.proofs.WorkLemmas.{run_fetches_none}
+use Rattle.trace_call.proofs.codes.trace_code.Goals as goal
+
+pub trace_under-requires-clause-order : goal.trace_under-requires-clause-order
+trace_under-requires-clause-order g c =
+    let is = (c.in-Ok.ensures {u = tt}).ok [] in
+    c.orders_have_their_bounds.ensures.below (processors c.args.code) is.text _ is.read
+
+pub trace_under-requires-clause-turns : goal.trace_under-requires-clause-turns
+trace_under-requires-clause-turns g c =
+    let call = call_of [] (g.F.Files.tells c.args.files.now)
+    (g.F.Files.may_fail c.args.files.now) (g.F.Files.may_fail_later c.args.files.now) in
+    turns_fit c.orders_have_their_bounds.ensures.few call c.args.code
+    (asked_in c.args.asked).order _ (limit_of (asked_in c.args.asked))
+    ((c.in-Ok.ensures {u = tt}).ok []) c.requires.asked.turns
+
+pub returns-in-Ok-clause-work : goal.returns-in-Ok-clause-work
+returns-in-Ok-clause-work g c = λ words.
+    traced _ ((c.in-Ok.ensures {u = tt}).ok words) c.trace_under.ensures.ran
+
+pub returns-in-Ok-clause-fetches : goal.returns-in-Ok-clause-fetches
+returns-in-Ok-clause-fetches g c =
+    not_fetched _ _ _ _ (λ no. no)
+    (run_fetches_none _ _ c.trace_under.result.answer c.trace_under.result.counts _ _
+    c.trace_under.ensures.ran)
+    (c.in-Ok.ensures {u = tt}).fetches

@@ -1,0 +1,90 @@
+-- What the code tells of a turn, and the parts of a run that is traced.
+--
+--   Event, event_in, event_text   what a turn came to, as the code has it, and its text
+--   IsLined                       what comes of a turn and of its line
+--   IsBuffered                    lines that were put, and those that are kept
+--   HasFlushed, IsPutLast         what comes of a put of the lines that are kept
+use Rattle.std.specs.Prelude.{◌≡◌, ◌⊎◌, ℕ, ◌≤◌, List, [], ◌++◌, codes, Option, Some, None, Result, Ok, Err}
+use Rattle.std.specs.Fmt.{decimal}
+use Rattle.zpl_io.specs.Sink.{Takes, TakesFront}
+use Rattle.zpl_nums.specs.declared.ends.End.{End}
+use Rattle.node_stages.specs.declared.stages.Stage.{Stage}
+use Rattle.node_stages.specs.declared.stages.Stage.TheVariants as stage
+use Rattle.grid_runs.specs.Run.{Run}
+use Rattle.grid_sim.specs.Simulation.{IsStuckTurn, Simulation, turn_given, turn_in}
+use Rattle.grid_sim.specs.declared.faults.SimFault.{SimFault}
+use Rattle.grid_sim.specs.declared.faults.SimFault.TheVariants as fault
+use Rattle.grid_sim.specs.declared.turns.Turned.{Turned}
+use Rattle.grid_sim.specs.declared.turns.Turned.TheVariants as turned
+use Rattle.call_answers.specs.Answers.{kind_text}
+use Rattle.trace_call.specs.Line.{line_of}
+use Rattle.trace_call.specs.Trace.{trace_of}
+use Rattle.trace_call.specs.declared.events.Event.{Event}
+use Rattle.trace_call.specs.declared.events.Event.TheVariants as event
+
+-- ---- what a turn came to
+-- a move, by its stage: so many words were sent, or so many has the message that was taken
+abbrev pub moved_in : Option Stage → ℕ → ℕ → Event
+moved_in None sent taken = event.Moves
+moved_in (Some stage.Alone) sent taken = event.Moves
+moved_in (Some (stage.Sends to)) sent taken = event.Sends sent to
+moved_in (Some (stage.TakesFrom from)) sent taken = event.Takes taken from
+moved_in (Some stage.Last) sent taken = event.Moves
+
+abbrev pub waits_in : Option Stage → Event
+waits_in None = event.Waits
+waits_in (Some stage.Alone) = event.Waits
+waits_in (Some (stage.Sends to)) = event.AwaitsRoom to
+waits_in (Some (stage.TakesFrom from)) = event.Awaits from
+waits_in (Some stage.Last) = event.Waits
+
+abbrev pub event_in : Option Stage → ℕ → ℕ → Turned → Event
+event_in at sent taken turned.Moved = moved_in at sent taken
+event_in at sent taken turned.Waiting = waits_in at
+event_in at sent taken turned.Over = event.Over
+
+abbrev pub event_text : Event → List ℕ
+event_text event.Moves = codes "moves"
+event_text (event.Sends words to) =
+    codes "sends " ++ (decimal words ++ (codes " to " ++ decimal to))
+event_text (event.Takes words from) =
+    codes "takes " ++ (decimal words ++ (codes " from " ++ decimal from))
+event_text event.Waits = codes "waits"
+event_text (event.Awaits from) = codes "waits for " ++ decimal from
+event_text (event.AwaitsRoom to) = codes "waits for room to " ++ decimal to
+event_text event.Over = codes "over"
+event_text (event.Stuck kind) = codes "stuck " ++ kind_text kind
+
+-- ---- a turn and its line
+-- The turn was given, and its line is there; or it is stuck, its line is there, and nothing else
+-- has changed; or memory was wanting for the turn, or for its line.
+abbrev pub IsLined : Simulation → Simulation → ℕ → List ℕ → List ℕ → Result (Unit {0}) SimFault
+    → Type 0
+IsLined old new p before after (Ok done) =
+    (new ≡ turn_given old p) × (after ≡ before ++ line_of old.code old.capacity old.grid p)
+IsLined old new p before after (Err fault.TurnLimit) = ⊥
+IsLined old new p before after (Err fault.SinkFailed) = ⊥
+IsLined old new p before after (Err (fault.Stuck q kind)) =
+    (q ≡ p) × IsStuckTurn kind (turn_in old p) × (new ≡ old)
+    × (after ≡ before ++ line_of old.code old.capacity old.grid p)
+IsLined old new p before after (Err fault.NoMemory) = (new ≡ old) ⊎ (new ≡ turn_given old p)
+
+-- ---- lines that are put together
+-- of the lines of the first k turns some were put, and the others are kept
+pub record IsBuffered (run : Run) (k : ℕ) (kept : List ℕ) (before after : List ℕ → Type 0) : Type 0
+  where
+    pub many : ℕ
+    pub few : many ≤ k
+    pub takes : Takes before (trace_of run many) after
+    pub whole : trace_of run k ≡ trace_of run many ++ kept
+
+-- the lines stay as they are, or they were put and are gone
+abbrev pub HasFlushed : List ℕ → List ℕ → (List ℕ → Type 0) → (List ℕ → Type 0) → Type 0
+HasFlushed old new before after =
+    ((new ≡ old) × Takes before [] after) ⊎ ((new ≡ []) × Takes before old after)
+
+-- how a run ended, whose last lines are put: they were, or that failed
+pub data IsPutLast (ended : Result End SimFault) (kept : List ℕ) (before after : List ℕ → Type 0)
+    : Result End SimFault → Type 0 where
+  whole : Takes before kept after → IsPutLast ended kept before after ended
+  cut : TakesFront before kept after → IsPutLast ended kept before after (Err fault.SinkFailed)
