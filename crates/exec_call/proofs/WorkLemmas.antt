@@ -5,22 +5,22 @@ use Rattle.call_claims.specs.Call.{Call}
 use Rattle.call_claims.specs.Decided.{IsDecided}
 use Rattle.call_claims.specs.Execution.{HasNoCounts, HasNoRun}
 use Rattle.call_claims.specs.Command.{Asked, IsExec}
-use Rattle.exec_claims.specs.Answer.{IsReadFor, TakesPrinted}
-use Rattle.exec_claims.specs.Cause.{Cause, ListingCause, Source, TextCause}
-use Rattle.exec_claims.specs.declared.limits.TheConstants.{MOST_LISTING}
+use Rattle.grid_call.specs.of_exec_claims.Answer.{IsReadFor, TakesPrinted}
+use Rattle.grid_call.specs.of_exec_claims.Cause.{Cause, ListingCause, Source, TextCause}
+use Rattle.grid_call.specs.of_exec_claims.declared.limits.TheConstants.{MOST_LISTING}
 use Rattle.call_claims.specs.Texts.{too_long_text, unreadable_text}
 use Rattle.call_claims.specs.declared.status.TheConstants.{TOO_LONG, UNREADABLE}
-use Rattle.exec_claims.specs.Cause.Cause.{exec}
-use Rattle.exec_claims.specs.Cause.ListingCause.{bad_line, bad_table, listed}
-use Rattle.exec_claims.specs.Cause.TextCause.{too_long, unreadable, work as of_text}
-use Rattle.call_answers.specs.Answers.{status_of, told_of}
-use Rattle.call_answers.specs.Fetched.{IsNoText, IsWholeText}
-use Rattle.call_answers.specs.Work.{execution_in, ran_of}
+use Rattle.grid_call.specs.of_exec_claims.Cause.Cause.{exec}
+use Rattle.grid_call.specs.of_exec_claims.Cause.ListingCause.{bad_line, bad_table, listed}
+use Rattle.grid_call.specs.of_exec_claims.Cause.TextCause.{too_long, unreadable, work as of_text}
+use Rattle.grid_call.specs.of_call_answers.Answers.{status_of, told_of}
+use Rattle.grid_call.specs.of_call_answers.Fetched.{IsNoText, IsWholeText}
+use Rattle.grid_call.specs.of_call_answers.Work.{execution_in, ran_of}
 use Rattle.grid_call.specs.Work.{IsCodeWork}
 use Rattle.grid_call.specs.Work.IsCodeWork.{unordered, ran}
-use Rattle.call_answers.specs.declared.answers.Answer.{Answer}
-use Rattle.call_answers.specs.declared.answers.Answer.TheVariants as answer
-use Rattle.call_answers.specs.declared.work.Work.{Work}
+use Rattle.grid_call.specs.of_call_answers.declared.answers.Answer.{Answer}
+use Rattle.grid_call.specs.of_call_answers.declared.answers.Answer.TheVariants as answer
+use Rattle.grid_call.specs.of_call_answers.declared.work.Work.{Work}
 use Rattle.grid_call.proofs.WorkLemmas.{none_counted, of_code, run_counted}
 use Rattle.exec_call.specs.Call.{IsOutputCut}
 use Rattle.exec_call.specs.Work.{IsUnlisted, IsWorkOn, ReadsNone}

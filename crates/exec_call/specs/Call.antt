@@ -13,13 +13,14 @@ use Rattle.call_claims.specs.Decided.{IsSettled}
 use Rattle.call_claims.specs.Execution.{execution_of, HasNoCounts}
 use Rattle.call_claims.specs.declared.status.TheConstants.{DONE, TOO_LONG, TRAPPED}
 use Rattle.call_claims.specs.declared.status.TheConstants.{TURN_LIMIT, PUT_FAILED}
-use Rattle.call_claims.specs.Command.{Asked}
+use Rattle.call_claims.specs.Command.{Asked, IsExec}
 use Rattle.call_claims.specs.Stream.{Stream}
-use Rattle.exec_claims.specs.Answer.{IsReadFor, Runs, TakesPrinted}
-use Rattle.exec_claims.specs.Cause.{Cause, Execs}
-use Rattle.exec_claims.specs.Decided.{ExecsNoListing, ExecsTooLong, ExecsBadOrder}
-use Rattle.exec_claims.specs.Decided.{IsDoneAt, IsStuckOrIdleAt, IsTrapAt, RunsTo}
-use Rattle.exec_claims.specs.declared.status.TheConstants.{LISTING_REFUSED, ORDER_REFUSED, STUCK}
+use Rattle.grid_call.specs.of_exec_claims.Answer.{IsReadFor, Runs, TakesPrinted}
+use Rattle.grid_call.specs.of_exec_claims.Cause.{Cause, Execs}
+use Rattle.grid_call.specs.of_exec_claims.Decided.{ExecsNoListing, ExecsTooLong, ExecsBadOrder}
+use Rattle.grid_call.specs.of_exec_claims.Whole.{CanExecute, HasExecuted}
+use Rattle.grid_call.specs.of_exec_claims.Decided.{IsDoneAt, IsStuckOrIdleAt, IsTrapAt, RunsTo}
+use Rattle.grid_call.specs.of_exec_claims.declared.status.TheConstants.{LISTING_REFUSED, ORDER_REFUSED, STUCK}
 
 -- ---- a put that failed
 -- The code was run, and the stream took what is printed in the given turns and a front of what the
@@ -62,6 +63,11 @@ pub record IsExecuted (call : Call) (ran : Ran) (out errs : Stream) : Type 0 whe
       → (ran.status ≡ TURN_LIMIT) ↔ RunsTo call (execution_of ran) IsLimitedAt
   pub stuck : IsSettled call ran.status
       → (ran.status ≡ STUCK) ↔ RunsTo call (execution_of ran) IsStuckOrIdleAt
+  -- Where the file tells a listing, and the words name an order of its processors, if any, the listed
+  -- code was run under it, and what is told is what came of the run, under the same conditions.
+  pub finished : IsSettled call ran.status → (file : List ℕ) (asked : Asked)
+      → IsExec call.words file asked → (can : CanExecute call file asked)
+      → (told : List ℕ) × HasExecuted can (execution_of ran) ran.status told
   -- A put failed: one of out, and errs took nothing, or one of errs, once out had taken all.
   pub put_failed : ran.status ≡ PUT_FAILED
       → (IsOutputCut call ran out.before out.after

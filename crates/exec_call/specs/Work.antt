@@ -11,13 +11,13 @@ use Rattle.call_claims.specs.Call.{Call}
 use Rattle.call_claims.specs.Decided.{IsDecided}
 use Rattle.call_claims.specs.Execution.{Execution, HasNoRun}
 use Rattle.call_claims.specs.Command.{Asked}
-use Rattle.exec_claims.specs.Answer.{IsListedIn}
-use Rattle.exec_claims.specs.Cause.{ListingFileCause}
-use Rattle.call_answers.specs.Answers.{status_of, told_of}
+use Rattle.grid_call.specs.of_exec_claims.Answer.{IsListedIn}
+use Rattle.grid_call.specs.of_exec_claims.Cause.{ListingFileCause}
+use Rattle.grid_call.specs.of_call_answers.Answers.{status_of, told_of}
 use Rattle.grid_call.specs.Work.{HasNoTurns, IsCodeWork}
-use Rattle.call_answers.specs.declared.answers.Answer.{Answer}
-use Rattle.call_answers.specs.declared.answers.Answer.TheVariants as answer
-use Rattle.call_answers.specs.declared.work.Work.{Work}
+use Rattle.grid_call.specs.of_call_answers.declared.answers.Answer.{Answer}
+use Rattle.grid_call.specs.of_call_answers.declared.answers.Answer.TheVariants as answer
+use Rattle.grid_call.specs.of_call_answers.declared.work.Work.{Work}
 
 -- ---- the listing
 -- No code was read, and that has its cause, whatever the words ask for besides.

@@ -9,17 +9,17 @@ ghost use Rattle.call_claims.specs.Command.{IsExec};
 ghost use Rattle.call_claims.specs.Met.{CanBeMet};
 ghost use Rattle.call_claims.specs.Stream.{stream_of};
 ghost use Rattle.call_claims.specs.declared.status.TheConstants.{UNREADABLE, USAGE};
-ghost use Rattle.call_answers.specs.Answers.{status_of};
-ghost use Rattle.call_answers.specs.Stops.{CallStopsAtFault};
+ghost use Rattle.grid_call.specs.of_call_answers.Answers.{status_of};
+ghost use Rattle.grid_call.specs.of_call_answers.Stops.{CallStopsAtFault};
 ghost use Rattle.call_words.specs.Reading.{asked_in};
 ghost use Rattle.exec_call.specs.Call.{IsExecuted};
 ghost use Rattle.exec_call.specs.Work.{IsWorkOn};
 
 use crate::fetches::fetch_code;
-use call_answers::{Answer, Work, answered};
 use call_claims::Ran;
 use call_words::FileCommand;
-use exec_claims::exec_statuses_are_exact;
+use grid_call::call_answers::{Answer, Work, answered};
+use grid_call::exec_claims::{exec_statuses_are_exact, listings_are_executed};
 use grid_call::run_code;
 use listing_runs::listed_code_has_room;
 use std::alloc::Global;
@@ -41,8 +41,8 @@ pub fn exec<F: Files, O: Sink, E: Sink>(
     requires given { (words : List (List ℕ)) ×
         IsExec words command.file.now (asked_in command.asked) }
 
-    // The code and the counts, what out and errs took, the cause of the status, and when statuses
-    // come.
+    // The code and the counts, what out and errs took, the cause of the status, when statuses come,
+    // and that a call which has all that it needs has run the listed code.
     ensures executed { (words : List (List ℕ)) →
         IsExec words command.entry.file.now (asked_in command.entry.asked) →
         IsExecuted (call_of words (F.tells files.old) (F.may_fail files.old)
@@ -63,6 +63,7 @@ pub fn exec<F: Files, O: Sink, E: Sink>(
         (E.has_failed errs.old) (E.has_failed errs.new) (errs.new ≡ errs.old) }
 {
     exec_statuses_are_exact::<F>();
+    listings_are_executed::<F>();
     let work = work_for(alloc, command, files, out);
     answered(alloc, work, errs)
 }

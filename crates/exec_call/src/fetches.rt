@@ -4,13 +4,13 @@ ghost use Rattle.zpl_io.specs.Faults.{CountsFaults};
 ghost use Rattle.zpl_io.specs.Files.{SameTexts};
 ghost use Rattle.node_text.specs.Listing.{IsListing};
 ghost use Rattle.call_claims.specs.Call.{call_of};
-ghost use Rattle.exec_claims.specs.Answer.{IsListedIn};
-ghost use Rattle.exec_claims.specs.declared.limits.TheConstants.{MOST_LISTING};
-ghost use Rattle.call_answers.specs.Fetched.{FailsToFetch};
+ghost use Rattle.grid_call.specs.of_exec_claims.Answer.{IsListedIn};
+ghost use Rattle.grid_call.specs.of_exec_claims.declared.limits.TheConstants.{MOST_LISTING};
+ghost use Rattle.grid_call.specs.of_call_answers.Fetched.{FailsToFetch};
 ghost use Rattle.exec_call.specs.Work.{IsUnlisted, ReadsNone};
 
-use call_answers::{Answer, text_of_file};
-use exec_claims::MOST_LISTING;
+use grid_call::call_answers::{Answer, text_of_file};
+use grid_call::exec_claims::MOST_LISTING;
 use node_form::NodeProgram;
 use node_text::{ListFault, read_listing};
 use std::alloc::Global;

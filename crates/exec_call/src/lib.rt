@@ -10,3 +10,5 @@ mod fetches;
 
 pub use call::exec;
 pub use fetches::fetch_code;
+pub use grid_call;
+pub use grid_call::{call_answers, grid_sim, row_turn};

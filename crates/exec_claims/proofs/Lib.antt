@@ -3,3 +3,4 @@ pub mod KnownLemmas
 pub mod OneCause
 pub mod OrderExact
 pub mod RunStatus
+pub mod WholeLemmas

@@ -60,7 +60,7 @@ module _ (run : Run) (report : Bool) (k : ℕ) where
 pub read_one : {read : Result (List ℕ) ℕ} (at : ℕ) (order : List ℕ) → read ≡ Err at → read ≡ Ok order → ⊥
 read_one at order a b = let no : Err at ≡ Ok order = sym a ∙ b in cc
 
-same_order : (read : Result (List ℕ) ℕ) (order other : List ℕ) → read ≡ Ok order → read ≡ Ok other
+pub same_order : (read : Result (List ℕ) ℕ) (order other : List ℕ) → read ≡ Ok order → read ≡ Ok other
     → order ≡ other
 same_order read order other a b = let same : Ok order ≡ Ok other = sym a ∙ b in cc
 

@@ -1,6 +1,7 @@
 //! The law of causes.
 ghost use Rattle.std.specs.Prelude.{◌≡◌, ◌↔◌, ℕ, List};
 ghost use Rattle.call_claims.specs.Call.{call_of};
+ghost use Rattle.call_claims.specs.Command.{Asked, IsExec};
 ghost use Rattle.call_claims.specs.Decided.{IsSettled};
 ghost use Rattle.call_claims.specs.Execution.{Execution};
 ghost use Rattle.call_claims.specs.declared.status.TheConstants.{DONE, TOO_LONG};
@@ -9,6 +10,7 @@ ghost use Rattle.exec_claims.specs.Cause.{Cause};
 ghost use Rattle.exec_claims.specs.Decided.{ExecsNoListing, ExecsTooLong, ExecsBadOrder};
 ghost use Rattle.exec_claims.specs.Decided.{IsDoneAt, IsStuckOrIdleAt, IsTrapAt, RunsTo};
 ghost use Rattle.grid_runs.specs.Run.{IsLimitedAt};
+ghost use Rattle.exec_claims.specs.Whole.{CanExecute, HasExecuted};
 ghost use Rattle.exec_claims.specs.declared.status.TheConstants.{LISTING_REFUSED};
 ghost use Rattle.exec_claims.specs.declared.status.TheConstants.{ORDER_REFUSED, STUCK};
 
@@ -60,6 +62,21 @@ pub fn exec_statuses_are_exact<F: Files>()
         (told : List ℕ) → let call = call_of words (F.tells files) (F.may_fail files)
         (F.may_fail_later files) in
         Cause call ran n told → IsSettled call n → (n ≡ STUCK) ↔ RunsTo call ran IsStuckOrIdleAt }
+{
+    bytes_have_one_program();
+}
+
+/// A call of `exec` whose file tells a listing, and whose words name an order of its processors, if
+/// any, has run the listed code under the order, and its status is that of what came of the run: it is
+/// over, all turns were given, a processor is stuck, or none can move. So it is where the status has
+/// its cause, memory wasn't wanting, no put and no fetch failed, and the files tell one text a name.
+pub fn listings_are_executed<F: Files>()
+    ensures { (files : F) (words : List (List ℕ)) (ran : Execution) (status : ℕ) (told : List ℕ) →
+        let call = call_of words (F.tells files) (F.may_fail files)
+        (F.may_fail_later files) in
+        Cause call ran status told → IsSettled call status → (file : List ℕ) (asked : Asked) →
+        IsExec words file asked → (can : CanExecute call file asked) →
+        HasExecuted can ran status told }
 {
     bytes_have_one_program();
 }

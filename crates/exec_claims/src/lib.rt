@@ -9,5 +9,5 @@ mod laws;
 mod limits;
 pub mod status;
 
-pub use laws::{exec_causes_are_one, exec_statuses_are_exact};
+pub use laws::{exec_causes_are_one, exec_statuses_are_exact, listings_are_executed};
 pub use limits::MOST_LISTING;

@@ -14,11 +14,11 @@ use Rattle.zpl_meaning.specs.Program.{mean_of}
 use Rattle.array_meaning.specs.MeanFault.{MeanFault}
 use Rattle.array_meaning.specs.MeanFault.TheVariants as fault
 use Rattle.array_meaning.specs.Means.{Means}
-use Rattle.call_answers.specs.Answers.{answer_of}
-use Rattle.call_answers.specs.declared.answers.Answer.TheVariants as answers
-use Rattle.call_answers.specs.declared.refusals.Refusal.{Refusal}
-use Rattle.call_answers.specs.declared.refusals.Refusal.TheVariants.{Lex, Parse, Judge, Bind}
-use Rattle.call_answers.specs.declared.refusals.Refusal.TheVariants.{NoMemory}
+use Rattle.bound_texts.specs.of_call_answers.Answers.{answer_of}
+use Rattle.bound_texts.specs.of_call_answers.declared.answers.Answer.TheVariants as answers
+use Rattle.bound_texts.specs.of_call_answers.declared.refusals.Refusal.{Refusal}
+use Rattle.bound_texts.specs.of_call_answers.declared.refusals.Refusal.TheVariants.{Lex, Parse, Judge, Bind}
+use Rattle.bound_texts.specs.of_call_answers.declared.refusals.Refusal.TheVariants.{NoMemory}
 use Rattle.bound_texts.specs.Refused.{IsRefused, IsTreeless}
 use Rattle.call_claims.specs.Accepted.{IsAccepted, IsFaulty}
 use Rattle.mean_call.specs.Work.{answer_in, MeansText}

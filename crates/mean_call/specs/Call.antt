@@ -1,16 +1,26 @@
 -- What is said of a call of `mean`.
-use Rattle.std.specs.Prelude.{◌≡◌, ◌≢◌, ◌⊎◌, None}
+use Rattle.std.specs.Prelude.{◌≡◌, ◌≢◌, ◌⊎◌, ℕ, List, None}
 use Rattle.zpl_io.specs.Faults.{Rose}
+use Rattle.zpl_io.specs.Sink.{Takes}
 use Rattle.call_claims.specs.declared.ran.Ran.{Ran}
 use Rattle.call_claims.specs.Answer.{IsAnswered}
 use Rattle.call_claims.specs.Call.{Call}
+use Rattle.call_claims.specs.Command.{Asked, IsMean}
 use Rattle.call_claims.specs.Decided.{IsSettled}
+use Rattle.call_claims.specs.Ended.{IsStatusOf}
 use Rattle.call_claims.specs.Execution.{HasNoCounts}
 use Rattle.call_claims.specs.Stream.{Stream}
 use Rattle.call_claims.specs.declared.status.TheConstants.{PUT_FAILED}
-use Rattle.mean_claims.specs.Answer.{IsHalfAnswered, TakesOutput, TakesPart}
-use Rattle.mean_claims.specs.Cause.{Cause}
-use Rattle.mean_claims.specs.Decided.{IsExact}
+use Rattle.bound_texts.specs.of_mean_claims.Answer.{IsHalfAnswered, TakesOutput, TakesPart}
+use Rattle.bound_texts.specs.of_mean_claims.Cause.{Cause}
+use Rattle.bound_texts.specs.of_mean_claims.Decided.{IsExact}
+use Rattle.bound_texts.specs.of_mean_claims.Whole.{CanMean, meaning_in}
+
+-- The status is that of the end of what the program means, and the sink took just its bytes.
+pub record HasMeant {call : Call} {file : List ℕ} {asked : Asked} (can : CanMean call file asked)
+    (status : ℕ) (before after : List ℕ → Type 0) : Type 0 where
+  pub ended : IsStatusOf (meaning_in can).ending status
+  pub took : Takes before (meaning_in can).bytes after
 
 pub record IsMeant (call : Call) (answered : Ran) (out errs : Stream) : Type 0 where
   -- No code is made.
@@ -26,6 +36,11 @@ pub record IsMeant (call : Call) (answered : Ran) (out errs : Stream) : Type 0 w
   -- Each status comes just where its own cause is, where no put or fetch failed, the files tell one
   -- text a name, and memory wasn't wanting.
   pub exact : IsSettled call answered.status → IsExact call answered.status
+  -- Where the file tells an accepted program, which ends within the turns that are asked for, the
+  -- call has printed what it means, under the same conditions.
+  pub finished : IsSettled call answered.status → (file : List ℕ) (asked : Asked)
+      → IsMean call.words file asked → (can : CanMean call file asked)
+      → HasMeant can answered.status out.before out.after
   -- A put failed: one of out, which took a front of the bytes, and errs took nothing; or one of
   -- errs, once out had taken all.
   pub put_failed : answered.status ≡ PUT_FAILED

@@ -13,16 +13,16 @@ use Rattle.call_claims.specs.Call.{Call}
 use Rattle.call_claims.specs.Decided.{IsDecided}
 use Rattle.call_claims.specs.Refusal.{IsFault}
 use Rattle.call_claims.specs.Texts.{bind_name, settings_text}
-use Rattle.call_answers.specs.declared.answers.Answer.{Answer}
-use Rattle.call_answers.specs.declared.answers.Answer.TheVariants as answer
-use Rattle.call_answers.specs.declared.answers.Stop.{Stop}
-use Rattle.call_answers.specs.declared.answers.Stop.TheVariants as stop
-use Rattle.call_answers.specs.Answers.{status_of, told_of}
-use Rattle.call_answers.specs.Refusals.{refusal_text}
-use Rattle.mean_claims.specs.Answer.{TakesOutput, TakesPart}
-use Rattle.mean_claims.specs.Cause.{Cause}
+use Rattle.bound_texts.specs.of_call_answers.declared.answers.Answer.{Answer}
+use Rattle.bound_texts.specs.of_call_answers.declared.answers.Answer.TheVariants as answer
+use Rattle.bound_texts.specs.of_call_answers.declared.answers.Stop.{Stop}
+use Rattle.bound_texts.specs.of_call_answers.declared.answers.Stop.TheVariants as stop
+use Rattle.bound_texts.specs.of_call_answers.Answers.{status_of, told_of}
+use Rattle.bound_texts.specs.of_call_answers.Refusals.{refusal_text}
+use Rattle.bound_texts.specs.of_mean_claims.Answer.{TakesOutput, TakesPart}
+use Rattle.bound_texts.specs.of_mean_claims.Cause.{Cause}
 use Rattle.call_claims.specs.Accepted.{IsFaulty}
-use Rattle.mean_claims.specs.Text.{HasMeaning, IsUnboundWith}
+use Rattle.bound_texts.specs.of_mean_claims.Text.{HasMeaning, IsUnboundWith}
 
 -- the answer of a meaning's end, or of what cut it off
 abbrev pub answer_in : Result End MeanFault → Answer

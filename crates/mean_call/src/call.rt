@@ -7,14 +7,14 @@ ghost use Rattle.call_claims.specs.Command.{IsMean};
 ghost use Rattle.call_claims.specs.Stream.{stream_of};
 ghost use Rattle.call_claims.specs.declared.status.TheConstants.{USAGE};
 ghost use Rattle.call_words.specs.Reading.{asked_in};
-ghost use Rattle.call_answers.specs.Stops.{CallStopsAtFault};
+ghost use Rattle.bound_texts.specs.of_call_answers.Stops.{CallStopsAtFault};
 ghost use Rattle.mean_call.specs.Call.{IsMeant};
 
 use crate::files::mean_file;
-use call_answers::{Work, answered};
+use bound_texts::call_answers::{Work, answered};
+use bound_texts::mean_claims::{accepted_programs_are_meant, mean_statuses_are_exact};
 use call_claims::Ran;
 use call_words::FileCommand;
-use mean_claims::mean_statuses_are_exact;
 use std::alloc::Global;
 use zpl_io::{Files, Sink};
 
@@ -35,7 +35,8 @@ pub fn mean<F: Files, O: Sink, E: Sink>(
     requires given { (words : List (List ℕ)) ×
         IsMean words command.file.now (asked_in command.asked) }
 
-    // What out and errs took, the cause of the status, and when statuses come.
+    // What out and errs took, the cause of the status, when statuses come, and that a call which has
+    // all that it needs has printed what its program means.
     ensures meant { (words : List (List ℕ)) →
         IsMean words command.entry.file.now (asked_in command.entry.asked) →
         IsMeant (call_of words (F.tells files.old) (F.may_fail files.old)
@@ -56,6 +57,7 @@ pub fn mean<F: Files, O: Sink, E: Sink>(
         (E.has_failed errs.old) (E.has_failed errs.new) (errs.new ≡ errs.old) }
 {
     mean_statuses_are_exact::<F>();
+    accepted_programs_are_meant::<F, O>();
     let answer = mean_file(alloc, command, files, out);
     answered(alloc, Work::without_turns(None, answer), errs)
 }

@@ -6,12 +6,12 @@ ghost use Rattle.zpl_io.specs.Sink.{StopsAtFault};
 ghost use Rattle.call_claims.specs.Call.{call_of};
 ghost use Rattle.call_claims.specs.declared.status.TheConstants.{UNREADABLE};
 ghost use Rattle.call_words.specs.Reading.{asked_in};
-ghost use Rattle.call_answers.specs.Answers.{status_of};
+ghost use Rattle.bound_texts.specs.of_call_answers.Answers.{status_of};
 ghost use Rattle.call_claims.specs.Command.{IsMean};
 ghost use Rattle.mean_call.specs.Work.{IsMeanWork};
 
 use crate::texts::mean_text;
-use call_answers::{Answer, text_of_file};
+use bound_texts::call_answers::{Answer, text_of_file};
 use call_words::FileCommand;
 use std::alloc::Global;
 use zpl_io::{Files, Sink};

@@ -5,4 +5,5 @@ mod call;
 mod files;
 mod texts;
 
+pub use bound_texts::call_answers;
 pub use call::mean;

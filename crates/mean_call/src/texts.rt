@@ -11,9 +11,9 @@ ghost use Rattle.bound_texts.specs.Accepted.{Carries, program_of};
 ghost use Rattle.mean_call.specs.Work.{answer_in, MeansText};
 
 use array_meaning::{MeanFault, mean};
+use bound_texts::call_answers::{Answer, Stop};
 use bound_texts::{Accepted, accepted_text};
 use bumpalo::Bump;
-use call_answers::{Answer, Stop};
 use call_words::Asked;
 use std::alloc::Global;
 use zpl_io::Sink;

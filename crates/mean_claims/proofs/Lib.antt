@@ -1,3 +1,4 @@
 pub mod Exact
 pub mod KnownLemmas
 pub mod OneLemmas
+pub mod WholeLemmas

@@ -2,3 +2,4 @@ pub mod Answer
 pub mod Cause
 pub mod Decided
 pub mod Text
+pub mod Whole

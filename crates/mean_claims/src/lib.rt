@@ -7,4 +7,4 @@
 
 mod laws;
 
-pub use laws::{mean_causes_are_one, mean_statuses_are_exact};
+pub use laws::{accepted_programs_are_meant, mean_causes_are_one, mean_statuses_are_exact};

@@ -15,23 +15,23 @@ use Rattle.grid_runs.specs.Run.{grid_at}
 use Rattle.zpl_claims.specs.Bound.{turn_bound}
 use Rattle.zpl_claims.specs.Good.{Finishes}
 use Rattle.zpl_io.specs.Sink.{Takes}
-use Rattle.zpl_compile.specs.Compile.{compiled}
+use Rattle.list_claims.specs.of_zpl_compile.Compile.{compiled}
 use Rattle.call_claims.specs.Accepted.{IsAccepted}
 use Rattle.call_claims.specs.declared.ran.Ran.{Ran}
 use Rattle.call_claims.specs.Call.{Call}
 use Rattle.call_claims.specs.Cause.FileCause.{unreadable, too_long, work}
 use Rattle.call_claims.specs.Command.{Asked, IsRun, RunTakes, build_of, limit_of}
 use Rattle.call_claims.specs.Decided.{IsSettled}
+use Rattle.call_claims.specs.Ended.{IsStatusOf, normal, trapped}
 use Rattle.call_claims.specs.Execution.{Execution, execution_of}
 use Rattle.call_claims.specs.declared.status.TheConstants.{DONE, TRAPPED}
 use Rattle.call_claims.proofs.MetLemmas.{is_met}
 use Rattle.call_claims.proofs.OneLemmas.{as_asked}
-use Rattle.exec_claims.specs.Cause.{OrderCause, OrderFileCause, RunCause, run_of}
+use Rattle.exec_claims.specs.Cause.{RunCause, run_of}
 use Rattle.exec_claims.specs.Cause.RunCause.{done, trap, turn_limit, stuck, idle}
-use Rattle.exec_claims.specs.Cause.OrderCause.{bad_item, ran}
-use Rattle.exec_claims.specs.Cause.TextCause.{unreadable as order_unreadable, too_long as order_long, work as of_order}
 use Rattle.exec_claims.specs.Decided.{IsOrderText}
-use Rattle.exec_claims.proofs.OneCause.{not_long, read_one}
+use Rattle.exec_claims.proofs.OneCause.{same_order}
+use Rattle.exec_claims.proofs.WholeLemmas.{under_order}
 use Rattle.list_claims.specs.Cause.CodeCause.{faulty, made}
 use Rattle.list_claims.specs.Code.{IsAcceptedFor, IsCodeOf}
 use Rattle.list_claims.proofs.ProgramLemmas.{fault_none, text_short, texts_same}
@@ -40,7 +40,7 @@ use Rattle.exec_claims.specs.Answer as orders
 use Rattle.run_claims.specs.Answer.{TakesPrinted}
 use Rattle.run_claims.specs.Cause.{Cause, RunFileCause, Runs}
 use Rattle.run_claims.specs.Cause.Cause.{no_memory, run}
-use Rattle.run_claims.specs.Whole.{CanFinish, HasFinished, HasTurns, IsStatusOf, grid_of, meant_by, normal, trapped}
+use Rattle.run_claims.specs.Whole.{CanFinish, HasFinished, HasTurns, grid_of, meant_by}
 use Rattle.run_claims.proofs.CodeLemmas.{Laws, never_idle, never_stuck, right_at, too_few}
 
 -- a meaning that has ended stays so for greater bounds
@@ -58,37 +58,9 @@ one_meaning stay program settings n m one other = elim (cases_lt n m) [
   | inr more ↦ stay program settings m n more other
 ]
 
-same_ok : (read : Result (List ℕ) ℕ) (order other : List ℕ) → read ≡ Ok order → read ≡ Ok other
-    → order ≡ other
-same_ok read order other a b = let same : Ok order ≡ Ok other = sym a ∙ b in cc
-
 pub same_end : (found : Option End) (one other : End) → found ≡ Some one → found ≡ Some other
     → one ≡ other
 same_end found one other a b = let same : Some one ≡ Some other = sym a ∙ b in cc
-
--- ---- the order
-module _ (call : Call) (code : Tables) (asked : Asked) (turns : ℕ) (order : List ℕ) where
-  under_text : (text : List ℕ) {n : ℕ} {told : List ℕ} → reading (processors code) text ≡ Ok order
-      → OrderCause code asked turns text n told
-      → RunCause (run_of code asked order) asked.report turns n told
-  under_text text read (bad_item at e z) = absurd (read_one at order e read)
-  under_text text {n = n} {told = told} read (ran other e goes c) =
-      subst (λ o. RunCause (run_of code asked o) asked.report turns n told)
-      (same_ok _ other order e read) c
-
-  under_order : (file : Option (List ℕ)) (text : List ℕ) {n : ℕ} {told : List ℕ}
-      → IsSettled call n → IsOrderText call file text → reading (processors code) text ≡ Ok order
-      → OrderFileCause call code asked turns file n told
-      → RunCause (run_of code asked order) asked.report turns n told
-  under_order None text settled is read c =
-      under_text [] (subst (λ t. reading (processors code) t ≡ Ok order) is read) c
-  under_order (Some file) text settled is read (order_unreadable may ends) =
-      absurd (settled.read refl)
-  under_order (Some file) text settled is read (order_long long ends) =
-      absurd (not_long call file (settled.one file) long is.0)
-  under_order (Some file) text settled is read (of_order source w) =
-      under_text source.text (subst (λ t. reading (processors code) t ≡ Ok order)
-      (sym is.1 ∙ settled.one file is.0.text source.text is.0.told source.told) read) w
 
 not_both : (limit needed : ℕ) → limit < needed → needed ≤ limit → ⊥
 not_both limit needed less enough = omega (arith, less, enough)
@@ -180,7 +152,7 @@ module _ (laws : Laws) (stay : EndingsStay) (one : OneProgram) (call : Call) (ex
       (sym coded) can.read in
       let e = ended laws stay asked of_text bound turns capacity can.order_text can.order read ex.turns
       n told (under_order call code asked ex.turns can.order asked.order can.order_text settled
-      can.told read does) in
+      can.told read does).cause in
       let mean : mean_of of_text.program asked.settings bound ≡ meant_by can =
       ap (λ p. mean_of p asked.settings bound) same in
       let grid : grid_at (run_of code asked can.order) ex.turns ≡ grid_of can ex.turns =
@@ -219,10 +191,10 @@ module _ (call : Call) (file : List ℕ) (asked : Asked) (bound status : ℕ)
       by : (named : Option (List ℕ)) → IsOrderText call named text
           → IsOrderText call named can.order_text → order ≡ can.order
       by None mine other =
-          same_ok _ order can.order read
+          same_order _ order can.order read
           (subst (λ t. reading (processors code) t ≡ Ok can.order) (other ∙ sym mine) can.read)
       by (Some name) mine other =
-          same_ok _ order can.order read
+          same_order _ order can.order read
           (subst (λ t. reading (processors code) t ≡ Ok can.order)
           (sym other.1 ∙ settled.one name other.0.text mine.0.text other.0.told mine.0.told ∙ mine.1) can.read)
 

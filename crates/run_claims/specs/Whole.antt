@@ -4,9 +4,7 @@
 --   CanFinish     the files tell an accepted program and an order, and the turns are enough
 --   HasFinished   the run is over, with what the program means
 use Rattle.std.specs.Prelude.{◌≡◌, ◌≢◌, ℕ, ◌≤◌, List, Some, Ok}
-use Rattle.zpl_nums.specs.declared.ends.End.{End}
-use Rattle.zpl_nums.specs.declared.ends.End.TheVariants.{Done, Trap, More}
-use Rattle.zpl_nums.specs.declared.ends.TrapKind.{TrapKind}
+use Rattle.zpl_nums.specs.declared.ends.End.TheVariants.{More}
 use Rattle.zpl_tree.specs.Syntax.{Program}
 use Rattle.zpl_names.specs.Expansion.{shattered_loops}
 use Rattle.zpl_meaning.specs.Program.{Meaning, mean_of, steps_of}
@@ -15,12 +13,12 @@ use Rattle.grid_order.specs.Reading.{reading}
 use Rattle.grid_runs.specs.Run.{grid_at}
 use Rattle.zpl_claims.specs.Bound.{turn_bound}
 use Rattle.zpl_claims.specs.Build.{Build}
-use Rattle.zpl_compile.specs.Compile.{compiled}
+use Rattle.list_claims.specs.of_zpl_compile.Compile.{compiled}
 use Rattle.call_claims.specs.Call.{Call}
 use Rattle.call_claims.specs.Command.{Asked, build_of, limit_of}
+use Rattle.call_claims.specs.Ended.{IsStatusOf}
 use Rattle.call_claims.specs.Execution.{Execution}
 use Rattle.call_claims.specs.Source.{Source}
-use Rattle.call_claims.specs.declared.status.TheConstants.{DONE, TRAPPED}
 use Rattle.exec_claims.specs.Cause.{run_of}
 use Rattle.exec_claims.specs.Decided.{IsOrderText}
 use Rattle.list_claims.specs.Code.{IsAcceptedFor}
@@ -53,11 +51,6 @@ abbrev pub grid_of : {call : Call} {file : List ℕ} {asked : Asked} {n : ℕ}
     → CanFinish call file asked n → ℕ → Grid
 grid_of {asked = asked} can =
     grid_at (run_of (compiled (build_of asked) can.program) asked can.order)
-
--- the status with which a run ends so
-pub data IsStatusOf : End → ℕ → Type 0 where
-  normal : IsStatusOf Done DONE
-  trapped : {kind : TrapKind} {line : ℕ} → IsStatusOf (Trap kind line) TRAPPED
 
 -- What the program is compiled to was run under the order until it was over, with the end of what the
 -- program means, and has printed all of that; and the status is that of this end.

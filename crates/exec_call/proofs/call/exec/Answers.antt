@@ -2,15 +2,15 @@ use Rattle.std.proofs.Common.{◌≡◌, inl, inr, sym, subst, arith}
 use Rattle.call_claims.specs.Call.{call_of}
 use Rattle.call_claims.specs.Stream.{stream_of}
 use Rattle.call_claims.proofs.MetLemmas.{is_met}
-use Rattle.call_answers.specs.Answers.{told_of}
-use Rattle.call_answers.specs.Work.{execution_in}
-use Rattle.call_answers.proofs.CallLemmas.{answered, call_stops, failed_put, fetches_counted}
-use Rattle.call_answers.proofs.CallLemmas.{puts_counted, status_caused, work_other}
-use Rattle.call_answers.proofs.CallLemmas.FailedPut.{in_work, in_telling}
+use Rattle.grid_call.specs.of_call_answers.Answers.{told_of}
+use Rattle.grid_call.specs.of_call_answers.Work.{execution_in}
+use Rattle.grid_call.proofs.of_call_answers.CallLemmas.{answered, call_stops, failed_put, fetches_counted}
+use Rattle.grid_call.proofs.of_call_answers.CallLemmas.{puts_counted, status_caused, work_other}
+use Rattle.grid_call.proofs.of_call_answers.CallLemmas.FailedPut.{in_work, in_telling}
 use Rattle.call_words.specs.Reading.{asked_in}
-use Rattle.exec_claims.specs.Cause.{Cause}
-use Rattle.exec_claims.specs.Cause.Cause.{no_memory}
-use Rattle.exec_claims.proofs.KnownLemmas.{cause_known}
+use Rattle.grid_call.specs.of_exec_claims.Cause.{Cause}
+use Rattle.grid_call.specs.of_exec_claims.Cause.Cause.{no_memory}
+use Rattle.grid_call.proofs.of_exec_claims.KnownLemmas.{cause_known}
 use Rattle.exec_call.specs.Call.{IsExecuted}
 use Rattle.exec_call.proofs.WorkLemmas.{caused, cut_for, printed_for, read_for}
 use Rattle.exec_call.proofs.call.exec.Goals as goal
@@ -61,6 +61,11 @@ returns-clause-executed g c = λ words given.
           (cause settled.decided.put) settled;
       stuck = λ settled. all.stuck c.args.files.now words at status text
           (cause settled.decided.put) settled;
+      finished = λ settled name wanted is can. (
+        text,
+        c.listings_are_executed.ensures c.args.files.now words at status text
+            (cause settled.decided.put) settled name wanted is can,
+      );
       put_failed = λ nine.
           elim (failed_put work.result.answer status _ told caused_by no_memory has_cause nine) [
             | in_work cut_off same ↦ inl (

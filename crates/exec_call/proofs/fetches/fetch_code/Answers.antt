@@ -1,8 +1,8 @@
 use Rattle.std.proofs.Common.{◌≤◌, length, sym, subst}
 use Rattle.call_claims.specs.Call.{call_of}
-use Rattle.call_answers.proofs.FetchLemmas.{on_err, on_ok}
-use Rattle.call_answers.specs.Fetched.{IsWholeText}
-use Rattle.exec_claims.specs.declared.limits.TheConstants.{MOST_LISTING}
+use Rattle.grid_call.proofs.of_call_answers.FetchLemmas.{on_err, on_ok}
+use Rattle.grid_call.specs.of_call_answers.Fetched.{IsWholeText}
+use Rattle.grid_call.specs.of_exec_claims.declared.limits.TheConstants.{MOST_LISTING}
 use Rattle.grid_call.proofs.WorkLemmas.{source_of}
 use Rattle.exec_call.proofs.WorkLemmas.{unfetched, unlisted_of}
 use Rattle.exec_call.proofs.fetches.fetch_code.Goals as goal

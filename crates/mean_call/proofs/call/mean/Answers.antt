@@ -4,12 +4,12 @@ use Rattle.call_claims.specs.Stream.{stream_of}
 use Rattle.zpl_io.specs.Faults.{CountsFaults}
 use Rattle.zpl_io.specs.Sink.{StopsAtFault}
 use Rattle.call_claims.specs.declared.status.TheConstants.{UNREADABLE}
-use Rattle.call_answers.specs.Answers.{status_of, told_of}
-use Rattle.call_answers.specs.declared.answers.Answer.TheVariants as answer
-use Rattle.call_answers.proofs.CallLemmas.{answered, call_stops, failed_put, fetches_counted}
-use Rattle.call_answers.proofs.CallLemmas.{puts_counted, status_caused}
-use Rattle.call_answers.proofs.CallLemmas.FailedPut.{in_work, in_telling}
-use Rattle.mean_claims.proofs.KnownLemmas.{cause_known}
+use Rattle.bound_texts.specs.of_call_answers.Answers.{status_of, told_of}
+use Rattle.bound_texts.specs.of_call_answers.declared.answers.Answer.TheVariants as answer
+use Rattle.bound_texts.proofs.of_call_answers.CallLemmas.{answered, call_stops, failed_put, fetches_counted}
+use Rattle.bound_texts.proofs.of_call_answers.CallLemmas.{puts_counted, status_caused}
+use Rattle.bound_texts.proofs.of_call_answers.CallLemmas.FailedPut.{in_work, in_telling}
+use Rattle.bound_texts.proofs.of_mean_claims.KnownLemmas.{cause_known}
 use Rattle.mean_call.specs.Call.{IsMeant}
 use Rattle.mean_call.specs.Work.{IsMeanWork}
 use Rattle.mean_call.proofs.WorkLemmas.{Comes, wanting_comes, work_comes}
@@ -48,6 +48,15 @@ returns-clause-meant g c = λ words given.
           record { text = is.text; cause = is.cause.0; told = is.told };
       exact = λ settled. c.mean_statuses_are_exact.ensures c.args.files.now words status
           (told_of told.answer) (caused settled.decided.put).0 settled;
+      finished = λ settled file asked is can.
+          let end = c.accepted_programs_are_meant.ensures.ended c.args.files.now words status
+          (told_of told.answer) (caused settled.decided.put).0 settled file asked is can in
+          record {
+            ended = end;
+            took = c.accepted_programs_are_meant.ensures.taken c.args.files.now c.args.out.now
+                c.mean_file-answer.new.out words status settled file asked is can end
+                (caused settled.decided.put).1;
+          };
       put_failed = λ nine. elim (failed_put a status _ told comes wanting has_cause nine) [
         | in_work cut_off same ↦ inl (
           work.cut cut_off,
