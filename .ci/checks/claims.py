@@ -6,7 +6,9 @@ Run it at the top of the repository: .ci/checks/claims.py. It says what each REA
 sentence says no more than its clause is for readers.
 
 - A README has the five heads of a library, or the three of a crate of tests.
-- What stands below a crate is what its line of crates.txt names.
+- What stands below a crate is what its line of crates.txt names, and what its sources name through a crate of that line,
+  which passes it on (`Rattle.high.specs.of_low.Word`, `high::low::item`).
+- Ways from crates to crates below them are few, all in all (docs/PROVING.md says why).
 - A word stands in the module of `specs/` that its row names; and so for `docs/DEFINITIONS.md`.
 - In a row of a function a name in front of a colon is a clause of it.
 - Each other name of what is proved is one of the sources of the crate, of a crate below it, or of one that is
@@ -24,6 +26,8 @@ KIT = {"bumpalo", "hex", "indexmap", "itoa"}
 HEADS = ["What it does", "What is proved, and by which clause", "What is only tested", "What stands below it",
          "How to read its specs"]
 HEADS_OF_TESTS = ["What it does", "What is proved", "What stands below it"]
+MOST_WAYS = 300_000
+PASSED_ON = re.compile(r"(?m)^pub use (?:Rattle\.\w+\.(?:specs|proofs)(?:\.of_\w+)? as of_\w+\n|(?:\w+::)?\w+;\n|\w+::\{[a-z_, ]+\};\n)")
 CLAUSE = re.compile(r"\s*(requires|ensures|decreases)\b\s*([A-Za-z_0-9]*)\s*\{")
 
 
@@ -49,6 +53,29 @@ def below(name, of, found):
         for library in of[name]:
             below(library, of, found)
     return found
+
+
+def ways(of):
+    """How many ways lead from all crates to what stands below them, each crate itself counted as one."""
+    found = {}
+
+    def count(name):
+        if name not in found:
+            found[name] = 1 + sum(count(library) for library in of[name] if library in of)
+        return found[name]
+
+    return sum(count(name) for name in of)
+
+
+def named_through(crate, of):
+    """The crates that the sources of a crate name through one of its line of crates.txt."""
+    found = set()
+    for folder, kind in (("src", "rt"), ("specs", "antt"), ("proofs", "antt")):
+        for _, text in texts(crate, folder, kind):
+            text = PASSED_ON.sub("", text)
+            found.update(re.findall(r"\bRattle\.\w+\.(?:specs|proofs)\.of_(\w+)", text))
+            found.update(low for above, low in re.findall(r"\b(\w+)::(\w+)\b", text) if above in of[crate])
+    return found & below(crate, of, set()) - {crate}
 
 
 def texts(crate, folder, kind):
@@ -143,8 +170,9 @@ def wrong_clauses(clauses, words, head, cells):
 
 def wrong_below(crate, section, of):
     named = {name for name in quoted(section) if name in of or name in KIT}
-    told = [f"{name} stands below it, and isn't named so" for name in of[crate] if name not in named]
-    return told + [f"{name} isn't in its line of crates.txt" for name in sorted(named - set(of[crate]))]
+    used = set(of[crate]) | named_through(crate, of)
+    told = [f"{name} stands below it, and isn't named so" for name in sorted(used - named)]
+    return told + [f"{name} is named by none of its files" for name in sorted(named - used)]
 
 
 def wrong_in(crate, of, names, clauses):
@@ -219,7 +247,8 @@ def wrong_primers():
 def main():
     of = libraries()
     names = {crate: names_of(crate) for crate in of}
-    told = wrong_tables(of) + [f"docs/DEFINITIONS.md: {wrong}" for wrong in wrong_definitions()] + wrong_primers()
+    told = [f"crates.txt: {ways(of)} ways from crates to crates below them"] if ways(of) > MOST_WAYS else []
+    told += wrong_tables(of) + [f"docs/DEFINITIONS.md: {wrong}" for wrong in wrong_definitions()] + wrong_primers()
     for crate in of:
         told += [f"crates/{crate}/README.md: {wrong}" for wrong in wrong_in(crate, of, names, clauses_of(crate))]
     for wrong in told:

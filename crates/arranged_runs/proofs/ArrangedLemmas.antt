@@ -10,7 +10,7 @@ use Rattle.row_runs.specs.Run.{Result}
 use Rattle.row_runs.specs.Segments.{Keeps, Same}
 use Rattle.row_runs.proofs.RowLemmas.{keeps_through}
 use Rattle.grid_meaning.specs.State.{HasThree}
-use Rattle.plan_meaning.specs.Act.{plan_run}
+use Rattle.zpl_compile.specs.of_plan_meaning.Act.{plan_run}
 use Rattle.comm_needs.specs.Needs.{planned}
 use Rattle.comm_combine.specs.Merge.{neighbours_merged}
 use Rattle.comm_combine.specs.Repeats.{repeats_dropped}

@@ -39,8 +39,8 @@ use Rattle.comm_combine.specs.Repeats.{without_fresh}
 use Rattle.comm_early.specs.Send.{sent_early}
 use Rattle.comm_early.proofs.SumLemmas.{rows_stay}
 use Rattle.grid_meaning.specs.State.{HasThree}
-use Rattle.needs_runs.specs.Agree.{HasThreeOf}
-use Rattle.needs_runs.specs.Sharable.{HasThreeIn}
+use Rattle.plan_passes.specs.of_needs_runs.Agree.{HasThreeOf}
+use Rattle.plan_passes.specs.of_needs_runs.Sharable.{HasThreeIn}
 use Rattle.pass_fits.proofs.NeedLemmas.{items_added}
 use Rattle.plan_passes.specs.Threes.{HasThrees}
 use Rattle.arranged_runs.specs.Plannable.{HasFlatThrees}

@@ -3,8 +3,8 @@ use Rattle.std.specs.Prelude.{◌≡◌, All, length}
 use Rattle.node_form.specs.declared.arrays.ArrayRow.{ArrayRow}
 use Rattle.node_form.specs.declared.tables.Tables.{Tables}
 use Rattle.flat_form.specs.Flat.{IsFlat}
-use Rattle.needs_runs.specs.Agree.{HasThreeOf}
-use Rattle.needs_runs.specs.Sharable.{HasThreeIn}
+use Rattle.plan_passes.specs.of_needs_runs.Agree.{HasThreeOf}
+use Rattle.plan_passes.specs.of_needs_runs.Sharable.{HasThreeIn}
 use Rattle.stored_shifts.specs.Stored.{ShiftsAreStored}
 
 -- What a program's types give the tables of its flat program: what is of three has three. Shifts

@@ -11,7 +11,7 @@ ghost use Rattle.node_form.specs.Grid.{IsGrid};
 ghost use Rattle.row_runs.specs.Segments.{Keeps};
 ghost use Rattle.flat_form.specs.Flat.{IsFlat};
 ghost use Rattle.grid_meaning.specs.State.{HasThree};
-ghost use Rattle.plan_meaning.specs.Act.{plan_run};
+ghost use Rattle.zpl_compile.specs.of_plan_meaning.Act.{plan_run};
 ghost use Rattle.stored_shifts.specs.Stored.{ShiftsAreStored};
 ghost use Rattle.plan_form.specs.Plan.{IsPlan, IsPlanRow};
 ghost use Rattle.comm_needs.specs.Needs.{planned};

@@ -1,1 +1,2 @@
 pub mod EffectLemmas
+pub use Rattle.array_values.proofs as of_array_values

@@ -11,9 +11,9 @@ ghost use Rattle.array_effects.specs.Effect.{array_in, assigned};
 use array_stops::Stop;
 use array_store::{Array, Store};
 use array_terms::{Over, Term};
+use array_values::row_stacks::clear_behind;
 use array_values::{kept_in, no_array, push_operand};
 use array_writes::Row;
-use row_stacks::clear_behind;
 use std::alloc::{AllocError, Global};
 
 /// Puts the values of a term at all tuples of a region into a buffer, in the place of what it has,

@@ -3,4 +3,5 @@
 
 mod arrays;
 
+pub use array_values;
 pub use arrays::{assign, values_over};

@@ -30,7 +30,7 @@ use Rattle.zpl_bind.specs.Tables.{computed, found, listed}
 use Rattle.zpl_bind.proofs.RegionLemmas.{built-region, found-or-holds}
 use Rattle.zpl_bind.proofs.StorageLemmas.{around-both, around-hull, around-outside}
 use Rattle.zpl_bind.proofs.TableLemmas.{outcome-found}
-use Rattle.array_terms.specs.Sound.{IsSmall}
+use Rattle.array_regions.specs.of_array_terms.Sound.{IsSmall}
 use Rattle.array_places.specs.Sound.{IsRanked}
 use Rattle.array_regions.specs.Fit.{IsFitInner}
 use Rattle.array_regions.proofs.RegionLemmas.{small-within}

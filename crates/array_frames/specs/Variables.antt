@@ -11,7 +11,7 @@ use Rattle.zpl_binding.specs.Storages.{Border, shaped_by, shaped_in}
 use Rattle.zpl_meaning.specs.Store.{Names, Store}
 use Rattle.zpl_meaning.specs.Variables.{Frame, with_scalar_named, with_array_named, zero_array}
 use Rattle.zpl_meaning.specs.Variables.{home_box, storage_box, with_values}
-use Rattle.array_terms.specs.Sound.{IsSmall}
+use Rattle.array_regions.specs.of_array_terms.Sound.{IsSmall}
 use Rattle.array_regions.specs.Fit.{IsFitInner}
 use Rattle.array_frames.specs.declared.variables.Boxes.{Boxes}
 use Rattle.array_frames.specs.declared.variables.Variable.{Variable}

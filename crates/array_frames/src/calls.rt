@@ -11,7 +11,7 @@ ghost use Rattle.array_frames.specs.Variables.{framed, named};
 use crate::frames::{with_array, with_scalar, with_variables};
 use crate::heads::Head;
 use array_places::{Thing, Things};
-use array_store::{Array, Store};
+use array_regions::array_store::{Array, Store};
 use std::alloc::{AllocError, Global};
 use zpl_region::Region;
 

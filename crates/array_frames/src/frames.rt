@@ -10,7 +10,7 @@ ghost use Rattle.array_frames.specs.Variables.{with_declared};
 
 use crate::variables::Variable;
 use array_places::{Thing, Things};
-use array_store::{Array, Store};
+use array_regions::array_store::{Array, Store};
 use std::alloc::{AllocError, Global};
 use zpl_bind::Known;
 use zpl_region::Region;

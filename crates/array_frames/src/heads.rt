@@ -5,7 +5,7 @@ ghost use Rattle.zpl_tree.specs.View.{decl_of, name_of, param_of, procedure_of};
 ghost use Rattle.zpl_names.specs.Expansion.{formal_names};
 ghost use Rattle.zpl_bind.specs.Known.{known_in};
 ghost use Rattle.zpl_bind.specs.Storages.{shaped_locals};
-ghost use Rattle.array_terms.specs.Sound.{IsSmall};
+ghost use Rattle.array_regions.specs.of_array_terms.Sound.{IsSmall};
 ghost use Rattle.array_places.specs.Sound.{IsRanked};
 ghost use Rattle.array_frames.specs.Heads.{AreFitVars, IsFitDecl, IsHead, all_names_at};
 ghost use Rattle.array_frames.specs.Heads.{formal_texts, local_count, names_at, names_in};

@@ -8,6 +8,8 @@ mod openings;
 mod places;
 mod variables;
 
+pub use array_places;
+pub use array_regions;
 pub use calls::{Handed, entered};
 pub use heads::Head;
 pub use openings::{Opening, opening_of};

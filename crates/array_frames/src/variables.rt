@@ -6,7 +6,7 @@ ghost use Rattle.zpl_binding.specs.Storages.{shaped_by};
 ghost use Rattle.zpl_tree.specs.View.{bracket_of, inner_of as seen_inner, name_of, var_of};
 ghost use Rattle.zpl_bind.specs.Known.{known_in};
 ghost use Rattle.zpl_meaning.specs.Variables.{home_box};
-ghost use Rattle.array_terms.specs.Sound.{IsSmall};
+ghost use Rattle.array_regions.specs.of_array_terms.Sound.{IsSmall};
 ghost use Rattle.array_places.specs.Sound.{IsRanked};
 ghost use Rattle.array_regions.specs.Fit.{IsFitInner};
 ghost use Rattle.array_frames.specs.Heads.{AreFitVars};

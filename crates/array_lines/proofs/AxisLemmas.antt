@@ -1,13 +1,13 @@
 -- Lemmas on the coordinates of a dimension as numbers with one step between them.
 use Rattle.std.proofs.Common.{◌≡◌, ℕ, zero, suc, ◌-◌, ◌*◌, ◌^◌, ◌<◌, Option, Some, None, List, get_or, ℤ, pos, neg_ℤ, ◌≤ℤ◌, ◌+ℤ◌, unsigned_abs, sym, ◌∙◌, ap, subst, arith}
 use Rattle.std.proofs.lemmas.Int.{ints}
-use Rattle.zpl_region.specs.declared.dims.Dim.{Dim}
-use Rattle.zpl_region.specs.declared.dims.Dim.TheVariants.{Range}
-use Rattle.zpl_region.specs.Dim.{IsDim, coordinates}
-use Rattle.zpl_region.specs.Ends.{coordinate_count, first_from, first_of, last_of, least_member}
-use Rattle.zpl_region.specs.Progression.{progression}
-use Rattle.zpl_region.proofs.DimLemmas.{among_coordinates, among_range}
-use Rattle.zpl_region.proofs.EndLemmas.{Among-first, Among-last, coordinates_by_count}
+use Rattle.region_places.specs.of_zpl_region.declared.dims.Dim.{Dim}
+use Rattle.region_places.specs.of_zpl_region.declared.dims.Dim.TheVariants.{Range}
+use Rattle.region_places.specs.of_zpl_region.Dim.{IsDim, coordinates}
+use Rattle.region_places.specs.of_zpl_region.Ends.{coordinate_count, first_from, first_of, last_of, least_member}
+use Rattle.region_places.specs.of_zpl_region.Progression.{progression}
+use Rattle.region_places.proofs.of_zpl_region.DimLemmas.{among_coordinates, among_range}
+use Rattle.region_places.proofs.of_zpl_region.EndLemmas.{Among-first, Among-last, coordinates_by_count}
 use Rattle.region_places.proofs.PlaceLemmas.{first_is, no_least, single}
 use Rattle.array_lines.specs.Axis.{IsAxis}
 

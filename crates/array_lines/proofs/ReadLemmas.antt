@@ -5,18 +5,18 @@ use Rattle.std.proofs.Math.Nat.{mul-le-mul_left, mul-le-mul_right}
 use Rattle.std.proofs.lemmas.List.{map-append}
 use Rattle.std.proofs.lemmas.List.Elements.{All-head, All-tail}
 use Rattle.std.proofs.lemmas.Option.{slice_get_within}
-use Rattle.zpl_region.specs.declared.dims.Dim.{Dim}
-use Rattle.zpl_region.specs.declared.dims.Dim.TheVariants.{Range, Flood}
-use Rattle.zpl_region.specs.declared.regions.Region.{Region}
-use Rattle.zpl_region.specs.Ends.{coordinate_count, tuple_count}
-use Rattle.zpl_region.specs.Progression.{progression}
-use Rattle.zpl_region.specs.Region.{IsRegion, members, tuples}
-use Rattle.zpl_region.specs.Tests.{is_coordinate}
-use Rattle.zpl_region.proofs.EndLemmas.{positive_right}
-use Rattle.zpl_region.proofs.HullLemmas.{has_steps}
-use Rattle.zpl_region.proofs.ListLemmas.{cons_same}
-use Rattle.zpl_arrays.specs.Array.{each_has_place, flattened, has_place, place_along, place_among}
-use Rattle.zpl_arrays.proofs.ArrayLemmas.{flattened_member, place_of_tuple}
+use Rattle.region_places.specs.of_zpl_region.declared.dims.Dim.{Dim}
+use Rattle.region_places.specs.of_zpl_region.declared.dims.Dim.TheVariants.{Range, Flood}
+use Rattle.region_places.specs.of_zpl_region.declared.regions.Region.{Region}
+use Rattle.region_places.specs.of_zpl_region.Ends.{coordinate_count, tuple_count}
+use Rattle.region_places.specs.of_zpl_region.Progression.{progression}
+use Rattle.region_places.specs.of_zpl_region.Region.{IsRegion, members, tuples}
+use Rattle.region_places.specs.of_zpl_region.Tests.{is_coordinate}
+use Rattle.region_places.proofs.of_zpl_region.EndLemmas.{positive_right}
+use Rattle.region_places.proofs.of_zpl_region.HullLemmas.{has_steps}
+use Rattle.region_places.proofs.of_zpl_region.ListLemmas.{cons_same}
+use Rattle.region_places.specs.of_zpl_arrays.Array.{each_has_place, flattened, has_place, place_along, place_among}
+use Rattle.region_places.proofs.of_zpl_arrays.ArrayLemmas.{flattened_member, place_of_tuple}
 use Rattle.array_lines.specs.declared.sides.Side.{Side}
 use Rattle.array_lines.specs.declared.reads.Sides.{Sides}
 use Rattle.array_lines.specs.declared.reads.Reading.{Reading}

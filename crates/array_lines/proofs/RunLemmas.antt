@@ -2,8 +2,8 @@
 use Rattle.std.proofs.Common.{◌≡◌, ℕ, zero, suc, ◌+◌, ◌-◌, ◌*◌, ◌<◌, ◌≤◌, List, [], ◌∷◌, ◌++◌, length, get_or, take, drop, map, flat_map, ℤ, pos, ◌+ℤ◌, refl, sym, ◌∙◌, ap, arith, append_assoc, append-nil, add-one}
 use Rattle.std.proofs.Math.Seq.{drop-cons}
 use Rattle.std.proofs.lemmas.Int.{ints}
-use Rattle.zpl_region.specs.Progression.{progression}
-use Rattle.zpl_region.proofs.ListLemmas.{cons_same}
+use Rattle.region_places.specs.of_zpl_region.Progression.{progression}
+use Rattle.region_places.proofs.of_zpl_region.ListLemmas.{cons_same}
 use Rattle.array_lines.specs.Read.{run_of}
 
 -- what is left of a run behind k places

@@ -5,18 +5,18 @@ use Rattle.std.specs.Option.{IfSome, is_some}
 use Rattle.std.proofs.Math.Nat.{mul-le-mul_right}
 use Rattle.std.proofs.lemmas.Int.{ints}
 use Rattle.std.proofs.lemmas.Bool.{and_from}
-use Rattle.zpl_region.specs.declared.dims.Dim.{Dim}
-use Rattle.zpl_region.specs.declared.dims.Dim.TheVariants.{Range, Flood}
-use Rattle.zpl_region.specs.Dim.{HasStep, IsCoordinate, is_multiple}
-use Rattle.zpl_region.specs.Ends.{coordinate_count, first_from}
-use Rattle.zpl_region.specs.Progression.{is_between}
-use Rattle.zpl_region.specs.Region.{IsMember, padding}
-use Rattle.zpl_region.specs.Tests.{is_coordinate}
-use Rattle.zpl_region.proofs.DimLemmas.{multiple_passes, pos-unsigned_abs}
-use Rattle.zpl_region.proofs.EndLemmas.{rem_euclid-above}
-use Rattle.zpl_region.proofs.ProgressionLemmas.{between-true}
-use Rattle.zpl_region.proofs.TestLemmas.{is_coordinate_iff}
-use Rattle.zpl_arrays.specs.Array.{place_along, place_among}
+use Rattle.region_places.specs.of_zpl_region.declared.dims.Dim.{Dim}
+use Rattle.region_places.specs.of_zpl_region.declared.dims.Dim.TheVariants.{Range, Flood}
+use Rattle.region_places.specs.of_zpl_region.Dim.{HasStep, IsCoordinate, is_multiple}
+use Rattle.region_places.specs.of_zpl_region.Ends.{coordinate_count, first_from}
+use Rattle.region_places.specs.of_zpl_region.Progression.{is_between}
+use Rattle.region_places.specs.of_zpl_region.Region.{IsMember, padding}
+use Rattle.region_places.specs.of_zpl_region.Tests.{is_coordinate}
+use Rattle.region_places.proofs.of_zpl_region.DimLemmas.{multiple_passes, pos-unsigned_abs}
+use Rattle.region_places.proofs.of_zpl_region.EndLemmas.{rem_euclid-above}
+use Rattle.region_places.proofs.of_zpl_region.ProgressionLemmas.{between-true}
+use Rattle.region_places.proofs.of_zpl_region.TestLemmas.{is_coordinate_iff}
+use Rattle.region_places.specs.of_zpl_arrays.Array.{place_along, place_among}
 use Rattle.region_places.proofs.PlaceLemmas.{place_below, single}
 use Rattle.array_lines.specs.declared.sides.Side.{Side}
 use Rattle.array_lines.specs.declared.sides.Way.{Way}

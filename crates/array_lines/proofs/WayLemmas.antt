@@ -1,10 +1,10 @@
 -- Lemmas on where shifts read.
 use Rattle.std.proofs.Common.{◌≡◌, ℕ, zero, suc, ◌≤◌, if◌then◌else◌, List, [], ◌∷◌, length, get_or, ℤ, pos, refl, sym, ◌∙◌, ap, arith}
 use Rattle.std.specs.Prelude.{nat_lt}
-use Rattle.zpl_region.specs.declared.dims.Dim.{Dim}
-use Rattle.zpl_region.specs.Dim.{coordinate_moved}
-use Rattle.zpl_region.specs.Region.{components, each_coordinate_moved}
-use Rattle.zpl_arrays.specs.Around.{dim_around, each_around}
+use Rattle.region_places.specs.of_zpl_region.declared.dims.Dim.{Dim}
+use Rattle.region_places.specs.of_zpl_region.Dim.{coordinate_moved}
+use Rattle.region_places.specs.of_zpl_region.Region.{components, each_coordinate_moved}
+use Rattle.region_places.specs.of_zpl_arrays.Around.{dim_around, each_around}
 use Rattle.array_lines.proofs.ReadLemmas.{three_of}
 
 by_rank : (rank : ℕ) (p q r : Dim) (a b c x y z : ℤ) → 1 ≤ rank → rank ≤ 3

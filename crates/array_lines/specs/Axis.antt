@@ -1,6 +1,6 @@
 -- The coordinates of a dimension, as numbers with one step between them.
 use Rattle.std.specs.Prelude.{◌-◌, ◌*◌, ◌^◌, ◌<◌, ℤ, pos, neg_ℤ, ◌+ℤ◌, ◌≤ℤ◌, List}
-use Rattle.zpl_region.specs.Progression.{progression}
+use Rattle.region_places.specs.of_zpl_region.Progression.{progression}
 use Rattle.array_lines.specs.declared.axes.Axis.{Axis}
 
 abbrev pub along : Axis → List ℤ

@@ -2,14 +2,14 @@
 use Rattle.std.specs.Prelude.{◌≡◌, ℕ, zero, suc, ◌+◌, ◌*◌, ◌<◌, ◌≤◌, ◌^◌, ℤ, pos, ◌+ℤ◌}
 use Rattle.std.specs.Prelude.{Option, Some, None, if◌then◌else◌, List, [], ◌∷◌, map, flat_map}
 use Rattle.std.specs.Prelude.{slice_index_or}
-use Rattle.zpl_region.specs.declared.dims.Dim.{Dim}
-use Rattle.zpl_region.specs.declared.dims.Dim.TheVariants.{Range, Flood}
-use Rattle.zpl_region.specs.declared.regions.Region.{Region}
-use Rattle.zpl_region.specs.Dim.{IsDim, IsUpTo, coordinates}
-use Rattle.zpl_region.specs.Ends.{coordinate_count}
-use Rattle.zpl_region.specs.Tests.{is_coordinate}
-use Rattle.zpl_arrays.specs.Around.{dim_around}
-use Rattle.zpl_arrays.specs.Array.{Array, has_place, place_along, place_among}
+use Rattle.region_places.specs.of_zpl_region.declared.dims.Dim.{Dim}
+use Rattle.region_places.specs.of_zpl_region.declared.dims.Dim.TheVariants.{Range, Flood}
+use Rattle.region_places.specs.of_zpl_region.declared.regions.Region.{Region}
+use Rattle.region_places.specs.of_zpl_region.Dim.{IsDim, IsUpTo, coordinates}
+use Rattle.region_places.specs.of_zpl_region.Ends.{coordinate_count}
+use Rattle.region_places.specs.of_zpl_region.Tests.{is_coordinate}
+use Rattle.region_places.specs.of_zpl_arrays.Around.{dim_around}
+use Rattle.region_places.specs.of_zpl_arrays.Array.{Array, has_place, place_along, place_among}
 use Rattle.array_lines.specs.declared.sides.Way.{Way}
 use Rattle.array_lines.specs.declared.sides.Way.TheVariants.{Moved, Fixed, Around}
 use Rattle.array_lines.specs.declared.sides.Side.{Side}

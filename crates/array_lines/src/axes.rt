@@ -1,10 +1,10 @@
 //! The coordinates of a dimension.
 ghost use Rattle.std.specs.Prelude.{◌≡◌, ◌*◌, ◌<◌, ◌≤◌, ◌^◌, ◌+◌, ◌+ℤ◌, pos};
-ghost use Rattle.zpl_region.specs.Dim.{IsDim, IsUpTo, coordinates};
+ghost use Rattle.region_places.specs.of_zpl_region.Dim.{IsDim, IsUpTo, coordinates};
 ghost use Rattle.array_lines.specs.Axis.{IsAxis, along};
 
 use region_places::size;
-use zpl_region::{Dim, Region};
+use region_places::zpl_region::{Dim, Region};
 
 /// What stands for a dimension past the rank.
 const PADDING: Dim = Dim::Range {

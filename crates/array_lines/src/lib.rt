@@ -11,5 +11,7 @@ mod ways;
 
 pub use axes::Axis;
 pub use reads::{Reading, line_of, push_read};
+pub use region_places;
+pub use region_places::{zpl_nums, zpl_region};
 pub use sides::{Side, Way};
 pub use ways::{ways_around, ways_flooded, ways_shifted};

@@ -1,15 +1,15 @@
 //! Reads of an array at all tuples of a region.
 ghost use Rattle.std.specs.Prelude.{◌≡◌, ◌+◌, ◌-◌, ◌*◌, ◌<◌, ◌≤◌, ◌^◌, ◌++◌, All, IfSome, OnOk};
 ghost use Rattle.std.specs.Prelude.{map, pos, replicate, slice_index_or};
-ghost use Rattle.zpl_region.specs.Ends.{tuple_count};
-ghost use Rattle.zpl_region.specs.Region.{IsRegion, members};
+ghost use Rattle.region_places.specs.of_zpl_region.Ends.{tuple_count};
+ghost use Rattle.region_places.specs.of_zpl_region.Region.{IsRegion, members};
 ghost use Rattle.array_lines.specs.Axis.{along};
 ghost use Rattle.array_lines.specs.Read.{AreSides, IsUnder, IsWay, all_values, array_seen, line_of};
 ghost use Rattle.array_lines.specs.Read.{line_values, plane_values, read_at, run_of, value_on};
 
 use crate::sides::{Side, Way};
+use region_places::zpl_region::Region;
 use std::alloc::AllocError;
-use zpl_region::Region;
 
 /// How an array is read, wherever it is stored.
 #[derive(Clone, Copy)]

@@ -1,16 +1,16 @@
 //! Places along one dimension of an array's storage.
 ghost use Rattle.std.specs.Prelude.{◌≡◌, ◌+◌, ◌-◌, ◌*◌, ◌<◌, IfSome, ℕ, Some, None, pos, ◌+ℤ◌};
 ghost use Rattle.std.specs.Prelude.{◌-ℤ◌, ◌↔◌, IsTrue, if◌then◌else◌, unsigned_abs};
-ghost use Rattle.zpl_region.specs.Dim.{IsDim, IsUpTo, coordinates};
-ghost use Rattle.zpl_region.specs.Ends.{coordinate_count};
-ghost use Rattle.zpl_region.specs.Progression.{is_between};
+ghost use Rattle.region_places.specs.of_zpl_region.Dim.{IsDim, IsUpTo, coordinates};
+ghost use Rattle.region_places.specs.of_zpl_region.Ends.{coordinate_count};
+ghost use Rattle.region_places.specs.of_zpl_region.Progression.{is_between};
 ghost use Rattle.array_lines.specs.Axis.{along};
 ghost use Rattle.array_lines.specs.Read.{IsSide, IsSingle, IsWay, gone, spot};
 
 use crate::axes::Axis;
+use region_places::zpl_arrays::around_coordinate;
+use region_places::zpl_region::{Dim, Region};
 use region_places::{place, size};
-use zpl_arrays::around_coordinate;
-use zpl_region::{Dim, Region};
 
 /// What stands for a dimension past the rank.
 const PADDING: Dim = Dim::Range {

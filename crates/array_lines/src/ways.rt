@@ -1,14 +1,14 @@
 //! Where shifts, wraps and floods read.
 ghost use Rattle.std.specs.Prelude.{◌≡◌, ◌<◌, [], ◌∷◌, All, ℤ, if◌then◌else◌, nat_lt, pos};
-ghost use Rattle.zpl_region.specs.Dim.{IsDim, IsUpTo, coordinate_moved};
-ghost use Rattle.zpl_region.specs.Ends.{coordinate_count, tuple_count};
-ghost use Rattle.zpl_region.specs.Region.{IsRegion, tuple_moved};
-ghost use Rattle.zpl_arrays.specs.Around.{around_source, dim_around};
-ghost use Rattle.zpl_arrays.specs.Flood.{dim_flood_source, flood_source};
+ghost use Rattle.region_places.specs.of_zpl_region.Dim.{IsDim, IsUpTo, coordinate_moved};
+ghost use Rattle.region_places.specs.of_zpl_region.Ends.{coordinate_count, tuple_count};
+ghost use Rattle.region_places.specs.of_zpl_region.Region.{IsRegion, tuple_moved};
+ghost use Rattle.region_places.specs.of_zpl_arrays.Around.{around_source, dim_around};
+ghost use Rattle.region_places.specs.of_zpl_arrays.Flood.{dim_flood_source, flood_source};
 ghost use Rattle.array_lines.specs.Read.{IsWay, each_gone, gone};
 
 use crate::sides::Way;
-use zpl_region::{Dim, Region, Vec3};
+use region_places::zpl_region::{Dim, Region, Vec3};
 
 /// What stands for a dimension past the rank.
 const PADDING: Dim = Dim::Range {

@@ -24,8 +24,8 @@ use Rattle.zpl_bind.specs.Tables.{computed, listed}
 use Rattle.zpl_bind.proofs.RegionLemmas.{built-region}
 use Rattle.array_terms.specs.Sound.{IsSmall}
 use Rattle.array_places.specs.Sound.{IsRanked}
-use Rattle.array_regions.specs.Fit.{IsFitInner}
-use Rattle.array_regions.proofs.RegionLemmas.{small-within}
+use Rattle.array_statements.specs.of_array_regions.Fit.{IsFitInner}
+use Rattle.array_statements.proofs.of_array_regions.RegionLemmas.{small-within}
 use Rattle.array_frames.proofs.LoopLemmas.{append-nothing}
 use Rattle.array_frames.proofs.RankLemmas.{HasRank, behind-ranked, inner-ranked}
 use Rattle.array_frames.proofs.SmallLemmas.{has-count}

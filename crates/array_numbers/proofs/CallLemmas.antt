@@ -16,9 +16,9 @@ use Rattle.zpl_names.specs.Sites.{CallSite}
 use Rattle.zpl_names.specs.Expansion.{ExpandedArray, Binding, Instance, FormalName, formal_names, bound_in, global_array, array_named, actual_array, actual_arrays, copy_of, local_arrays, called_instance}
 use Rattle.zpl_meaning.specs.Context.{Setup}
 use Rattle.zpl_meaning.specs.Store.{Thing, Scalar, ArrayAt, Names, Environment, thing_of}
-use Rattle.zpl_lowering.specs.Where.{Stored, Numbers, Where, Next}
-use Rattle.zpl_lowering.specs.Statement.{Given, Valued, Copied, Referring, Calling, referring, copying, given_to}
-use Rattle.zpl_lowering.specs.Program.{Entry as CallEntry}
+use Rattle.lowering_fits.specs.of_zpl_lowering.Where.{Stored, Numbers, Where, Next}
+use Rattle.lowering_fits.specs.of_zpl_lowering.Statement.{Given, Valued, Copied, Referring, Calling, referring, copying, given_to}
+use Rattle.lowering_fits.specs.of_zpl_lowering.Program.{Entry as CallEntry}
 use Rattle.lowering_fits.specs.Reach.{named_thing}
 use Rattle.lowering_fits.specs.Whole.{Frames, given_frames, body_frames}
 use Rattle.array_numbers.specs.Numbering.{Numbering, IsNumber, IsLater, IsOwn, NotOwn, OwnScalar, OwnArray, IsGlobal, GlobalScalar, GlobalArray, GlobalOther, IsFixedKind, IsFixedThing, IsReached, ReachedScalar, ReachedArray, ReachedOther, IsFramed, IsTaken, AreTaken, SoundVars}

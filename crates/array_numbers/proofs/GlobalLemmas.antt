@@ -19,8 +19,8 @@ use Rattle.zpl_names.specs.Expansion.{Binding, ExpandedArray, array_at, array_of
 use Rattle.zpl_meaning.specs.Context.{Setup}
 use Rattle.zpl_meaning.specs.Store.{Thing, Scalar, ArrayAt, Fixed, Names}
 use Rattle.zpl_meaning.specs.Variables.{Frame, home_box, storage_box, zero_array, with_thing, with_scalar_named, with_array_named, with_name, with_names, with_variables, with_values, with_declarations, empty_frame}
-use Rattle.zpl_lowering.specs.Where.{Stored}
-use Rattle.zpl_lowering.specs.Program.{arrays_from, global_numbers}
+use Rattle.lowering_fits.specs.of_zpl_lowering.Where.{Stored}
+use Rattle.lowering_fits.specs.of_zpl_lowering.Program.{arrays_from, global_numbers}
 use Rattle.lowering_fits.specs.Reach.{named_thing}
 use Rattle.array_numbers.specs.Numbering.{Numbering, IsNumber, IsLater, IsFixedKind, IsGlobal, GlobalScalar, GlobalArray, GlobalOther, SoundOver, SoundVars, SoundDecls}
 use Rattle.array_numbers.proofs.FoundLemmas.{binding_for, number_stays, has_name, once_first}

@@ -25,9 +25,9 @@ use Rattle.zpl_meaning.specs.Variables.{Frame, empty_frame, with_declarations}
 use Rattle.zpl_meaning.proofs.NamesLemmas.{routine_sound, IsSound}
 use Rattle.zpl_meaning.proofs.ProperLemmas.{not_false}
 use Rattle.zpl_meaning.proofs.VisitLemmas.{find_among, none_there}
-use Rattle.zpl_lowering.specs.Where.{Stored, Numbers, Next, Where}
-use Rattle.zpl_lowering.specs.Statement.{Calling, given_to}
-use Rattle.zpl_lowering.specs.Program.{Entry as CallEntry, Framed, global_numbers}
+use Rattle.lowering_fits.specs.of_zpl_lowering.Where.{Stored, Numbers, Next, Where}
+use Rattle.lowering_fits.specs.of_zpl_lowering.Statement.{Calling, given_to}
+use Rattle.lowering_fits.specs.of_zpl_lowering.Program.{Entry as CallEntry, Framed, global_numbers}
 use Rattle.lowering_fits.specs.Reach.{named_thing}
 use Rattle.lowering_fits.specs.Whole.{Frames, body_frames, given_frames, local_frames}
 use Rattle.array_numbers.specs.Calls.{IsLoweredCall, Entered, Called, AreStanding, StandFrom}

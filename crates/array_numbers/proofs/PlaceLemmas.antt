@@ -7,9 +7,9 @@ use Rattle.zpl_tree.specs.Syntax.{Name, Bracket, NoBracket, Bracketed, VarDef}
 use Rattle.zpl_names.specs.Declared.{Routine}
 use Rattle.zpl_names.specs.Expansion.{FormalName, formal_names}
 use Rattle.zpl_meaning.specs.Context.{Setup}
-use Rattle.zpl_lowering.specs.Where.{Stored, Next}
-use Rattle.zpl_lowering.specs.Statement.{Calling, Given, Valued, Copied, Referring}
-use Rattle.zpl_lowering.specs.Program.{Entry, Framed, arrays_from}
+use Rattle.lowering_fits.specs.of_zpl_lowering.Where.{Stored, Next}
+use Rattle.lowering_fits.specs.of_zpl_lowering.Statement.{Calling, Given, Valued, Copied, Referring}
+use Rattle.lowering_fits.specs.of_zpl_lowering.Program.{Entry, Framed, arrays_from}
 use Rattle.lowering_fits.specs.Whole.{given_frames, local_frame, name_frames, local_frames, body_frames}
 
 -- a global array has its place for its number

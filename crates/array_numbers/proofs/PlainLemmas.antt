@@ -15,17 +15,17 @@ use Rattle.node_form.specs.declared.words.ExprOp.{ExprOp}
 use Rattle.node_form.specs.declared.words.ExprOp.TheVariants as word
 use Rattle.node_form.specs.Expression.{words_of}
 use Rattle.code_parts.specs.Uses.{shifted_in}
-use Rattle.zpl_lowering.specs.Where.{Numbers, Stored, Where, Next, slotted_at}
-use Rattle.zpl_lowering.specs.Reference.{is_unmoved, vector_over}
-use Rattle.zpl_lowering.specs.Slate.{behind, named_slate, settled, shifted_slate}
-use Rattle.zpl_lowering.specs.Hoist.{Free, hoisted, behind as hoisted_behind, mask_word, array_code, neighbour_if, stored_element}
-use Rattle.zpl_lowering.specs.Words.{variable_code}
+use Rattle.lowering_fits.specs.of_zpl_lowering.Where.{Numbers, Stored, Where, Next, slotted_at}
+use Rattle.lowering_fits.specs.of_zpl_lowering.Reference.{is_unmoved, vector_over}
+use Rattle.lowering_fits.specs.of_zpl_lowering.Slate.{behind, named_slate, settled, shifted_slate}
+use Rattle.lowering_fits.specs.of_zpl_lowering.Hoist.{Free, hoisted, behind as hoisted_behind, mask_word, array_code, neighbour_if, stored_element}
+use Rattle.lowering_fits.specs.of_zpl_lowering.Words.{variable_code}
 use Rattle.zpl_names.specs.Accepted.{IsFaultless}
 use Rattle.zpl_tree.specs.Grammar.{IsProgram}
 use Rattle.zpl_meaning.specs.Program.{first_frame, setup_of}
 use Rattle.zpl_binding.specs.Regions.{Known}
 use Rattle.zpl_binding.specs.Storages.{Border}
-use Rattle.zpl_lowering.specs.Program.{Framed}
+use Rattle.lowering_fits.specs.of_zpl_lowering.Program.{Framed}
 use Rattle.array_numbers.specs.Calls.{HasNumber, IsCallOf}
 use Rattle.array_numbers.specs.Plain.{reads_number}
 use Rattle.array_numbers.proofs.NumberLemmas.{Anything, any_decls, any_vars, one_array}

@@ -25,8 +25,8 @@ use Rattle.zpl_meaning.proofs.NamesLemmas.{globals_shaped, routine_sound, IsSoun
 use Rattle.zpl_meaning.proofs.ProperLemmas.{not_false}
 use Rattle.zpl_meaning.proofs.VisitLemmas.{AllOwn, all_own}
 use Rattle.zpl_meaning.proofs.StatementLemmas.{and_true, not_true}
-use Rattle.lower_numbers.proofs.SiteLemmas.{IsIn, Told, sites_told}
-use Rattle.lower_numbers.proofs.NameLemmas.{OptFirm, firm_kind, array_actual, value_actual, array_here, value_here, procedure_here, Taken, split_actual}
+use Rattle.lowering_fits.proofs.of_lower_numbers.SiteLemmas.{IsIn, Told, sites_told}
+use Rattle.lowering_fits.proofs.of_lower_numbers.NameLemmas.{OptFirm, firm_kind, array_actual, value_actual, array_here, value_here, procedure_here, Taken, split_actual}
 use Rattle.array_numbers.specs.Numbering.{IsTaken, AreTaken}
 
 -- ---- own names

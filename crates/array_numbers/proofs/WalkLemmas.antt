@@ -15,9 +15,9 @@ use Rattle.zpl_names.specs.Faults.{repeated}
 use Rattle.zpl_names.specs.Expansion.{ExpandedArray, Binding, Instance, FormalName, bound_in, array_at, local_arrays, actual_array, actual_arrays, copy_of}
 use Rattle.zpl_meaning.specs.Context.{Setup}
 use Rattle.zpl_meaning.specs.Store.{Thing, Scalar, ArrayAt, Names}
-use Rattle.zpl_lowering.specs.Where.{Stored, Next}
-use Rattle.zpl_lowering.specs.Statement.{Given, Valued, Copied, Referring}
-use Rattle.zpl_lowering.specs.Program.{Framed, Entry as CallEntry}
+use Rattle.lowering_fits.specs.of_zpl_lowering.Where.{Stored, Next}
+use Rattle.lowering_fits.specs.of_zpl_lowering.Statement.{Given, Valued, Copied, Referring}
+use Rattle.lowering_fits.specs.of_zpl_lowering.Program.{Framed, Entry as CallEntry}
 use Rattle.lowering_fits.specs.Reach.{named_thing}
 use Rattle.lowering_fits.specs.Whole.{given_frame, given_frames, local_frame, name_frames, local_frames}
 use Rattle.array_numbers.specs.Numbering.{Numbering, IsNumber, IsLater, IsOwn, OwnScalar, OwnArray, SoundOver, SoundVars}

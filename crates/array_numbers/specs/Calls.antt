@@ -13,9 +13,9 @@ use Rattle.zpl_meaning.specs.Calls.{formals_in}
 use Rattle.zpl_meaning.specs.Context.{Setup}
 use Rattle.zpl_meaning.specs.Store.{ArrayAt, Names, thing_of}
 use Rattle.zpl_meaning.specs.Program.{first_frame, setup_of}
-use Rattle.zpl_lowering.specs.Where.{Numbers, Stored, Where, Next}
-use Rattle.zpl_lowering.specs.Statement.{Calling, given_to}
-use Rattle.zpl_lowering.specs.Program.{Entry, Framed, global_numbers}
+use Rattle.lowering_fits.specs.of_zpl_lowering.Where.{Numbers, Stored, Where, Next}
+use Rattle.lowering_fits.specs.of_zpl_lowering.Statement.{Calling, given_to}
+use Rattle.lowering_fits.specs.of_zpl_lowering.Program.{Entry, Framed, global_numbers}
 use Rattle.lowering_fits.specs.Whole.{body_frames}
 
 -- Where a procedure's body is lowered: in an expanded call, with these own names and numbers, behind

@@ -12,7 +12,7 @@ use Rattle.zpl_binding.specs.Storages.{Border}
 use Rattle.zpl_meaning.specs.Variables.{home_box, storage_box}
 use Rattle.zpl_meaning.specs.Store.{Thing, Scalar, ArrayAt, Names}
 use Rattle.lowering_fits.specs.Reach.{named_thing}
-use Rattle.zpl_lowering.specs.Where.{Stored}
+use Rattle.lowering_fits.specs.of_zpl_lowering.Where.{Stored}
 
 -- What the store's places are in the tables, what array each number stands for, and the first
 -- number that stands for none yet.

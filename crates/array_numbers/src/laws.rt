@@ -14,10 +14,10 @@ ghost use Rattle.zpl_binding.specs.Storages.{Border};
 ghost use Rattle.zpl_meaning.specs.Program.{first_frame, setup_of};
 ghost use Rattle.zpl_meaning.specs.Points.{assigned_expr};
 ghost use Rattle.node_form.specs.Expression.{words_of};
-ghost use Rattle.zpl_lowering.specs.Where.{Next, Stored, Where};
-ghost use Rattle.zpl_lowering.specs.Slate.{settled};
-ghost use Rattle.zpl_lowering.specs.Hoist.{Free, array_code, hoisted, mask_word};
-ghost use Rattle.zpl_lowering.specs.Program.{Framed, global_numbers};
+ghost use Rattle.lowering_fits.specs.of_zpl_lowering.Where.{Next, Stored, Where};
+ghost use Rattle.lowering_fits.specs.of_zpl_lowering.Slate.{settled};
+ghost use Rattle.lowering_fits.specs.of_zpl_lowering.Hoist.{Free, array_code, hoisted, mask_word};
+ghost use Rattle.lowering_fits.specs.of_zpl_lowering.Program.{Framed, global_numbers};
 ghost use Rattle.array_numbers.specs.Calls.{AreStanding, HasNumber, IsCallOf};
 ghost use Rattle.array_numbers.specs.Plain.{reads_number};
 

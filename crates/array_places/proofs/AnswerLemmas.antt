@@ -2,7 +2,7 @@
 use Rattle.std.proofs.Common.{◌≡◌, sym, ap, ◌∙◌, subst}
 use Rattle.std.specs.Prelude.{Result, Ok, Err, IsErrAnd}
 use Rattle.zpl_nums.specs.declared.ends.TrapKind.{TrapKind}
-use Rattle.zpl_meaning.specs.Computed.{Computed, Gives, Traps, computed_then, both_then}
+use Rattle.array_stops.specs.of_zpl_meaning.Computed.{Computed, Gives, Traps, computed_then, both_then}
 use Rattle.array_stops.specs.declared.stops.Stop.{Stop}
 use Rattle.array_stops.specs.declared.stops.Stop.TheVariants.{Trap, NoMemory}
 use Rattle.array_stops.specs.Answer.{Answers, Computes, ComputesAs, Stops}

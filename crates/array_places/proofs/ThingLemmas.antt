@@ -6,8 +6,8 @@ use Rattle.std.specs.Prelude.{find}
 use Rattle.std.specs.List.{AllByRecursion}
 use Rattle.std.proofs.lemmas.List.Elements.{recursion_from_All}
 use Rattle.zpl_bind.specs.Tables.{found}
-use Rattle.zpl_meaning.specs.Store as plain
-use Rattle.zpl_meaning.specs.Store.{Names, thing_of}
+use Rattle.array_stops.specs.of_zpl_meaning.Store as plain
+use Rattle.array_stops.specs.of_zpl_meaning.Store.{Names, thing_of}
 use Rattle.array_places.specs.declared.things.Thing.{Thing}
 use Rattle.array_places.specs.Things.{IsThing, names_in, thing_in}
 

@@ -6,10 +6,10 @@ use Rattle.zpl_nums.specs.declared.ends.TrapKind.TheVariants.{DivideByZero}
 use Rattle.zpl_nums.specs.Op.{applied}
 use Rattle.zpl_nums.specs.UnaryOp.{applied_unary}
 use Rattle.zpl_tree.specs.Syntax.{Expr}
-use Rattle.zpl_meaning.specs.Computed.{Gives, Traps}
-use Rattle.zpl_meaning.specs.Store.{Environment, Store}
-use Rattle.zpl_meaning.specs.Value.{value_of}
-use Rattle.zpl_meaning.specs.Scalars.{IsScalar}
+use Rattle.array_stops.specs.of_zpl_meaning.Computed.{Gives, Traps}
+use Rattle.array_stops.specs.of_zpl_meaning.Store.{Environment, Store}
+use Rattle.array_stops.specs.of_zpl_meaning.Value.{value_of}
+use Rattle.array_stops.specs.of_zpl_meaning.Scalars.{IsScalar}
 use Rattle.array_places.specs.declared.values.Plain.{Plain}
 use Rattle.array_places.specs.declared.values.Plain.TheVariants.{Value, Trap, Other}
 

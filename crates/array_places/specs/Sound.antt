@@ -6,7 +6,7 @@ use Rattle.zpl_bind.specs.declared.known.Known.{Known}
 use Rattle.zpl_bind.specs.Known.{IsKnown}
 use Rattle.zpl_bind.specs.Tables.{listed}
 use Rattle.array_terms.specs.declared.terms.Over.{Over}
-use Rattle.zpl_meaning.specs.Context.{Edge}
+use Rattle.array_stops.specs.of_zpl_meaning.Context.{Edge}
 use Rattle.array_terms.specs.Sound.{IsNear, IsSmall}
 use Rattle.array_places.specs.declared.places.Currents.{Currents}
 use Rattle.array_places.specs.declared.places.Place.{Place}

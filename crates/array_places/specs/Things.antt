@@ -3,7 +3,7 @@ use Rattle.std.specs.Prelude.{ℕ, List, map, All}
 use Rattle.zpl_region.specs.Region.{IsRegion}
 use Rattle.zpl_bind.specs.declared.tables.Table.{Table}
 use Rattle.zpl_bind.specs.Tables.{IsTable, listed}
-use Rattle.zpl_meaning.specs.Store as plain
+use Rattle.array_stops.specs.of_zpl_meaning.Store as plain
 use Rattle.array_places.specs.declared.things.Thing.{Thing}
 use Rattle.array_places.specs.declared.things.Thing.TheVariants.{Scalar, Array, Fixed}
 

@@ -5,8 +5,8 @@ use Rattle.zpl_tree.specs.View.{syntax_of}
 use Rattle.name_kinds.specs.Reach.{scope_of}
 use Rattle.zpl_bind.specs.Known.{known_in}
 use Rattle.zpl_bind.specs.Storages.{borders_in}
-use Rattle.zpl_meaning.specs.Store as plain
-use Rattle.zpl_meaning.specs.Context as context
+use Rattle.array_stops.specs.of_zpl_meaning.Store as plain
+use Rattle.array_stops.specs.of_zpl_meaning.Context as context
 use Rattle.array_terms.specs.View.{over_of}
 use Rattle.array_places.specs.declared.environments.Environment.{Environment}
 use Rattle.array_places.specs.declared.places.Currents.{Currents}

@@ -1,7 +1,7 @@
 //! The names in reach of a statement.
 ghost use Rattle.std.specs.Prelude.{◌≡◌, IfSome};
 ghost use Rattle.std.specs.Option.{option_map};
-ghost use Rattle.zpl_meaning.specs.Store.{thing_of};
+ghost use Rattle.array_stops.specs.of_zpl_meaning.Store.{thing_of};
 ghost use Rattle.array_places.specs.Things.{IsThing, thing_in};
 ghost use Rattle.array_places.specs.View.{environment_of};
 

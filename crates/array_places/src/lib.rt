@@ -6,7 +6,10 @@ mod places;
 mod things;
 mod values;
 
+pub use array_terms;
+pub use array_terms::array_store;
 pub use environments::Environment;
 pub use places::{Currents, Edge, Place, Setup, operand_rank, own_rank, rank_of};
 pub use things::{Thing, Things};
 pub use values::{Plain, plain_value, thing_value, value_of};
+pub use zpl_bind;

@@ -1,8 +1,8 @@
 //! Where a statement stands.
 ghost use Rattle.std.specs.Prelude.{◌≡◌};
 ghost use Rattle.std.specs.Option.{option_map};
-ghost use Rattle.zpl_meaning.specs.Context as context;
-ghost use Rattle.zpl_names.specs.Ranks as ranks;
+ghost use Rattle.array_stops.specs.of_zpl_meaning.Context as context;
+ghost use Rattle.name_kinds.specs.of_zpl_names.Ranks as ranks;
 ghost use Rattle.zpl_tree.specs.View.{expr_of, inner_of};
 ghost use Rattle.name_kinds.specs.Reach.{scope_of};
 ghost use Rattle.array_terms.specs.Sound.{IsSmall};
@@ -14,8 +14,8 @@ use crate::environments::Environment;
 use crate::things::Things;
 use array_terms::Over;
 use name_kinds::{Rank, Scope, part_of, placed_rank};
+use zpl_bind::zpl_parts::Part;
 use zpl_bind::{Known, no_region};
-use zpl_parts::Part;
 use zpl_region::{Region, Vec3};
 use zpl_tree::{Expr, Program};
 

@@ -1,7 +1,7 @@
 //! What names stand for while a program runs.
 ghost use Rattle.std.specs.Prelude.{◌≡◌, ◌∷◌, ◌++◌, [], IfOk, IfSome};
 ghost use Rattle.std.specs.Option.{option_map};
-ghost use Rattle.zpl_meaning.specs.Store.{thing_of};
+ghost use Rattle.array_stops.specs.of_zpl_meaning.Store.{thing_of};
 ghost use Rattle.array_places.specs.Things.{IsThing, thing_in};
 
 use std::alloc::{AllocError, Global};
@@ -28,7 +28,7 @@ pub struct Things<'a> {
 }
 
 impl<'a> Model for Things<'a> {
-    ghost use Rattle.zpl_meaning.specs.Store.{Names};
+    ghost use Rattle.array_stops.specs.of_zpl_meaning.Store.{Names};
     ghost use Rattle.zpl_bind.specs.Tables.{listed};
     ghost use Rattle.array_places.specs.Things.{AreThings, names_in};
 

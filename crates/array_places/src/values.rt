@@ -3,8 +3,8 @@ ghost use Rattle.std.specs.Prelude.{◌≡◌};
 ghost use Rattle.std.specs.Option.{option_map};
 ghost use Rattle.zpl_nums.specs.Op.{applied};
 ghost use Rattle.zpl_tree.specs.View.{expr_of};
-ghost use Rattle.zpl_meaning.specs.Computed.{given};
-ghost use Rattle.zpl_meaning.specs.Value.{thing_value, value_of};
+ghost use Rattle.array_stops.specs.of_zpl_meaning.Computed.{given};
+ghost use Rattle.array_stops.specs.of_zpl_meaning.Value.{thing_value, value_of};
 ghost use Rattle.array_stops.specs.Answer.{Computes};
 ghost use Rattle.array_places.specs.declared.values.Plain.TheVariants as plain;
 ghost use Rattle.array_places.specs.Plain.{HasPlain, plain_pair, plain_unary};
@@ -13,7 +13,7 @@ ghost use Rattle.array_places.specs.View.{environment_of};
 
 use crate::environments::Environment;
 use crate::things::Thing;
-use array_store::Store;
+use array_terms::array_store::Store;
 use zpl_nums::{Op, TrapKind, UnaryOp, apply, apply_unary};
 use zpl_tree::{Expr, ExprForm};
 

@@ -15,5 +15,6 @@ mod statements;
 mod tuples;
 mod values;
 
+pub use array_places;
 pub use cuts::Cut;
 pub use statements::shattered;

@@ -12,8 +12,8 @@ use Rattle.node_form.specs.declared.arrays.ArrayRow.{ArrayRow}
 use Rattle.node_form.specs.declared.tables.Tables.{Tables}
 use Rattle.node_form.specs.declared.words.ExprOp.TheVariants.{Here, Coord}
 use Rattle.row_runs.specs.Run.{Goes}
-use Rattle.flat_form.specs.Loop.{looped}
-use Rattle.flat_form.specs.Whole.{Whole}
+use Rattle.normal_runs.specs.of_flat_form.Loop.{looped}
+use Rattle.normal_runs.specs.of_flat_form.Whole.{Whole}
 use Rattle.array_puts.specs.Put.{assigned, put_group}
 
 abbrev line : ℤ → ℤ → Region

@@ -22,10 +22,10 @@ use Rattle.row_runs.specs.Straight.{Every}
 use Rattle.node_form.specs.declared.tables.Tables.{Tables}
 use Rattle.node_form.specs.Value as flat
 use Rattle.node_form.specs.Value.{mapped, and_then}
-use Rattle.flat_form.specs.Row.{Words}
-use Rattle.flat_form.specs.Names.{group_cells}
-use Rattle.flat_form.specs.Loop.{looped, operands_at, from_written}
-use Rattle.flat_form.specs.Whole.{Whole}
+use Rattle.normal_runs.specs.of_flat_form.Row.{Words}
+use Rattle.normal_runs.specs.of_flat_form.Names.{group_cells}
+use Rattle.normal_runs.specs.of_flat_form.Loop.{looped, operands_at, from_written}
+use Rattle.normal_runs.specs.of_flat_form.Whole.{Whole}
 use Rattle.normal_runs.proofs.PutLemmas.{wanted, value_in, put_if, start_point, Sum, AllGive}
 use Rattle.normal_runs.proofs.PutLemmas.{SomeDivides, with_one, summed, after_sum}
 use Rattle.normal_runs.proofs.PutLemmas.{put_does, looped_put}

@@ -18,10 +18,10 @@ use Rattle.zpl_arrays.proofs.ArrayLemmas.{updated_elsewhere, updated_here, updat
 use Rattle.zpl_arrays.proofs.ArrayLemmas.{flattened_is, place_of_member}
 use Rattle.zpl_meaning.specs.Statement.{written}
 use Rattle.row_runs.specs.Straight.{Every}
-use Rattle.grid_meaning.specs.Place.{held_with, where_held}
-use Rattle.flat_form.specs.Loop as loop
-use Rattle.flat_form.specs.Loop.{Puts}
-use Rattle.flat_form.specs.Whole.{Whole}
+use Rattle.normal_runs.specs.of_grid_meaning.Place.{held_with, where_held}
+use Rattle.normal_runs.specs.of_flat_form.Loop as loop
+use Rattle.normal_runs.specs.of_flat_form.Loop.{Puts}
+use Rattle.normal_runs.specs.of_flat_form.Whole.{Whole}
 use Rattle.normal_runs.proofs.PlaceLemmas.{Apart, members_apart}
 use Rattle.normal_runs.proofs.PlaceLemmas.{set_same, set_there, set_twice}
 use Rattle.normal_runs.proofs.PutLemmas.{puts}

@@ -15,10 +15,10 @@ use Rattle.row_runs.specs.Run.{Step, Goes, Stops, Ends}
 use Rattle.node_form.specs.declared.tables.Tables.{Tables}
 use Rattle.node_form.specs.Value as flat
 use Rattle.node_form.specs.Value.{Operands, value_of}
-use Rattle.flat_form.specs.Row.{Member, Put, Words}
-use Rattle.flat_form.specs.Names.{group_cells}
-use Rattle.flat_form.specs.Loop.{operands_at, loop_stands}
-use Rattle.flat_form.specs.Whole.{Whole}
+use Rattle.normal_runs.specs.of_flat_form.Row.{Member, Put, Words}
+use Rattle.normal_runs.specs.of_flat_form.Names.{group_cells}
+use Rattle.normal_runs.specs.of_flat_form.Loop.{operands_at, loop_stands}
+use Rattle.normal_runs.specs.of_flat_form.Whole.{Whole}
 
 -- ---- values
 

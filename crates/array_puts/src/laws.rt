@@ -6,9 +6,9 @@ ghost use Rattle.zpl_region.specs.declared.regions.Region.{Region as Places};
 ghost use Rattle.zpl_arrays.specs.Array.{Array};
 ghost use Rattle.zpl_meaning.specs.Fields.{Field, array_over};
 ghost use Rattle.node_form.specs.declared.tables.Tables.{Tables as Code};
-ghost use Rattle.flat_form.specs.Row.{Words};
-ghost use Rattle.flat_form.specs.Loop.{looped};
-ghost use Rattle.flat_form.specs.Whole.{Whole};
+ghost use Rattle.normal_runs.specs.of_flat_form.Row.{Words};
+ghost use Rattle.normal_runs.specs.of_flat_form.Loop.{looped};
+ghost use Rattle.normal_runs.specs.of_flat_form.Whole.{Whole};
 ghost use Rattle.array_puts.specs.Put.{IsPutting, assigned, put_group};
 
 /// A loop of one put does what an assignment writes: it computes a field at all tuples of a region

@@ -1,2 +1,3 @@
 pub mod RegionLemmas
 pub mod VectorLemmas
+pub use Rattle.array_places.proofs as of_array_places

@@ -17,16 +17,16 @@ use Rattle.zpl_tree.specs.Syntax.{Pre, RegionBase, NamedRegion, Ditto, Inner, Re
 use Rattle.zpl_tree.specs.View.{dir_of as seen_dir, posts_of, pre_of}
 use Rattle.zpl_tree.specs.declared.regions.Post.{Post}
 use Rattle.zpl_tree.specs.declared.regions.Pre.{Pre as Arena}
-use Rattle.zpl_binding.specs.Outcome.{value_or, BindFault, UnknownConfig, ConfigType, TwiceSet, BadConstant, RegionLimit, DirectionLimit, Outcome, Gives, Fails, and_then, outcome_of}
-use Rattle.zpl_binding.specs.Vectors.{dir_of, three_components}
-use Rattle.zpl_binding.specs.Regions.{Known, limited, behind, before, formed_by, no_region, region_named}
-use Rattle.zpl_binding.proofs.KeptLemmas.{Formed, formed-kept}
-use Rattle.zpl_bind.proofs.RegionLemmas.{limited-within, limited-past, behind-fails, before-fails, before-push, before-more}
-use Rattle.zpl_meaning.specs.Computed.{Traps}
-use Rattle.zpl_meaning.specs.Computed as computed
-use Rattle.zpl_meaning.specs.Regions.{computed_of, edge_in, fault_trap, inner_over}
-use Rattle.zpl_meaning.specs.Context.{Place}
-use Rattle.zpl_meaning.specs.Store.{Store}
+use Rattle.array_places.specs.of_zpl_binding.Outcome.{value_or, BindFault, UnknownConfig, ConfigType, TwiceSet, BadConstant, RegionLimit, DirectionLimit, Outcome, Gives, Fails, and_then, outcome_of}
+use Rattle.array_places.specs.of_zpl_binding.Vectors.{dir_of, three_components}
+use Rattle.array_places.specs.of_zpl_binding.Regions.{Known, limited, behind, before, formed_by, no_region, region_named}
+use Rattle.array_places.proofs.of_zpl_binding.KeptLemmas.{Formed, formed-kept}
+use Rattle.array_places.proofs.of_zpl_bind.RegionLemmas.{limited-within, limited-past, behind-fails, before-fails, before-push, before-more}
+use Rattle.array_places.specs.of_zpl_meaning.Computed.{Traps}
+use Rattle.array_places.specs.of_zpl_meaning.Computed as computed
+use Rattle.array_places.specs.of_zpl_meaning.Regions.{computed_of, edge_in, fault_trap, inner_over}
+use Rattle.array_places.specs.of_zpl_meaning.Context.{Place}
+use Rattle.array_places.specs.of_zpl_meaning.Store.{Store}
 use Rattle.array_terms.specs.Sound.{IsNear, IsSmall}
 use Rattle.array_places.specs.declared.places.Edge.{Edge}
 use Rattle.array_places.specs.Sound.{IsEdge}

@@ -5,14 +5,14 @@ use Rattle.std.proofs.lemmas.Int.{ints}
 use Rattle.std.proofs.lemmas.List.Elements.{All-from_recursion}
 use Rattle.zpl_region.specs.Dim.{IsUpTo}
 use Rattle.zpl_tree.specs.Syntax.{Dir, NamedDir, Vector}
-use Rattle.zpl_binding.specs.Outcome.{Outcome, Gives, Computed}
-use Rattle.zpl_binding.specs.Vectors.{dir_of, is_component, three_components, vector_of}
-use Rattle.zpl_binding.specs.Bound.{IsVector}
-use Rattle.zpl_binding.proofs.LimitLemmas.{Holds, vector-holds}
-use Rattle.zpl_bind.specs.Tables.{computed}
-use Rattle.zpl_bind.proofs.StorageLemmas.{component}
-use Rattle.zpl_bind.proofs.TableLemmas.{outcome-found}
-use Rattle.zpl_bind.proofs.RegionLemmas.{found-or-holds}
+use Rattle.array_places.specs.of_zpl_binding.Outcome.{Outcome, Gives, Computed}
+use Rattle.array_places.specs.of_zpl_binding.Vectors.{dir_of, is_component, three_components, vector_of}
+use Rattle.array_places.specs.of_zpl_binding.Bound.{IsVector}
+use Rattle.array_places.proofs.of_zpl_binding.LimitLemmas.{Holds, vector-holds}
+use Rattle.array_places.specs.of_zpl_bind.Tables.{computed}
+use Rattle.array_places.proofs.of_zpl_bind.StorageLemmas.{component}
+use Rattle.array_places.proofs.of_zpl_bind.TableLemmas.{outcome-found}
+use Rattle.array_places.proofs.of_zpl_bind.RegionLemmas.{found-or-holds}
 use Rattle.array_terms.specs.Sound.{IsNear}
 
 near-part : (part : ℤ) → is_component part ≡ true → IsUpTo 41 part

@@ -3,7 +3,7 @@
 use Rattle.std.specs.Prelude.{ℕ, ◌≤◌, IsTrue}
 use Rattle.zpl_region.specs.Region.{outside_of}
 use Rattle.zpl_region.specs.Tests.{is_within_limit}
-use Rattle.zpl_meaning.specs.Context.{Edge}
+use Rattle.array_places.specs.of_zpl_meaning.Context.{Edge}
 use Rattle.zpl_tree.specs.Syntax.{Inner, Rexpr, Dims}
 use Rattle.zpl_names.specs.Ranks.{dims_count}
 

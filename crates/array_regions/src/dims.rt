@@ -5,14 +5,14 @@ ghost use Rattle.zpl_region.specs.Dim.{HasStep};
 ghost use Rattle.zpl_region.specs.Hull.{all_from};
 ghost use Rattle.zpl_region.specs.Region.{IsRegion};
 ghost use Rattle.zpl_tree.specs.View.{dim_of, dims_of, name_of};
-ghost use Rattle.zpl_meaning.specs.Regions.{dim_in, index_in, span_in};
+ghost use Rattle.array_places.specs.of_zpl_meaning.Regions.{dim_in, index_in, span_in};
 ghost use Rattle.array_terms.specs.Sound.{IsSmall};
-ghost use Rattle.array_stops.specs.Answer.{Computes};
+ghost use Rattle.array_places.specs.of_array_stops.Answer.{Computes};
 ghost use Rattle.array_places.specs.View.{environment_of};
 
 use crate::forms::limited;
+use array_places::array_store::Store;
 use array_places::{Environment, thing_value, value_of};
-use array_store::Store;
 use zpl_nums::TrapKind;
 use zpl_region::{Dim, Region};
 use zpl_tree::{DimText, Name};

@@ -7,6 +7,8 @@ mod forms;
 mod prefixes;
 mod vectors;
 
+pub use array_places;
+pub use array_places::{array_store, array_terms};
 pub use brackets::{current_for, region_in};
 pub use prefixes::{mask_in, over_in, under_prefix, under_source};
 pub use vectors::vector_in;

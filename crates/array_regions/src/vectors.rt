@@ -1,13 +1,13 @@
 //! Vectors that were computed before the run.
 ghost use Rattle.std.specs.Prelude.{◌≡◌};
-ghost use Rattle.zpl_binding.specs.Vectors.{dir_of};
+ghost use Rattle.array_places.specs.of_zpl_binding.Vectors.{dir_of};
 ghost use Rattle.zpl_tree.specs.View.{dir_of as seen_dir};
-ghost use Rattle.zpl_bind.specs.Known.{IsKnown, known_in};
-ghost use Rattle.zpl_meaning.specs.Regions.{computed_of, vector_in};
+ghost use Rattle.array_places.specs.of_zpl_bind.Known.{IsKnown, known_in};
+ghost use Rattle.array_places.specs.of_zpl_meaning.Regions.{computed_of, vector_in};
 ghost use Rattle.array_terms.specs.Sound.{IsNear};
-ghost use Rattle.array_stops.specs.Answer.{Computes};
+ghost use Rattle.array_places.specs.of_array_stops.Answer.{Computes};
 
-use zpl_bind::{BindFault, Known, dir_of};
+use array_places::zpl_bind::{BindFault, Known, dir_of};
 use zpl_nums::TrapKind;
 use zpl_region::Vec3;
 use zpl_tree::Dir;

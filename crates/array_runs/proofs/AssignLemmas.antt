@@ -11,18 +11,18 @@ use Rattle.zpl_region.proofs.HullLemmas.{has_steps}
 use Rattle.zpl_arrays.specs.Array.{Array, element, has_place}
 use Rattle.zpl_arrays.proofs.ArrayLemmas.{array_of_is_array}
 use Rattle.zpl_arrays.proofs.ReferenceLemmas.{lies_in_places}
-use Rattle.zpl_meaning.specs.Computed as mean
-use Rattle.zpl_meaning.specs.Computed.{both_then, computed_then, provided}
-use Rattle.zpl_meaning.specs.Store.{Store, array_at, no_array, with_array}
-use Rattle.zpl_meaning.specs.Context.{Mask}
-use Rattle.zpl_meaning.specs.Term.{Term}
-use Rattle.zpl_meaning.specs.Term as element_term
-use Rattle.zpl_meaning.specs.Checks.{has_mask_within, is_within, refers}
-use Rattle.zpl_meaning.specs.Fields.{array_over, is_kept_in}
-use Rattle.zpl_meaning.specs.Phases.{first_field}
-use Rattle.zpl_meaning.specs.Outcome as out
-use Rattle.zpl_meaning.specs.Outcome.{Outcome}
-use Rattle.zpl_meaning.specs.Statement.{written}
+use Rattle.array_puts.specs.of_zpl_meaning.Computed as mean
+use Rattle.array_puts.specs.of_zpl_meaning.Computed.{both_then, computed_then, provided}
+use Rattle.array_puts.specs.of_zpl_meaning.Store.{Store, array_at, no_array, with_array}
+use Rattle.array_puts.specs.of_zpl_meaning.Context.{Mask}
+use Rattle.array_puts.specs.of_zpl_meaning.Term.{Term}
+use Rattle.array_puts.specs.of_zpl_meaning.Term as element_term
+use Rattle.array_puts.specs.of_zpl_meaning.Checks.{has_mask_within, is_within, refers}
+use Rattle.array_puts.specs.of_zpl_meaning.Fields.{array_over, is_kept_in}
+use Rattle.array_puts.specs.of_zpl_meaning.Phases.{first_field}
+use Rattle.array_puts.specs.of_zpl_meaning.Outcome as out
+use Rattle.array_puts.specs.of_zpl_meaning.Outcome.{Outcome}
+use Rattle.array_puts.specs.of_zpl_meaning.Statement.{written}
 use Rattle.node_form.specs.declared.tables.Tables.{Tables}
 use Rattle.node_form.specs.Expression.{Expression, words_of}
 use Rattle.node_form.specs.Value.{unmoved, value_of}
@@ -32,19 +32,19 @@ use Rattle.row_runs.specs.Run.{Step}
 use Rattle.row_runs.specs.Straight.{Every}
 use Rattle.row_runs.specs.Structured as code
 use Rattle.row_runs.specs.Structured.{Course, by_step, rows_do}
-use Rattle.grid_meaning.specs.Place.{moved_by}
-use Rattle.flat_form.specs.Row as row
-use Rattle.flat_form.specs.Row.{Row, Words, mask_words}
-use Rattle.flat_form.specs.Names.{Read, group_cells, word_reads}
-use Rattle.flat_form.specs.Loop.{loop_stands, looped}
-use Rattle.flat_form.specs.Right.{can_read, can_write, has_places, writes_well}
-use Rattle.flat_form.specs.Whole.{Whole}
-use Rattle.normal_runs.proofs.PlaceLemmas.{moved_none}
-use Rattle.zpl_lowering.specs.Where.{Stored, Slotted, Where, Next}
-use Rattle.zpl_lowering.specs.Slate as slate
-use Rattle.zpl_lowering.specs.Slate.{Slate, NoSlate, ThenSlate}
-use Rattle.zpl_lowering.specs.Reference.{Reference, mask_reference, referred, refer_to}
-use Rattle.zpl_lowering.specs.Hoist.{element_code, mask_code}
+use Rattle.lowering_runs.specs.of_grid_meaning.Place.{moved_by}
+use Rattle.lowering_runs.specs.of_flat_form.Row as row
+use Rattle.lowering_runs.specs.of_flat_form.Row.{Row, Words, mask_words}
+use Rattle.lowering_runs.specs.of_flat_form.Names.{Read, group_cells, word_reads}
+use Rattle.lowering_runs.specs.of_flat_form.Loop.{loop_stands, looped}
+use Rattle.lowering_runs.specs.of_flat_form.Right.{can_read, can_write, has_places, writes_well}
+use Rattle.lowering_runs.specs.of_flat_form.Whole.{Whole}
+use Rattle.array_puts.proofs.of_normal_runs.PlaceLemmas.{moved_none}
+use Rattle.lowering_runs.specs.of_zpl_lowering.Where.{Stored, Slotted, Where, Next}
+use Rattle.lowering_runs.specs.of_zpl_lowering.Slate as slate
+use Rattle.lowering_runs.specs.of_zpl_lowering.Slate.{Slate, NoSlate, ThenSlate}
+use Rattle.lowering_runs.specs.of_zpl_lowering.Reference.{Reference, mask_reference, referred, refer_to}
+use Rattle.lowering_runs.specs.of_zpl_lowering.Hoist.{element_code, mask_code}
 use Rattle.lowering_runs.specs.Seen.{Spot}
 use Rattle.lowering_runs.specs.Run.{decide, step, straight}
 use Rattle.lowering_runs.specs.Agrees.{Agrees, Going, Trapping}

@@ -8,28 +8,28 @@ use Rattle.zpl_nums.specs.declared.operators.UnaryOp.TheVariants as unary
 use Rattle.zpl_nums.specs.Integer.{IsInteger, truth}
 use Rattle.zpl_nums.proofs.IntegerLemmas.{IsInteger-truth}
 use Rattle.zpl_region.specs.declared.regions.Region.{Region}
-use Rattle.zpl_binding.specs.Regions.{no_region}
+use Rattle.lowering_runs.specs.of_zpl_binding.Regions.{no_region}
 use Rattle.zpl_tree.specs.Syntax.{Expr, Number, Truth, Coord, Named, Shifted, Around, Remap, Call, Paren, Neg, Not, Abs, Pair, Reduce, Scan, Flood}
 use Rattle.zpl_names.specs.Kinds.{Rank}
-use Rattle.zpl_meaning.specs.Computed as mean
-use Rattle.zpl_meaning.specs.Computed.{both_then, computed_then}
-use Rattle.zpl_meaning.specs.Store.{Store, Thing, Scalar, ArrayAt, Fixed, thing_of}
-use Rattle.zpl_meaning.specs.Context.{Over, over_at, over_or}
-use Rattle.zpl_meaning.specs.Proper.{HasCurrent}
-use Rattle.zpl_meaning.specs.Regions.{vector_in}
-use Rattle.zpl_meaning.specs.Settled as meant
-use Rattle.zpl_meaning.specs.Settled.{named_term, shifted_term}
-use Rattle.zpl_meaning.specs.Term as term
-use Rattle.zpl_meaning.specs.Term.{Term}
+use Rattle.array_puts.specs.of_zpl_meaning.Computed as mean
+use Rattle.array_puts.specs.of_zpl_meaning.Computed.{both_then, computed_then}
+use Rattle.array_puts.specs.of_zpl_meaning.Store.{Store, Thing, Scalar, ArrayAt, Fixed, thing_of}
+use Rattle.array_puts.specs.of_zpl_meaning.Context.{Over, over_at, over_or}
+use Rattle.array_puts.specs.of_zpl_meaning.Proper.{HasCurrent}
+use Rattle.array_puts.specs.of_zpl_meaning.Regions.{vector_in}
+use Rattle.array_puts.specs.of_zpl_meaning.Settled as meant
+use Rattle.array_puts.specs.of_zpl_meaning.Settled.{named_term, shifted_term}
+use Rattle.array_puts.specs.of_zpl_meaning.Term as term
+use Rattle.array_puts.specs.of_zpl_meaning.Term.{Term}
 use Rattle.node_form.specs.declared.tables.Tables.{Tables}
 use Rattle.node_form.specs.Expression.{Expression}
 use Rattle.node_form.specs.Value as flat
-use Rattle.flat_form.specs.Whole.{Whole}
-use Rattle.zpl_lowering.specs.Where.{Stored, Slotted, Where, Next, slotted_or, slotted_at}
-use Rattle.zpl_lowering.specs.Hoist.{element_code}
-use Rattle.zpl_lowering.specs.Reference.{vector_over}
-use Rattle.zpl_lowering.specs.Slate as slate
-use Rattle.zpl_lowering.specs.Slate.{Slate, named_slate, shifted_slate, settled}
+use Rattle.lowering_runs.specs.of_flat_form.Whole.{Whole}
+use Rattle.lowering_runs.specs.of_zpl_lowering.Where.{Stored, Slotted, Where, Next, slotted_or, slotted_at}
+use Rattle.lowering_runs.specs.of_zpl_lowering.Hoist.{element_code}
+use Rattle.lowering_runs.specs.of_zpl_lowering.Reference.{vector_over}
+use Rattle.lowering_runs.specs.of_zpl_lowering.Slate as slate
+use Rattle.lowering_runs.specs.of_zpl_lowering.Slate.{Slate, named_slate, shifted_slate, settled}
 use Rattle.lowering_runs.specs.Seen.{Spot, Sight, numbered, seen_over, seen_currents, seen_place, seen_store, seen_thing}
 use Rattle.lowering_runs.specs.Stands.{IsCurrent, IsCurrentIf, IsHeld, IsKnown, IsSound, Stands}
 use Rattle.lowering_runs.specs.Scalars.{IsSameValue, BothGive}

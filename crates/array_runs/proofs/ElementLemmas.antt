@@ -14,9 +14,9 @@ use Rattle.zpl_region.proofs.LawLemmas.{members_iff}
 use Rattle.zpl_region.proofs.ListLemmas.{Among, Contains-from_among}
 use Rattle.zpl_arrays.specs.Array.{Array, element, has_place}
 use Rattle.zpl_arrays.specs.Reference.{is_reference}
-use Rattle.zpl_meaning.specs.Computed as mean
-use Rattle.zpl_meaning.specs.Store.{array_at}
-use Rattle.zpl_meaning.specs.Term as term
+use Rattle.array_puts.specs.of_zpl_meaning.Computed as mean
+use Rattle.array_puts.specs.of_zpl_meaning.Store.{array_at}
+use Rattle.array_puts.specs.of_zpl_meaning.Term as term
 use Rattle.node_form.specs.declared.tables.Tables.{Tables}
 use Rattle.node_form.specs.declared.arrays.ArrayDim.{ArrayDim}
 use Rattle.node_form.specs.declared.arrays.ArrayDim.TheVariants as dims
@@ -25,16 +25,16 @@ use Rattle.node_form.specs.Fits.{storage_dim}
 use Rattle.node_form.specs.Value as flat
 use Rattle.node_form.specs.Value.{Operands, tree_value, unmoved}
 use Rattle.row_runs.specs.Straight.{Every}
-use Rattle.grid_meaning.specs.Place.{held_value, moved_by, value_at, where_held}
-use Rattle.flat_form.specs.Loop.{element_at}
-use Rattle.flat_form.specs.Right as right
-use Rattle.flat_form.specs.Right.{can_read, each_covers, has_places, may_read, reads_well}
-use Rattle.flat_form.specs.Whole.{Whole}
-use Rattle.normal_runs.proofs.PlaceLemmas.{moved_none}
-use Rattle.zpl_lowering.specs.Where.{Stored, Slotted, Where}
-use Rattle.zpl_lowering.specs.Slate as slate
-use Rattle.zpl_lowering.specs.Reference.{Reference, refer_to, referred, vector_over, is_unmoved}
-use Rattle.zpl_lowering.specs.Hoist.{element_code, neighbour_if, stored_element}
+use Rattle.lowering_runs.specs.of_grid_meaning.Place.{held_value, moved_by, value_at, where_held}
+use Rattle.lowering_runs.specs.of_flat_form.Loop.{element_at}
+use Rattle.lowering_runs.specs.of_flat_form.Right as right
+use Rattle.lowering_runs.specs.of_flat_form.Right.{can_read, each_covers, has_places, may_read, reads_well}
+use Rattle.lowering_runs.specs.of_flat_form.Whole.{Whole}
+use Rattle.array_puts.proofs.of_normal_runs.PlaceLemmas.{moved_none}
+use Rattle.lowering_runs.specs.of_zpl_lowering.Where.{Stored, Slotted, Where}
+use Rattle.lowering_runs.specs.of_zpl_lowering.Slate as slate
+use Rattle.lowering_runs.specs.of_zpl_lowering.Reference.{Reference, refer_to, referred, vector_over, is_unmoved}
+use Rattle.lowering_runs.specs.of_zpl_lowering.Hoist.{element_code, neighbour_if, stored_element}
 use Rattle.lowering_runs.specs.Seen.{Spot}
 use Rattle.lowering_runs.specs.Stands.{IsCurrent}
 use Rattle.array_puts.specs.Put.{IsSame, BothGive}

@@ -11,14 +11,14 @@ use Rattle.zpl_region.specs.declared.regions.Region.{Region}
 use Rattle.zpl_region.specs.Region.{padding}
 use Rattle.zpl_tree.specs.Syntax.{Name, Expr, Assign, Number, Truth, Coord, Named, Shifted, Around, Remap, Call, Paren, Neg, Not, Abs, Pair, Reduce, Scan, Flood}
 use Rattle.zpl_names.specs.Sites.{Assigned, handed}
-use Rattle.zpl_meaning.specs.Store.{Thing, Scalar, ArrayAt, Fixed, thing_of}
-use Rattle.zpl_meaning.specs.Points.{assigned_expr}
-use Rattle.zpl_meaning.specs.Context.{Mask, Over, over_at, reach_of}
-use Rattle.zpl_meaning.specs.Regions.{vector_in}
-use Rattle.zpl_meaning.specs.Statement as mean
-use Rattle.flat_form.specs.Whole.{Whole}
-use Rattle.zpl_lowering.specs.Where.{Stored, Slotted, Where, slotted_at, is_flood}
-use Rattle.zpl_lowering.specs.Statement as low
+use Rattle.array_puts.specs.of_zpl_meaning.Store.{Thing, Scalar, ArrayAt, Fixed, thing_of}
+use Rattle.array_puts.specs.of_zpl_meaning.Points.{assigned_expr}
+use Rattle.array_puts.specs.of_zpl_meaning.Context.{Mask, Over, over_at, reach_of}
+use Rattle.array_puts.specs.of_zpl_meaning.Regions.{vector_in}
+use Rattle.array_puts.specs.of_zpl_meaning.Statement as mean
+use Rattle.lowering_runs.specs.of_flat_form.Whole.{Whole}
+use Rattle.lowering_runs.specs.of_zpl_lowering.Where.{Stored, Slotted, Where, slotted_at, is_flood}
+use Rattle.lowering_runs.specs.of_zpl_lowering.Statement as low
 use Rattle.node_form.specs.declared.tables.Tables.{Tables}
 use Rattle.lowering_runs.specs.Seen.{Sight, seen_place}
 use Rattle.lowering_runs.specs.Stands.{IsCurrent, IsHeld}

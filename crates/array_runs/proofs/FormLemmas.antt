@@ -5,17 +5,17 @@ use Rattle.zpl_nums.specs.declared.operators.Op.{Op}
 use Rattle.zpl_region.specs.declared.regions.Region.{Region}
 use Rattle.zpl_tree.specs.Syntax.{Name, Expr, Number, Truth, Coord, Named, Shifted, Around, Remap, Call, Paren, Neg, Not, Abs, Pair, Reduce, Scan, Flood, Assign}
 use Rattle.zpl_names.specs.Sites.{Assigned, handed}
-use Rattle.zpl_meaning.specs.Store.{Store, Thing, ArrayAt, thing_of}
-use Rattle.zpl_meaning.specs.Context.{over_at, reach_of}
-use Rattle.zpl_meaning.specs.Points.{assigned_expr}
-use Rattle.zpl_meaning.specs.Outcome.{Outcome}
-use Rattle.zpl_meaning.specs.Statement as mean
-use Rattle.zpl_meaning.specs.Statement.{Context}
-use Rattle.flat_form.specs.Whole.{Whole}
-use Rattle.zpl_lowering.specs.Where.{Where, Next, line_of}
-use Rattle.zpl_lowering.specs.Lowered.{Lowered}
-use Rattle.zpl_lowering.specs.Statement as low
-use Rattle.zpl_lowering.specs.Statement.{Lowering}
+use Rattle.array_puts.specs.of_zpl_meaning.Store.{Store, Thing, ArrayAt, thing_of}
+use Rattle.array_puts.specs.of_zpl_meaning.Context.{over_at, reach_of}
+use Rattle.array_puts.specs.of_zpl_meaning.Points.{assigned_expr}
+use Rattle.array_puts.specs.of_zpl_meaning.Outcome.{Outcome}
+use Rattle.array_puts.specs.of_zpl_meaning.Statement as mean
+use Rattle.array_puts.specs.of_zpl_meaning.Statement.{Context}
+use Rattle.lowering_runs.specs.of_flat_form.Whole.{Whole}
+use Rattle.lowering_runs.specs.of_zpl_lowering.Where.{Where, Next, line_of}
+use Rattle.lowering_runs.specs.of_zpl_lowering.Lowered.{Lowered}
+use Rattle.lowering_runs.specs.of_zpl_lowering.Statement as low
+use Rattle.lowering_runs.specs.of_zpl_lowering.Statement.{Lowering}
 use Rattle.lowering_runs.specs.Seen.{Sight, seen_place, seen_thing}
 use Rattle.lowering_runs.specs.Run.{does}
 use Rattle.lowering_runs.specs.Agrees.{Agrees}

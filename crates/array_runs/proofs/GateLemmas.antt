@@ -17,11 +17,11 @@ use Rattle.node_form.specs.Control.{checked}
 use Rattle.row_runs.specs.Run.{Step, Goes, Stops, Ends}
 use Rattle.row_runs.specs.Straight.{Every}
 use Rattle.row_runs.specs.Structured.{Course, by_step, rows_do}
-use Rattle.flat_form.specs.Row.{Row}
-use Rattle.flat_form.specs.Right.{is_settled}
-use Rattle.flat_form.specs.Whole.{Whole, registers_of}
-use Rattle.flat_form.specs.Act.{controlled}
-use Rattle.zpl_lowering.specs.Reference.{Reference, is_same, is_same_vector, each_once, need_of, needs}
+use Rattle.lowering_runs.specs.of_flat_form.Row.{Row}
+use Rattle.lowering_runs.specs.of_flat_form.Right.{is_settled}
+use Rattle.lowering_runs.specs.of_flat_form.Whole.{Whole, registers_of}
+use Rattle.lowering_runs.specs.of_flat_form.Act.{controlled}
+use Rattle.lowering_runs.specs.of_zpl_lowering.Reference.{Reference, is_same, is_same_vector, each_once, need_of, needs}
 use Rattle.lowering_runs.specs.Run.{straight, step, decide}
 use Rattle.lowering_runs.proofs.RowLemmas.{settled_act}
 use Rattle.array_runs.specs.Gates.{IsThere, lies, holds, gate}

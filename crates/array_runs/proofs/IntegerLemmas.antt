@@ -31,17 +31,17 @@ use Rattle.zpl_arrays.specs.Around.{around_source}
 use Rattle.zpl_arrays.specs.Flood.{flood_source}
 use Rattle.zpl_arrays.specs.Fold.{agrees, kept_fold}
 use Rattle.zpl_arrays.specs.Scan.{is_through, is_up_along}
-use Rattle.zpl_meaning.specs.Computed as mean
-use Rattle.zpl_meaning.specs.Computed.{both_then, computed_then, given, provided}
-use Rattle.zpl_meaning.specs.Store.{Store, array_at, no_array, scalar_at}
-use Rattle.zpl_meaning.specs.Statement.{written}
-use Rattle.zpl_meaning.specs.Term.{Term, Terms, Constant, Variable, Coordinate, Element, Wrapped, Unary}
-use Rattle.zpl_meaning.specs.Term.{Binary, Folded, PartFolded, Scanned, Flooded, Remapped}
-use Rattle.zpl_meaning.specs.Fields.{Field, array_over, arrays_over, constant_field, everywhere, field_of, fields_of, flood_field, fold_field, has_target, is_kept_in, part_field, remap_field, scan_field, target_of, value_if, values_at}
+use Rattle.array_puts.specs.of_zpl_meaning.Computed as mean
+use Rattle.array_puts.specs.of_zpl_meaning.Computed.{both_then, computed_then, given, provided}
+use Rattle.array_puts.specs.of_zpl_meaning.Store.{Store, array_at, no_array, scalar_at}
+use Rattle.array_puts.specs.of_zpl_meaning.Statement.{written}
+use Rattle.array_puts.specs.of_zpl_meaning.Term.{Term, Terms, Constant, Variable, Coordinate, Element, Wrapped, Unary}
+use Rattle.array_puts.specs.of_zpl_meaning.Term.{Binary, Folded, PartFolded, Scanned, Flooded, Remapped}
+use Rattle.array_puts.specs.of_zpl_meaning.Fields.{Field, array_over, arrays_over, constant_field, everywhere, field_of, fields_of, flood_field, fold_field, has_target, is_kept_in, part_field, remap_field, scan_field, target_of, value_if, values_at}
 use Rattle.row_runs.specs.Straight.{Every}
 use Rattle.node_form.specs.declared.tables.Tables.{Tables}
-use Rattle.flat_form.specs.Whole.{Whole}
-use Rattle.zpl_lowering.specs.Where.{Stored}
+use Rattle.lowering_runs.specs.of_flat_form.Whole.{Whole}
+use Rattle.lowering_runs.specs.of_zpl_lowering.Where.{Stored}
 use Rattle.lowering_runs.specs.Seen.{Spot, array_in, seen_store}
 use Rattle.lowering_runs.specs.Stands.{AreStored, IsSound}
 use Rattle.array_runs.specs.Integers.{AreIntegers, GivesIntegers, HasIntegers}

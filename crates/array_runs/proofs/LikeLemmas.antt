@@ -6,14 +6,14 @@ use Rattle.std.specs.List.{AllZip}
 use Rattle.std.proofs.lemmas.Bool.{cases_eq}
 use Rattle.zpl_nums.specs.Integer.{IsInteger}
 use Rattle.zpl_arrays.specs.Array.{Array}
-use Rattle.zpl_meaning.specs.Store.{Store, no_array, with_array}
+use Rattle.array_puts.specs.of_zpl_meaning.Store.{Store, no_array, with_array}
 use Rattle.node_form.specs.declared.arrays.ArrayRow.{ArrayRow}
 use Rattle.node_form.specs.declared.tables.Tables.{Tables}
 use Rattle.row_runs.specs.Straight.{Every}
-use Rattle.flat_form.specs.States.{IsStoreOf}
-use Rattle.flat_form.specs.Whole.{Whole}
-use Rattle.normal_runs.proofs.PlaceLemmas.{set_apart, set_there}
-use Rattle.zpl_lowering.specs.Where.{Stored, Where, Next}
+use Rattle.lowering_runs.specs.of_flat_form.States.{IsStoreOf}
+use Rattle.lowering_runs.specs.of_flat_form.Whole.{Whole}
+use Rattle.array_puts.proofs.of_normal_runs.PlaceLemmas.{set_apart, set_there}
+use Rattle.lowering_runs.specs.of_zpl_lowering.Where.{Stored, Where, Next}
 use Rattle.lowering_runs.specs.Seen.{Spot, array_in, seen_store}
 use Rattle.lowering_runs.specs.Stands.{Rises, array_numbers, IsLike}
 use Rattle.array_puts.specs.Put.{with_array_in}

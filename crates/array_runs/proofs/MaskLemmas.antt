@@ -7,8 +7,8 @@ use Rattle.zpl_nums.specs.Integer.{is_true, truth, denied}
 use Rattle.zpl_region.specs.declared.regions.Region.{Region}
 use Rattle.zpl_region.specs.Region.{IsMember}
 use Rattle.zpl_arrays.specs.Array.{Array, element}
-use Rattle.zpl_meaning.specs.Context.{Mask, is_kept, lets_in}
-use Rattle.zpl_meaning.specs.Checks.{has_mask_within}
+use Rattle.array_puts.specs.of_zpl_meaning.Context.{Mask, is_kept, lets_in}
+use Rattle.array_puts.specs.of_zpl_meaning.Checks.{has_mask_within}
 use Rattle.node_form.specs.declared.tables.Tables.{Tables}
 use Rattle.node_form.specs.Expression.{Expression, words_of}
 use Rattle.node_form.specs.Expression as word
@@ -16,13 +16,13 @@ use Rattle.node_form.specs.Value as flat
 use Rattle.node_form.specs.Value.{Operands, tree_value, unmoved, value_of}
 use Rattle.node_form.proofs.ValueLemmas.{value_of-words_of}
 use Rattle.row_runs.specs.Straight.{Every}
-use Rattle.flat_form.specs.Whole.{Whole}
-use Rattle.flat_form.specs.Row.{Words, mask_words}
-use Rattle.normal_runs.proofs.PlaceLemmas.{moved_none}
-use Rattle.zpl_lowering.specs.Where.{Stored, Slotted, Where}
-use Rattle.zpl_lowering.specs.Reference.{mask_reference, referred}
-use Rattle.zpl_lowering.specs.Slate as slate
-use Rattle.zpl_lowering.specs.Hoist.{array_code, mask_code, mask_word}
+use Rattle.lowering_runs.specs.of_flat_form.Whole.{Whole}
+use Rattle.lowering_runs.specs.of_flat_form.Row.{Words, mask_words}
+use Rattle.array_puts.proofs.of_normal_runs.PlaceLemmas.{moved_none}
+use Rattle.lowering_runs.specs.of_zpl_lowering.Where.{Stored, Slotted, Where}
+use Rattle.lowering_runs.specs.of_zpl_lowering.Reference.{mask_reference, referred}
+use Rattle.lowering_runs.specs.of_zpl_lowering.Slate as slate
+use Rattle.lowering_runs.specs.of_zpl_lowering.Hoist.{array_code, mask_code, mask_word}
 use Rattle.lowering_runs.specs.Seen.{Spot}
 use Rattle.lowering_runs.specs.Stands.{AreStored, IsCurrent, IsSound}
 use Rattle.array_puts.specs.Put.{IsMask}

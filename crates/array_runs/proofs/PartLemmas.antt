@@ -12,13 +12,13 @@ use Rattle.zpl_region.specs.declared.regions.Region.{Region}
 use Rattle.zpl_region.specs.Dim.{IsCoordinate}
 use Rattle.zpl_region.specs.Region.{IsMember}
 use Rattle.zpl_region.proofs.ListLemmas.{Among}
-use Rattle.zpl_meaning.specs.Computed as mean
-use Rattle.zpl_meaning.specs.Computed.{both_then, computed_then}
-use Rattle.zpl_meaning.specs.Store.{Store, scalar_at}
-use Rattle.zpl_meaning.specs.Term as term
-use Rattle.zpl_meaning.specs.Term.{Term}
-use Rattle.zpl_meaning.specs.Checks.{conforms, refers}
-use Rattle.zpl_meaning.specs.Fields.{Field, constant_field, coordinate_of, field_of}
+use Rattle.array_puts.specs.of_zpl_meaning.Computed as mean
+use Rattle.array_puts.specs.of_zpl_meaning.Computed.{both_then, computed_then}
+use Rattle.array_puts.specs.of_zpl_meaning.Store.{Store, scalar_at}
+use Rattle.array_puts.specs.of_zpl_meaning.Term as term
+use Rattle.array_puts.specs.of_zpl_meaning.Term.{Term}
+use Rattle.array_puts.specs.of_zpl_meaning.Checks.{conforms, refers}
+use Rattle.array_puts.specs.of_zpl_meaning.Fields.{Field, constant_field, coordinate_of, field_of}
 use Rattle.node_form.specs.declared.tables.Tables.{Tables}
 use Rattle.node_form.specs.declared.words.ExprOp.{ExprOp}
 use Rattle.node_form.specs.Expression.{Expression, words_of}
@@ -27,18 +27,18 @@ use Rattle.node_form.specs.Value as flat
 use Rattle.node_form.specs.Value.{Operands, scalar_operands, tree_value, unmoved}
 use Rattle.row_runs.specs.Straight.{Every}
 use Rattle.row_runs.specs.Structured as code
-use Rattle.flat_form.specs.Loop.{operands_at}
-use Rattle.flat_form.specs.Names.{word_reads}
-use Rattle.flat_form.specs.Right.{can_read}
-use Rattle.flat_form.specs.Whole.{Whole}
-use Rattle.flat_form.proofs.WordLemmas.{every_append}
-use Rattle.zpl_lowering.specs.Where.{Slotted, Where}
-use Rattle.zpl_lowering.specs.Slate as slate
-use Rattle.zpl_lowering.specs.Slate.{Slate}
-use Rattle.zpl_lowering.specs.Reference.{Reference, conforming, referred}
-use Rattle.zpl_lowering.specs.Hoist as hoist
-use Rattle.zpl_lowering.specs.Hoist.{Hoisted, Free, hoisted, element_code, neighbour_if, stored_element, unary_code}
-use Rattle.zpl_lowering.specs.Words.{variable_code}
+use Rattle.lowering_runs.specs.of_flat_form.Loop.{operands_at}
+use Rattle.lowering_runs.specs.of_flat_form.Names.{word_reads}
+use Rattle.lowering_runs.specs.of_flat_form.Right.{can_read}
+use Rattle.lowering_runs.specs.of_flat_form.Whole.{Whole}
+use Rattle.lowering_runs.proofs.of_flat_form.WordLemmas.{every_append}
+use Rattle.lowering_runs.specs.of_zpl_lowering.Where.{Slotted, Where}
+use Rattle.lowering_runs.specs.of_zpl_lowering.Slate as slate
+use Rattle.lowering_runs.specs.of_zpl_lowering.Slate.{Slate}
+use Rattle.lowering_runs.specs.of_zpl_lowering.Reference.{Reference, conforming, referred}
+use Rattle.lowering_runs.specs.of_zpl_lowering.Hoist as hoist
+use Rattle.lowering_runs.specs.of_zpl_lowering.Hoist.{Hoisted, Free, hoisted, element_code, neighbour_if, stored_element, unary_code}
+use Rattle.lowering_runs.specs.of_zpl_lowering.Words.{variable_code}
 use Rattle.lowering_runs.specs.Run.{does}
 use Rattle.lowering_runs.specs.Seen.{Spot, seen_store, place_of}
 use Rattle.lowering_runs.specs.Scalars.{IsSameValue, BothGive as BothGive_, BothDivide as BothDivide_}

@@ -16,8 +16,8 @@ use Rattle.zpl_arrays.specs.Array.{Array, each_has_place, element, has_place, pl
 use Rattle.zpl_arrays.specs.Reference.{dim_lies_in, each_lies_in, is_reference}
 use Rattle.zpl_arrays.proofs.CheckLemmas.{has_none-moved}
 use Rattle.node_form.specs.Value.{unmoved}
-use Rattle.grid_meaning.specs.Place.{moved_by}
-use Rattle.zpl_lowering.specs.Reference.{dim_shift, shift_in, vector_over}
+use Rattle.lowering_runs.specs.of_grid_meaning.Place.{moved_by}
+use Rattle.lowering_runs.specs.of_zpl_lowering.Reference.{dim_shift, shift_in, vector_over}
 use Rattle.array_runs.specs.Reads.{Covers, EachCovers, IsShift}
 
 -- ---- the test

@@ -3,18 +3,18 @@ use Rattle.std.proofs.Common.{◌≡◌, refl, ◌∙◌, ap, ℕ, Option, Some,
 use Rattle.zpl_nums.specs.declared.operators.UnaryOp.TheVariants as unary
 use Rattle.zpl_tree.specs.Syntax.{Expr, Number, Truth, Coord, Named, Shifted, Around, Remap, Call, Paren, Neg, Not, Abs, Pair, Reduce, Scan, Flood}
 use Rattle.zpl_names.specs.Kinds.{Rank}
-use Rattle.zpl_meaning.specs.Computed as mean
-use Rattle.zpl_meaning.specs.Computed.{both_then, computed_then}
-use Rattle.zpl_meaning.specs.Store.{Store, Thing, Scalar, ArrayAt, Fixed, thing_of}
-use Rattle.zpl_meaning.specs.Context.{Over, Place, over_at}
-use Rattle.zpl_meaning.specs.Scalars.{IsScalarName, IsScalar}
-use Rattle.zpl_meaning.specs.Settled as meant
-use Rattle.zpl_meaning.specs.Settled.{named_term}
-use Rattle.zpl_meaning.specs.Term as term
-use Rattle.zpl_meaning.specs.Term.{Term}
-use Rattle.zpl_lowering.specs.Where.{Slotted, Where, Next, slotted_at}
-use Rattle.zpl_lowering.specs.Slate as slate
-use Rattle.zpl_lowering.specs.Slate.{Slate, Settled, settled, named_slate}
+use Rattle.array_puts.specs.of_zpl_meaning.Computed as mean
+use Rattle.array_puts.specs.of_zpl_meaning.Computed.{both_then, computed_then}
+use Rattle.array_puts.specs.of_zpl_meaning.Store.{Store, Thing, Scalar, ArrayAt, Fixed, thing_of}
+use Rattle.array_puts.specs.of_zpl_meaning.Context.{Over, Place, over_at}
+use Rattle.array_puts.specs.of_zpl_meaning.Scalars.{IsScalarName, IsScalar}
+use Rattle.array_puts.specs.of_zpl_meaning.Settled as meant
+use Rattle.array_puts.specs.of_zpl_meaning.Settled.{named_term}
+use Rattle.array_puts.specs.of_zpl_meaning.Term as term
+use Rattle.array_puts.specs.of_zpl_meaning.Term.{Term}
+use Rattle.lowering_runs.specs.of_zpl_lowering.Where.{Slotted, Where, Next, slotted_at}
+use Rattle.lowering_runs.specs.of_zpl_lowering.Slate as slate
+use Rattle.lowering_runs.specs.of_zpl_lowering.Slate.{Slate, Settled, settled, named_slate}
 
 -- ---- in the meaning
 

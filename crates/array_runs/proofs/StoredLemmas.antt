@@ -17,18 +17,18 @@ use Rattle.zpl_region.proofs.HullLemmas.{has_steps}
 use Rattle.zpl_arrays.specs.Array.{Array, IsArray, element, has_place}
 use Rattle.zpl_arrays.specs.Reference.{is_reference}
 use Rattle.zpl_arrays.proofs.ReferenceLemmas.{lies_in_places, reference_places}
-use Rattle.zpl_meaning.specs.Store.{array_at, no_array}
+use Rattle.array_puts.specs.of_zpl_meaning.Store.{array_at, no_array}
 use Rattle.node_form.specs.declared.arrays.ArrayDim.{ArrayDim}
 use Rattle.node_form.specs.declared.arrays.ArrayDim.TheVariants as dims
 use Rattle.node_form.specs.declared.arrays.ArrayRow.{ArrayRow}
 use Rattle.node_form.specs.declared.tables.Tables.{Tables}
 use Rattle.node_form.specs.Fits.{storage_dim, storage_of}
-use Rattle.flat_form.specs.States.{IsStoreOf, IsWhole}
-use Rattle.flat_form.specs.Whole.{Whole}
-use Rattle.grid_meaning.specs.Place.{moved_by}
-use Rattle.normal_runs.proofs.PlaceLemmas.{moved_none}
-use Rattle.zpl_lowering.specs.Where.{Stored}
-use Rattle.zpl_lowering.specs.Reference.{vector_over, shift_in, is_unmoved}
+use Rattle.lowering_runs.specs.of_flat_form.States.{IsStoreOf, IsWhole}
+use Rattle.lowering_runs.specs.of_flat_form.Whole.{Whole}
+use Rattle.lowering_runs.specs.of_grid_meaning.Place.{moved_by}
+use Rattle.array_puts.proofs.of_normal_runs.PlaceLemmas.{moved_none}
+use Rattle.lowering_runs.specs.of_zpl_lowering.Where.{Stored}
+use Rattle.lowering_runs.specs.of_zpl_lowering.Reference.{vector_over, shift_in, is_unmoved}
 use Rattle.lowering_runs.specs.Seen.{Spot, array_in, seen_store}
 use Rattle.lowering_runs.specs.Stands.{IsStored, AreStored}
 use Rattle.array_runs.specs.Reads.{EachCovers, IsShift}

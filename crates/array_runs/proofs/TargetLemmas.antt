@@ -9,7 +9,7 @@ use Rattle.zpl_arrays.specs.Array.{flattened}
 use Rattle.node_form.specs.declared.arrays.ArrayDim.{ArrayDim}
 use Rattle.node_form.specs.declared.arrays.ArrayDim.TheVariants as dims
 use Rattle.node_form.specs.Fits.{storage_dim}
-use Rattle.flat_form.specs.Right.{each_matches}
+use Rattle.lowering_runs.specs.of_flat_form.Right.{each_matches}
 use Rattle.array_runs.specs.Reads.{EachCovers, EachMatches}
 
 pub covers_matching : (storage own : List Dim) → EachMatches storage own → EachCovers storage own

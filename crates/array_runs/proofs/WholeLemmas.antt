@@ -7,38 +7,38 @@ use Rattle.std.specs.List.{list_all}
 use Rattle.zpl_nums.specs.declared.ends.TrapKind.TheVariants.{OutsideStorage, RegionMismatch}
 use Rattle.zpl_region.specs.declared.regions.Region.{Region}
 use Rattle.zpl_arrays.specs.Array.{element}
-use Rattle.zpl_binding.specs.Regions.{no_region}
+use Rattle.lowering_runs.specs.of_zpl_binding.Regions.{no_region}
 use Rattle.zpl_tree.specs.Syntax.{Expr}
 use Rattle.zpl_names.specs.Kinds.{Rank}
 use Rattle.zpl_names.specs.Sites.{Role}
-use Rattle.zpl_meaning.specs.Computed as mean
-use Rattle.zpl_meaning.specs.Computed.{both_then, computed_then, provided}
-use Rattle.zpl_meaning.specs.Store.{Store, array_at, with_array}
-use Rattle.zpl_meaning.specs.Context.{Over, Place, over_at}
-use Rattle.zpl_meaning.specs.Term.{Term, NoTerm, ThenTerm}
-use Rattle.zpl_meaning.specs.Scalars.{IsScalar}
-use Rattle.zpl_meaning.specs.Settled as meant
-use Rattle.zpl_meaning.specs.Checks.{conform, has_mask_within, is_within, refer, refers}
-use Rattle.zpl_meaning.specs.Fields.{Field, array_over, fields_of, is_kept_in}
-use Rattle.zpl_meaning.specs.Phases as phase
-use Rattle.zpl_meaning.specs.Phases.{fields_in, first_field}
-use Rattle.zpl_meaning.specs.Outcome as out
-use Rattle.zpl_meaning.specs.Outcome.{Outcome}
-use Rattle.zpl_meaning.specs.Statement.{assign_array, written}
+use Rattle.array_puts.specs.of_zpl_meaning.Computed as mean
+use Rattle.array_puts.specs.of_zpl_meaning.Computed.{both_then, computed_then, provided}
+use Rattle.array_puts.specs.of_zpl_meaning.Store.{Store, array_at, with_array}
+use Rattle.array_puts.specs.of_zpl_meaning.Context.{Over, Place, over_at}
+use Rattle.array_puts.specs.of_zpl_meaning.Term.{Term, NoTerm, ThenTerm}
+use Rattle.array_puts.specs.of_zpl_meaning.Scalars.{IsScalar}
+use Rattle.array_puts.specs.of_zpl_meaning.Settled as meant
+use Rattle.array_puts.specs.of_zpl_meaning.Checks.{conform, has_mask_within, is_within, refer, refers}
+use Rattle.array_puts.specs.of_zpl_meaning.Fields.{Field, array_over, fields_of, is_kept_in}
+use Rattle.array_puts.specs.of_zpl_meaning.Phases as phase
+use Rattle.array_puts.specs.of_zpl_meaning.Phases.{fields_in, first_field}
+use Rattle.array_puts.specs.of_zpl_meaning.Outcome as out
+use Rattle.array_puts.specs.of_zpl_meaning.Outcome.{Outcome}
+use Rattle.array_puts.specs.of_zpl_meaning.Statement.{assign_array, written}
 use Rattle.node_form.specs.declared.tables.Tables.{Tables}
 use Rattle.node_form.specs.Expression.{Expression}
 use Rattle.row_runs.specs.Structured as code
 use Rattle.row_runs.specs.Structured.{Course, rows_do}
-use Rattle.flat_form.specs.Row.{Row}
-use Rattle.flat_form.specs.Whole.{Whole}
-use Rattle.zpl_lowering.specs.Where.{Stored, Slotted, Where, Next, slotted_at, rank_for}
-use Rattle.zpl_lowering.specs.Slate as slate
-use Rattle.zpl_lowering.specs.Slate.{Settled, Slate, Slates, NoSlate, ThenSlate, settled, settled_each}
-use Rattle.zpl_lowering.specs.Reference.{Reference, all_referred, mask_reference, needs, over_reference, refer_to, referred}
-use Rattle.zpl_lowering.specs.Hoist as hoist
-use Rattle.zpl_lowering.specs.Hoist.{all_hoisted, hoisted}
-use Rattle.zpl_lowering.specs.Lowered.{first_left, free_at, phases_of, then_rows}
-use Rattle.zpl_lowering.specs.Statement.{lowered_array, placed_in, put_row}
+use Rattle.lowering_runs.specs.of_flat_form.Row.{Row}
+use Rattle.lowering_runs.specs.of_flat_form.Whole.{Whole}
+use Rattle.lowering_runs.specs.of_zpl_lowering.Where.{Stored, Slotted, Where, Next, slotted_at, rank_for}
+use Rattle.lowering_runs.specs.of_zpl_lowering.Slate as slate
+use Rattle.lowering_runs.specs.of_zpl_lowering.Slate.{Settled, Slate, Slates, NoSlate, ThenSlate, settled, settled_each}
+use Rattle.lowering_runs.specs.of_zpl_lowering.Reference.{Reference, all_referred, mask_reference, needs, over_reference, refer_to, referred}
+use Rattle.lowering_runs.specs.of_zpl_lowering.Hoist as hoist
+use Rattle.lowering_runs.specs.of_zpl_lowering.Hoist.{all_hoisted, hoisted}
+use Rattle.lowering_runs.specs.of_zpl_lowering.Lowered.{first_left, free_at, phases_of, then_rows}
+use Rattle.lowering_runs.specs.of_zpl_lowering.Statement.{lowered_array, placed_in, put_row}
 use Rattle.lowering_runs.specs.Seen.{Spot, Sight, seen_currents, seen_place, seen_store}
 use Rattle.lowering_runs.specs.Run.{does, decide, step}
 use Rattle.lowering_runs.specs.Agrees.{Agrees}

@@ -4,12 +4,12 @@ use Rattle.zpl_nums.specs.declared.operators.Op.{Op}
 use Rattle.zpl_region.specs.declared.regions.Region.{Region}
 use Rattle.zpl_tree.specs.Syntax.{Expr, Name}
 use Rattle.zpl_names.specs.Sites.{Role, Assigned, handed}
-use Rattle.zpl_meaning.specs.Store.{ArrayAt, thing_of}
-use Rattle.zpl_meaning.specs.Points.{assigned_expr}
-use Rattle.zpl_meaning.specs.Context.{Place, over_at, reach_of, rank_in}
-use Rattle.zpl_meaning.specs.Proper.{HasCurrent}
-use Rattle.zpl_meaning.specs.Scalars.{IsScalar}
-use Rattle.zpl_lowering.specs.Where.{Stored, Where}
+use Rattle.array_puts.specs.of_zpl_meaning.Store.{ArrayAt, thing_of}
+use Rattle.array_puts.specs.of_zpl_meaning.Points.{assigned_expr}
+use Rattle.array_puts.specs.of_zpl_meaning.Context.{Place, over_at, reach_of, rank_in}
+use Rattle.array_puts.specs.of_zpl_meaning.Proper.{HasCurrent}
+use Rattle.array_puts.specs.of_zpl_meaning.Scalars.{IsScalar}
+use Rattle.lowering_runs.specs.of_zpl_lowering.Where.{Stored, Where}
 use Rattle.array_runs.specs.Reads.{EachMatches}
 use Rattle.array_runs.specs.Elementwise.{IsElementwise, IsReadableMask}
 

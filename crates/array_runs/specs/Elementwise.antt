@@ -3,10 +3,10 @@ use Rattle.std.specs.Prelude.{◌-◌, ◌<◌, ℤ, List, [], Option, Some, Non
 use Rattle.zpl_nums.specs.Integer.{IsInteger}
 use Rattle.zpl_region.specs.declared.regions.Region.{Region}
 use Rattle.zpl_tree.specs.Syntax.{Expr, Number, Truth, Coord, Named, Shifted, Around, Remap, Call, Paren, Neg, Not, Abs, Pair, Reduce, Scan, Flood}
-use Rattle.zpl_meaning.specs.Store.{Thing, Scalar, ArrayAt, Fixed, thing_of}
-use Rattle.zpl_meaning.specs.Context.{Mask}
-use Rattle.zpl_meaning.specs.Regions.{vector_in}
-use Rattle.zpl_lowering.specs.Where.{Stored, Where}
+use Rattle.array_puts.specs.of_zpl_meaning.Store.{Thing, Scalar, ArrayAt, Fixed, thing_of}
+use Rattle.array_puts.specs.of_zpl_meaning.Context.{Mask}
+use Rattle.array_puts.specs.of_zpl_meaning.Regions.{vector_in}
+use Rattle.lowering_runs.specs.of_zpl_lowering.Where.{Stored, Where}
 use Rattle.array_runs.specs.Reads.{EachCovers, IsShift}
 
 -- The array has a flood dimension wherever the region has one, and the vector, where there is one,

@@ -6,13 +6,13 @@ use Rattle.zpl_nums.specs.Integer.{IsInteger}
 use Rattle.zpl_region.specs.declared.regions.Region.{Region}
 use Rattle.zpl_tree.specs.Syntax.{Name, Expr, Number, Truth, Coord, Named, Shifted, Around, Remap, Call, Paren, Neg, Not, Abs, Pair, Reduce, Scan, Flood}
 use Rattle.zpl_names.specs.Sites.{Assigned, handed}
-use Rattle.zpl_meaning.specs.Store.{Thing, Scalar, ArrayAt, Fixed, thing_of}
-use Rattle.zpl_meaning.specs.Points.{assigned_expr}
-use Rattle.zpl_meaning.specs.Context.{Mask, Place, reach_of, rank_in}
-use Rattle.zpl_meaning.specs.Proper.{HasCurrent}
-use Rattle.zpl_meaning.specs.Scalars.{IsScalar}
-use Rattle.zpl_meaning.specs.Regions.{vector_in}
-use Rattle.zpl_lowering.specs.Where.{Stored, Slotted, Where, slotted_at, is_flood}
+use Rattle.array_puts.specs.of_zpl_meaning.Store.{Thing, Scalar, ArrayAt, Fixed, thing_of}
+use Rattle.array_puts.specs.of_zpl_meaning.Points.{assigned_expr}
+use Rattle.array_puts.specs.of_zpl_meaning.Context.{Mask, Place, reach_of, rank_in}
+use Rattle.array_puts.specs.of_zpl_meaning.Proper.{HasCurrent}
+use Rattle.array_puts.specs.of_zpl_meaning.Scalars.{IsScalar}
+use Rattle.array_puts.specs.of_zpl_meaning.Regions.{vector_in}
+use Rattle.lowering_runs.specs.of_zpl_lowering.Where.{Stored, Slotted, Where, slotted_at, is_flood}
 use Rattle.array_runs.specs.Reads.{IsShift}
 
 -- of three dimensions; none is flood past the rank

@@ -9,8 +9,8 @@ use Rattle.node_form.specs.declared.tables.Tables.{Tables}
 use Rattle.node_form.specs.Fits.{storage_of}
 use Rattle.row_runs.specs.Run.{Ends}
 use Rattle.row_runs.specs.Structured.{Course, Over, closes}
-use Rattle.flat_form.specs.Whole.{Whole}
-use Rattle.zpl_lowering.specs.Reference.{Reference}
+use Rattle.lowering_runs.specs.of_flat_form.Whole.{Whole}
+use Rattle.lowering_runs.specs.of_zpl_lowering.Reference.{Reference}
 
 -- its slot and its array are there
 pub record IsThere (tables : Tables) (whole : Whole) (one : Reference) : Type 0 where

@@ -2,11 +2,11 @@
 use Rattle.std.specs.Prelude.{◌≡◌, ℕ, ℤ, List}
 use Rattle.zpl_nums.specs.Integer.{IsInteger}
 use Rattle.zpl_region.specs.Region.{IsRegion}
-use Rattle.zpl_meaning.specs.Computed.{Computed, Gives}
-use Rattle.zpl_meaning.specs.Store.{Store, array_at, scalar_at}
-use Rattle.zpl_meaning.specs.Term.{Term, Constant, Variable, Coordinate, Element, Wrapped, Unary}
-use Rattle.zpl_meaning.specs.Term.{Binary, Folded, PartFolded, Scanned, Flooded, Remapped}
-use Rattle.zpl_meaning.specs.Fields.{Field}
+use Rattle.array_puts.specs.of_zpl_meaning.Computed.{Computed, Gives}
+use Rattle.array_puts.specs.of_zpl_meaning.Store.{Store, array_at, scalar_at}
+use Rattle.array_puts.specs.of_zpl_meaning.Term.{Term, Constant, Variable, Coordinate, Element, Wrapped, Unary}
+use Rattle.array_puts.specs.of_zpl_meaning.Term.{Binary, Folded, PartFolded, Scanned, Flooded, Remapped}
+use Rattle.array_puts.specs.of_zpl_meaning.Fields.{Field}
 use Rattle.row_runs.specs.Straight.{Every}
 
 -- all arrays of a store have them

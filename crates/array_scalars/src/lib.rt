@@ -6,5 +6,6 @@ mod nowhere;
 mod scalars;
 mod values;
 
+pub use array_values;
 pub use scalars::Scalar;
 pub use values::scalar_value;

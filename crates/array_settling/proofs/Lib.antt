@@ -1,1 +1,2 @@
 pub mod FrontLemmas
+pub use Rattle.array_regions.proofs as of_array_regions

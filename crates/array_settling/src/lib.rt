@@ -7,5 +7,7 @@ mod names;
 mod phases;
 mod placing;
 
+pub use array_places;
+pub use array_regions;
 pub use expressions::settled;
 pub use phases::{Placed, checked_terms, settled_each};

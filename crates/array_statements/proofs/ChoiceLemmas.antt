@@ -17,7 +17,7 @@ use Rattle.zpl_meaning.specs.Calls.{Called}
 use Rattle.zpl_meaning.specs.Outcome.{Outcome, ends, with_value, choose, Test, tested}
 use Rattle.zpl_meaning.specs.Statement.{Context, line_of, under, test_of, arms_at, exec_all, exec_arms}
 use Rattle.zpl_meaning.specs.Visited.{IsUnder}
-use Rattle.array_regions.specs.Fit.{IsFitInner}
+use Rattle.array_steps.specs.of_array_regions.Fit.{IsFitInner}
 use Rattle.array_statements.specs.Arms.{offset_or}
 use Rattle.array_statements.specs.Choices.{context_at, Leads}
 use Rattle.array_statements.specs.declared.choices.Truth.TheVariants as truth

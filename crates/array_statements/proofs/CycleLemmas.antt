@@ -18,7 +18,7 @@ use Rattle.zpl_meaning.specs.Visited.{IsVisited, IsUnder, list_of, arms_parts, e
 use Rattle.std.proofs.lemmas.List.Elements.{Contains-append_left, Contains-append_right}
 use Rattle.meaning_ranks.specs.Ranked.{IsRankedStmt, IsRankedForm, IsRankedTested, IsPointFormOf}
 use Rattle.array_points.specs.Elementwise.{IsElementwiseForm}
-use Rattle.array_settling.specs.Fit.{IsFit}
+use Rattle.array_steps.specs.of_array_settling.Fit.{IsFit}
 use Rattle.array_stops.specs.Answer.{Stops}
 use Rattle.array_stops.specs.declared.stops.Stop.{Stop}
 use Rattle.array_stops.specs.declared.stops.Stop.TheVariants as stop

@@ -18,8 +18,8 @@ use Rattle.zpl_meaning.specs.Regions.{under_prefix, under_source}
 use Rattle.zpl_meaning.specs.Settled.{source_rank}
 use Rattle.zpl_meaning.specs.Visited.{IsUnder, Itself, Behind}
 use Rattle.meaning_ranks.specs.Ranked.{IsRegionOf, IsOfRank, AreOfRank, IsRankedAssign, IsRankedForm, IsRankedUnder, IsRankedTested, HasRankedTests, AreRankedTests, AreRankedItems, IsPointOf, ArePointsOf, IsPointFormOf, ArePointArmsOf, IsPointArmOf, IsPointElseOf, AreShapedActuals}
-use Rattle.array_regions.specs.Fit.{IsFitCount, IsFitInner}
-use Rattle.array_settling.specs.Fit.{IsFit, AreFit}
+use Rattle.array_steps.specs.of_array_regions.Fit.{IsFitCount, IsFitInner}
+use Rattle.array_steps.specs.of_array_settling.Fit.{IsFit, AreFit}
 use Rattle.array_points.specs.Elementwise.{IsElementwise, AreElementwise, IsElementwiseForm, AreElementwiseArms, IsElementwiseArm, IsElementwiseElse}
 use Rattle.array_steps.specs.Fit.{AreFitItems}
 use Rattle.array_statements.specs.Fit.{AreFitPrefixes, AreFitTests}

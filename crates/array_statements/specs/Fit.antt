@@ -2,8 +2,8 @@
 use Rattle.std.specs.Prelude.{List, [], ◌∷◌}
 use Rattle.zpl_tree.specs.Syntax.{Prefix, ForHead, Tested, Arms, NoArm, ThenArm}
 use Rattle.zpl_meaning.specs.Statement.{step_expr}
-use Rattle.array_regions.specs.Fit.{IsFitInner}
-use Rattle.array_settling.specs.Fit.{IsFit}
+use Rattle.array_steps.specs.of_array_regions.Fit.{IsFitInner}
+use Rattle.array_steps.specs.of_array_settling.Fit.{IsFit}
 
 abbrev pub AreFitPrefixes : List Prefix → Type 0
 AreFitPrefixes [] = Unit {0}

@@ -5,14 +5,14 @@ ghost use Rattle.zpl_meaning.specs.Statement.{test_of};
 ghost use Rattle.zpl_meaning.specs.Visited.{IsUnder};
 ghost use Rattle.array_places.specs.Sound.{IsPlace};
 ghost use Rattle.array_places.specs.View.{place_of};
-ghost use Rattle.array_settling.specs.Fit.{IsFit};
+ghost use Rattle.array_steps.specs.of_array_settling.Fit.{IsFit};
 ghost use Rattle.array_statements.specs.Choices.{Reaches, Tests};
 ghost use Rattle.array_statements.specs.Fit.{AreFitPrefixes};
 
 use crate::endings::{line_of, stopped};
 use crate::faults::MeanFault;
 use array_places::Place;
-use array_regions::{over_in, under_prefix};
+use array_steps::array_regions::{over_in, under_prefix};
 use array_steps::{Buffers, test_value};
 use array_stops::Stop;
 use array_store::Store;

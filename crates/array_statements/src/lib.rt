@@ -12,7 +12,8 @@ mod runs;
 mod simple;
 mod statements;
 
-pub use array_steps::Buffers;
+pub use array_places;
+pub use array_steps::{Buffers, array_frames};
 pub use faults::MeanFault;
 pub use runs::Run;
 pub use statements::{call, exec};

@@ -11,7 +11,7 @@ ghost use Rattle.zpl_meaning.specs.Store.{thing_of};
 ghost use Rattle.array_places.specs.Sound.{IsPlace};
 ghost use Rattle.array_places.specs.Things.{thing_in};
 ghost use Rattle.array_places.specs.View.{place_of};
-ghost use Rattle.array_settling.specs.Fit.{IsFit};
+ghost use Rattle.array_steps.specs.of_array_settling.Fit.{IsFit};
 ghost use Rattle.array_steps.specs.Fit.{AreFitItems};
 ghost use Rattle.array_points.specs.Elementwise.{IsElementwiseForm};
 ghost use Rattle.array_statements.specs.Runs.{Leaves, Runs, faults_of};

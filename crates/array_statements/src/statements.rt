@@ -13,7 +13,7 @@ ghost use Rattle.zpl_meaning.specs.Visited.{IsVisited, IsVisitedCall};
 ghost use Rattle.array_places.specs.Sound.{AreSmall, IsPlace, IsRanked};
 ghost use Rattle.array_places.specs.Things.{thing_in};
 ghost use Rattle.array_places.specs.View.{currents_of, place_of, setup_of};
-ghost use Rattle.array_settling.specs.Fit.{IsFit};
+ghost use Rattle.array_steps.specs.of_array_settling.Fit.{IsFit};
 ghost use Rattle.array_frames.specs.Handed.{IsHanded, handed_of};
 ghost use Rattle.array_frames.specs.Variables.{framed};
 ghost use Rattle.routine_walks.specs.Texts.{routine_of};

@@ -35,16 +35,16 @@ use Rattle.array_stops.specs.declared.stops.Stop.{Stop}
 use Rattle.array_stops.specs.declared.stops.Stop.TheVariants.{Trap, NoMemory}
 use Rattle.array_stops.specs.Answer.{Stops}
 use Rattle.array_prints.specs.RowText as prints
-use Rattle.array_values.specs.Row.{any_kept, row_in, row_of, row_with}
-use Rattle.array_values.proofs.RowLemmas.{any_is}
-use Rattle.array_values.proofs.TermLemmas.{row_told}
+use Rattle.array_effects.specs.of_array_values.Row.{any_kept, row_in, row_of, row_with}
+use Rattle.array_effects.proofs.of_array_values.RowLemmas.{any_is}
+use Rattle.array_effects.proofs.of_array_values.TermLemmas.{row_told}
 use Rattle.array_effects.proofs.EffectLemmas.{row_is}
-use Rattle.array_scalars.specs.declared.scalars.Scalar.{Scalar}
-use Rattle.array_scalars.specs.Scalar.{scalar_in, scalar_of}
-use Rattle.array_scalars.proofs.ScalarLemmas.{scalar_told}
-use Rattle.array_settling.specs.declared.phases.Placed.{Placed as PlacedInMemory}
-use Rattle.array_settling.specs.Fit.{IsFit}
-use Rattle.array_settling.specs.Placed.{AreFitPlaced, placed_of}
+use Rattle.scalar_steps.specs.of_array_scalars.declared.scalars.Scalar.{Scalar}
+use Rattle.scalar_steps.specs.of_array_scalars.Scalar.{scalar_in, scalar_of}
+use Rattle.scalar_steps.proofs.of_array_scalars.ScalarLemmas.{scalar_told}
+use Rattle.scalar_steps.specs.of_array_settling.declared.phases.Placed.{Placed as PlacedInMemory}
+use Rattle.scalar_steps.specs.of_array_settling.Fit.{IsFit}
+use Rattle.scalar_steps.specs.of_array_settling.Placed.{AreFitPlaced, placed_of}
 use Rattle.array_steps.specs.Fit.{AreFitItems}
 use Rattle.array_steps.specs.Checked.{checked_each}
 use Rattle.array_steps.specs.Prints.{AreAligned, Printed, array_print, expr_print, is_boolean, items_in, items_print, printed_with, ranked_print, scalar_print}

@@ -2,7 +2,7 @@
 -- without faults.
 use Rattle.std.specs.Prelude.{List, [], ◌∷◌}
 use Rattle.zpl_tree.specs.Syntax.{Item, Str, Value}
-use Rattle.array_settling.specs.Fit.{IsFit}
+use Rattle.scalar_steps.specs.of_array_settling.Fit.{IsFit}
 
 abbrev pub IsFitItem : Item → Type 0
 IsFitItem (Str bytes) = Unit {0}

@@ -15,11 +15,11 @@ ghost use Rattle.array_steps.specs.Edges.{bordered};
 ghost use Rattle.array_steps.specs.Steps.{Does};
 
 use crate::edges::{inside, opposite};
+use array_effects::array_values::{all_kept, no_array};
 use array_places::{Edge, Place, Thing};
 use array_stops::Stop;
 use array_store::{Array, Store};
 use array_terms::is_within;
-use array_values::{all_kept, no_array};
 use array_writes::Row;
 use scalar_steps::Buffers;
 use std::alloc::{AllocError, Global};

@@ -6,16 +6,16 @@ ghost use Rattle.array_terms.specs.View.{term_of, terms_of};
 ghost use Rattle.array_stops.specs.Answer.{Answers};
 ghost use Rattle.array_places.specs.Sound.{IsPlace};
 ghost use Rattle.array_places.specs.View.{place_of};
-ghost use Rattle.array_settling.specs.Fit.{IsFit};
-ghost use Rattle.array_settling.specs.Placed.{AreFitPlaced, placed_of};
+ghost use Rattle.scalar_steps.specs.of_array_settling.Fit.{IsFit};
+ghost use Rattle.scalar_steps.specs.of_array_settling.Placed.{AreFitPlaced, placed_of};
 ghost use Rattle.array_steps.specs.Checked.{checked_each, checked_one};
 
 use array_places::Place;
-use array_settling::{Placed, settled, settled_each};
 use array_stops::Stop;
 use array_store::Store;
 use array_terms::{Term, Terms, conform, conforms, refer, refers};
 use bumpalo::Bump;
+use scalar_steps::array_settling::{Placed, settled, settled_each};
 use std::alloc::Global;
 use zpl_nums::TrapKind;
 

@@ -10,4 +10,6 @@ mod prints;
 pub use assigns::assign_to;
 pub use borders::border_thing;
 pub use prints::print_text;
-pub use scalar_steps::{Buffers, Start, actuals_in, answer_value, head_value, test_value};
+pub use scalar_steps::{
+    Buffers, Start, actuals_in, answer_value, array_frames, array_regions, head_value, test_value,
+};

@@ -1,13 +1,13 @@
 -- Lemmas on what arrays have at the tuples of a region.
 use Rattle.std.proofs.Common.{◌≡◌, List, [], ◌∷◌, length, map, replicate, get_or, ℤ, pos, refl, sym, ◌∙◌, ap}
-use Rattle.zpl_region.specs.declared.dims.Dim.{Dim}
-use Rattle.zpl_region.specs.declared.regions.Region.{Region}
-use Rattle.zpl_region.specs.Dim.{coordinates}
-use Rattle.zpl_region.specs.Region.{members, tuples}
-use Rattle.zpl_arrays.specs.Array.{Array, element}
-use Rattle.array_lines.specs.declared.sides.Way.{Way}
-use Rattle.array_lines.specs.Read.{each_gone, read_at}
-use Rattle.array_lines.proofs.ReadLemmas.{map_by_lines, map_three}
+use Rattle.zpl_meaning.specs.of_zpl_region.declared.dims.Dim.{Dim}
+use Rattle.zpl_meaning.specs.of_zpl_region.declared.regions.Region.{Region}
+use Rattle.zpl_meaning.specs.of_zpl_region.Dim.{coordinates}
+use Rattle.zpl_meaning.specs.of_zpl_region.Region.{members, tuples}
+use Rattle.zpl_meaning.specs.of_zpl_arrays.Array.{Array, element}
+use Rattle.array_writes.specs.of_array_lines.declared.sides.Way.{Way}
+use Rattle.array_writes.specs.of_array_lines.Read.{each_gone, read_at}
+use Rattle.array_writes.proofs.of_array_lines.ReadLemmas.{map_by_lines, map_three}
 
 -- two functions that agree at tuples of three coordinates agree at those of a region
 pub same_on_members : (f g : List ℤ → ℤ) (region : Region) (d : Dim) → length region.dims ≡ 3 → ((x y z : ℤ) → f (x ∷ y ∷ z ∷ []) ≡ g (x ∷ y ∷ z ∷ []))

@@ -4,18 +4,18 @@ use Rattle.std.specs.List.{AllZip}
 use Rattle.std.specs.Prelude.{is_some}
 use Rattle.std.proofs.lemmas.Bool.{and_from}
 use Rattle.std.proofs.lemmas.List.Elements.{All-head, All-tail}
-use Rattle.zpl_region.specs.declared.dims.Dim.{Dim}
-use Rattle.zpl_region.specs.declared.dims.Dim.TheVariants.{Range, Flood}
-use Rattle.zpl_region.specs.declared.regions.Region.{Region}
-use Rattle.zpl_region.specs.Dim.{HasStep, IsCoordinate}
-use Rattle.zpl_region.specs.Ends.{tuple_count}
-use Rattle.zpl_region.specs.Region.{IsMember, IsRegion}
-use Rattle.zpl_region.specs.Tests.{is_coordinate}
-use Rattle.zpl_region.proofs.HullLemmas.{has_steps}
-use Rattle.zpl_region.proofs.TestLemmas.{is_coordinate_iff}
-use Rattle.zpl_arrays.specs.Array.{each_has_place, flattened, has_place, place_along, place_among}
-use Rattle.zpl_arrays.proofs.ArrayLemmas.{flattened_member}
-use Rattle.array_lines.proofs.ReadLemmas.{three_of}
+use Rattle.zpl_meaning.specs.of_zpl_region.declared.dims.Dim.{Dim}
+use Rattle.zpl_meaning.specs.of_zpl_region.declared.dims.Dim.TheVariants.{Range, Flood}
+use Rattle.zpl_meaning.specs.of_zpl_region.declared.regions.Region.{Region}
+use Rattle.zpl_meaning.specs.of_zpl_region.Dim.{HasStep, IsCoordinate}
+use Rattle.zpl_meaning.specs.of_zpl_region.Ends.{tuple_count}
+use Rattle.zpl_meaning.specs.of_zpl_region.Region.{IsMember, IsRegion}
+use Rattle.zpl_meaning.specs.of_zpl_region.Tests.{is_coordinate}
+use Rattle.zpl_meaning.proofs.of_zpl_region.HullLemmas.{has_steps}
+use Rattle.zpl_meaning.proofs.of_zpl_region.TestLemmas.{is_coordinate_iff}
+use Rattle.zpl_meaning.specs.of_zpl_arrays.Array.{each_has_place, flattened, has_place, place_along, place_among}
+use Rattle.zpl_meaning.proofs.of_zpl_arrays.ArrayLemmas.{flattened_member}
+use Rattle.array_writes.proofs.of_array_lines.ReadLemmas.{three_of}
 use Rattle.array_store.specs.Stored.{flat_coordinate, place_in}
 
 flat_place : (dims : List Dim) (t : List ℤ) → place_among dims (flattened dims t) ≡ place_among dims t

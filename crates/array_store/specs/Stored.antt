@@ -1,12 +1,12 @@
 -- Arrays in memory.
 use Rattle.std.specs.Prelude.{◌≡◌, ℕ, ◌≤◌, ℤ, pos, List, length, Option, Some, None}
 use Rattle.std.specs.Prelude.{if◌then◌else◌}
-use Rattle.zpl_region.specs.declared.dims.Dim.{Dim}
-use Rattle.zpl_region.specs.declared.dims.Dim.TheVariants.{Range, Flood}
-use Rattle.zpl_region.specs.declared.regions.Region.{Region}
-use Rattle.zpl_region.specs.Ends.{tuple_count}
-use Rattle.zpl_region.specs.Region.{IsRegion, members}
-use Rattle.zpl_arrays.specs.Array.{Array, has_place, place_among}
+use Rattle.zpl_meaning.specs.of_zpl_region.declared.dims.Dim.{Dim}
+use Rattle.zpl_meaning.specs.of_zpl_region.declared.dims.Dim.TheVariants.{Range, Flood}
+use Rattle.zpl_meaning.specs.of_zpl_region.declared.regions.Region.{Region}
+use Rattle.zpl_meaning.specs.of_zpl_region.Ends.{tuple_count}
+use Rattle.zpl_meaning.specs.of_zpl_region.Region.{IsRegion, members}
+use Rattle.zpl_meaning.specs.of_zpl_arrays.Array.{Array, has_place, place_among}
 
 -- the storage is within the limit, and there is a value for each of its tuples
 pub record IsStored (array : Array) : Type 0 where

@@ -1,23 +1,23 @@
 //! Arrays.
 ghost use Rattle.std.specs.Prelude.{◌≡◌, ◌<◌, ◌≤◌, ◌++◌, All, Bool, IfOk, IfSome, List};
 ghost use Rattle.std.specs.Prelude.{OnOk, ℤ, length, map, pos};
-ghost use Rattle.zpl_region.specs.Dim.{IsUpTo};
-ghost use Rattle.zpl_region.specs.Ends.{tuple_count};
-ghost use Rattle.zpl_region.specs.Region.{IsRegion, members, tuple_moved};
-ghost use Rattle.zpl_arrays.specs.Around.{around_source};
-ghost use Rattle.zpl_arrays.specs.Array.{element, has_place};
+ghost use Rattle.zpl_meaning.specs.of_zpl_region.Dim.{IsUpTo};
+ghost use Rattle.zpl_meaning.specs.of_zpl_region.Ends.{tuple_count};
+ghost use Rattle.zpl_meaning.specs.of_zpl_region.Region.{IsRegion, members, tuple_moved};
+ghost use Rattle.zpl_meaning.specs.of_zpl_arrays.Around.{around_source};
+ghost use Rattle.zpl_meaning.specs.of_zpl_arrays.Array.{element, has_place};
 ghost use Rattle.array_store.specs.Stored.{flat_coordinate, place_in};
 ghost use Rattle.zpl_meaning.specs.Points.{left_at};
-ghost use Rattle.array_lines.specs.Read.{IsWay, read_at};
+ghost use Rattle.array_writes.specs.of_array_lines.Read.{IsWay, read_at};
 ghost use Rattle.zpl_meaning.specs.Statement.{written};
 ghost use Rattle.zpl_meaning.specs.Variables.{zero_array};
 
-use array_lines::{Reading, Way, push_read, ways_around, ways_shifted};
+use array_writes::array_lines::{Reading, Way, push_read, ways_around, ways_shifted};
+use array_writes::region_places::place;
 use array_writes::{Row, three_dims, write_row};
-use region_places::place;
 use std::alloc::{AllocError, Global};
 use std::marker::Model;
-use zpl_region::{Dim, Region, Vec3};
+use zpl_meaning::zpl_region::{Dim, Region, Vec3};
 
 /// An array: where it is stored, and its values.
 #[derive(Drop)]
@@ -27,7 +27,7 @@ pub struct Array {
 }
 
 impl Model for Array {
-    ghost use Rattle.zpl_arrays.specs.Array.{Array as Plain};
+    ghost use Rattle.zpl_meaning.specs.of_zpl_arrays.Array.{Array as Plain};
     ghost use Rattle.array_store.specs.Stored.{IsStored};
 
     ghost Value = { Plain };

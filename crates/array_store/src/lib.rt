@@ -7,5 +7,7 @@
 mod arrays;
 mod stores;
 
+pub use array_writes;
 pub use arrays::Array;
 pub use stores::Store;
+pub use zpl_meaning::zpl_arrays;

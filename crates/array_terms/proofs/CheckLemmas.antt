@@ -7,7 +7,7 @@ use Rattle.zpl_region.specs.declared.regions.Region.{Region}
 use Rattle.zpl_region.specs.Dim.{dim_moved}
 use Rattle.zpl_region.specs.Region.{components, each, moved}
 use Rattle.zpl_region.proofs.ListLemmas.{cons_same}
-use Rattle.array_lines.proofs.ReadLemmas.{three_of}
+use Rattle.array_store.proofs.of_array_lines.ReadLemmas.{three_of}
 
 stays : (dim : Dim) → dim_moved (pos 0) dim ≡ dim
 stays (Range lo hi step align) =

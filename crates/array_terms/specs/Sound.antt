@@ -4,9 +4,9 @@ use Rattle.zpl_region.specs.declared.regions.Region.{Region}
 use Rattle.zpl_region.specs.Dim.{IsUpTo}
 use Rattle.zpl_region.specs.Ends.{tuple_count}
 use Rattle.zpl_region.specs.Region.{IsRegion}
-use Rattle.zpl_meaning.specs.Term.{Term, Constant, Variable, Coordinate, Element, Wrapped, Unary}
-use Rattle.zpl_meaning.specs.Term.{Binary, Folded, PartFolded, Scanned, Flooded, Remapped, Terms}
-use Rattle.zpl_meaning.specs.Term.{NoTerm, ThenTerm}
+use Rattle.array_store.specs.of_zpl_meaning.Term.{Term, Constant, Variable, Coordinate, Element, Wrapped, Unary}
+use Rattle.array_store.specs.of_zpl_meaning.Term.{Binary, Folded, PartFolded, Scanned, Flooded, Remapped, Terms}
+use Rattle.array_store.specs.of_zpl_meaning.Term.{NoTerm, ThenTerm}
 
 pub record IsSmall (region : Region) : Type 0 where
   pub bounded : IsRegion region

@@ -1,8 +1,8 @@
 -- A term in the arena, seen as a plain term.
 use Rattle.std.specs.Prelude.{[]}
 use Rattle.std.specs.Option.{option_map}
-use Rattle.zpl_meaning.specs.Context as context
-use Rattle.zpl_meaning.specs.Term as plain
+use Rattle.array_store.specs.of_zpl_meaning.Context as context
+use Rattle.array_store.specs.of_zpl_meaning.Term as plain
 use Rattle.array_terms.specs.declared.terms.Mask.{Mask}
 use Rattle.array_terms.specs.declared.terms.Over.{Over}
 use Rattle.array_terms.specs.declared.terms.Term.{Term}

@@ -1,17 +1,17 @@
 //! The checks that come before the values of a statement.
 ghost use Rattle.std.specs.Prelude.{◌≡◌, []};
 ghost use Rattle.zpl_region.specs.Region.{IsRegion};
-ghost use Rattle.zpl_arrays.specs.Reference.{is_reference, lies_in};
-ghost use Rattle.zpl_meaning.specs.Checks.{conform, conforms, has_mask_within, is_within, refer};
-ghost use Rattle.zpl_meaning.specs.Checks.{refers};
-ghost use Rattle.zpl_meaning.specs.Store.{array_at};
+ghost use Rattle.array_store.specs.of_zpl_arrays.Reference.{is_reference, lies_in};
+ghost use Rattle.array_store.specs.of_zpl_meaning.Checks.{conform, conforms, has_mask_within, is_within, refer};
+ghost use Rattle.array_store.specs.of_zpl_meaning.Checks.{refers};
+ghost use Rattle.array_store.specs.of_zpl_meaning.Store.{array_at};
 ghost use Rattle.array_terms.specs.Sound.{AreSound, IsSound};
 ghost use Rattle.array_terms.specs.View.{over_of, term_of, terms_of};
 
 use crate::terms::{Over, Term, Terms};
 use array_store::Store;
-use array_writes::three_dims;
-use zpl_arrays::{flood_conforms, is_reference, reduction_conforms};
+use array_store::array_writes::three_dims;
+use array_store::zpl_arrays::{flood_conforms, is_reference, reduction_conforms};
 use zpl_region::{Dim, Region};
 
 /// The region in which an array that isn't there is stored.

@@ -7,5 +7,6 @@
 mod checks;
 mod terms;
 
+pub use array_store;
 pub use checks::{conform, conforms, has_mask_within, is_within, refer, refers};
 pub use terms::{Mask, Over, Term, Terms, place_term, place_terms};

@@ -11,7 +11,7 @@ use Rattle.zpl_nums.specs.Op.{applied}
 use Rattle.zpl_nums.specs.UnaryOp.{applied_unary}
 use Rattle.zpl_region.specs.declared.regions.Region.{Region}
 use Rattle.zpl_region.specs.Region.{members}
-use Rattle.zpl_arrays.specs.Array.{Array, element}
+use Rattle.zpl_meaning.specs.of_zpl_arrays.Array.{Array, element}
 use Rattle.zpl_meaning.specs.Computed.{Computed, Gives, Traps, computed_then, both_then, provided, given}
 use Rattle.zpl_meaning.specs.Store.{Store, array_at}
 use Rattle.zpl_meaning.specs.Context.{Over}

@@ -11,11 +11,11 @@ use Rattle.zpl_nums.specs.Op.{applied}
 use Rattle.zpl_nums.specs.UnaryOp.{applied_unary}
 use Rattle.zpl_region.specs.declared.regions.Region.{Region}
 use Rattle.zpl_region.specs.Region.{members, tuple_moved}
-use Rattle.zpl_arrays.specs.Array.{Array, element}
-use Rattle.zpl_arrays.specs.Around.{around_source}
-use Rattle.zpl_arrays.specs.Flood.{flood_source}
-use Rattle.zpl_arrays.specs.Fold.{reduced, partly_reduced}
-use Rattle.zpl_arrays.specs.Scan.{scanned, scanned_along}
+use Rattle.zpl_meaning.specs.of_zpl_arrays.Array.{Array, element}
+use Rattle.zpl_meaning.specs.of_zpl_arrays.Around.{around_source}
+use Rattle.zpl_meaning.specs.of_zpl_arrays.Flood.{flood_source}
+use Rattle.zpl_meaning.specs.of_zpl_arrays.Fold.{reduced, partly_reduced}
+use Rattle.zpl_meaning.specs.of_zpl_arrays.Scan.{scanned, scanned_along}
 use Rattle.zpl_meaning.specs.Computed.{Computed, Gives, Traps, computed_then, both_then, provided}
 use Rattle.zpl_meaning.specs.Store.{Store, scalar_at, array_at}
 use Rattle.zpl_meaning.specs.Context.{is_kept, Over}

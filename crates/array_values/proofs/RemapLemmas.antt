@@ -12,14 +12,14 @@ use Rattle.zpl_region.proofs.ListLemmas.{Among, Contains-from_among, cons_same}
 use Rattle.zpl_arrays.specs.Array.{Array, array_of, element}
 use Rattle.zpl_arrays.proofs.ArrayLemmas.{element_of_member}
 use Rattle.zpl_binding.specs.Vectors.{three_components}
-use Rattle.zpl_meaning.specs.Computed.{Computed, Gives, Traps, both_then, computed_then, provided}
-use Rattle.zpl_meaning.specs.Fields.{has_target, is_kept_in, target_of}
-use Rattle.zpl_meaning.specs.Store.{Store, array_at}
-use Rattle.zpl_meaning.specs.Context.{Over}
-use Rattle.zpl_meaning.specs.Term.{Term, Terms, ThenTerm, Remapped}
-use Rattle.array_totals.specs.Total.{Total, array_of_total, arrays_of_totals, computed_map, divides_by_zero, kept_value, kept_values, sure, total_of, totals_of, values_if}
-use Rattle.value_rows.specs.Row.{cleared}
-use Rattle.value_rows.proofs.RowLemmas.{rows_masked}
+use Rattle.array_stops.specs.of_zpl_meaning.Computed.{Computed, Gives, Traps, both_then, computed_then, provided}
+use Rattle.array_stops.specs.of_zpl_meaning.Fields.{has_target, is_kept_in, target_of}
+use Rattle.array_stops.specs.of_zpl_meaning.Store.{Store, array_at}
+use Rattle.array_stops.specs.of_zpl_meaning.Context.{Over}
+use Rattle.array_stops.specs.of_zpl_meaning.Term.{Term, Terms, ThenTerm, Remapped}
+use Rattle.row_stacks.specs.of_array_totals.Total.{Total, array_of_total, arrays_of_totals, computed_map, divides_by_zero, kept_value, kept_values, sure, total_of, totals_of, values_if}
+use Rattle.row_stacks.specs.of_value_rows.Row.{cleared}
+use Rattle.row_stacks.proofs.of_value_rows.RowLemmas.{rows_masked}
 use Rattle.remap_rows.specs.Remap.{all_placed, remapped}
 use Rattle.remap_rows.proofs.RemapLemmas.{all_are_placed, remaps_are}
 use Rattle.array_stops.specs.declared.stops.Stop.{Stop}

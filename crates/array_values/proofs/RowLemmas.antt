@@ -4,9 +4,9 @@ use Rattle.std.specs.List.{list_any}
 use Rattle.std.specs.Result.{IsErrAnd}
 use Rattle.zpl_nums.specs.declared.operators.Op.{Op}
 use Rattle.zpl_nums.specs.Op.{applied}
-use Rattle.zpl_meaning.specs.Computed.{Computed}
-use Rattle.array_totals.specs.Total.{Total, is_missing}
-use Rattle.value_rows.specs.Row.{misses}
+use Rattle.array_stops.specs.of_zpl_meaning.Computed.{Computed}
+use Rattle.row_stacks.specs.of_array_totals.Total.{Total, is_missing}
+use Rattle.row_stacks.specs.of_value_rows.Row.{misses}
 use Rattle.array_stops.specs.declared.stops.Stop.{Stop}
 use Rattle.array_stops.specs.Answer.{Answers, Stops}
 use Rattle.array_values.specs.Row.{any_kept}

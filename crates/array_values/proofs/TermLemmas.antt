@@ -11,13 +11,13 @@ use Rattle.zpl_region.specs.Region.{members}
 use Rattle.zpl_arrays.specs.Array.{Array, element}
 use Rattle.zpl_arrays.specs.Fold.{reduced}
 use Rattle.zpl_arrays.specs.Scan.{scanned, scanned_along}
-use Rattle.zpl_meaning.specs.Computed.{Computed, Gives, Traps, both_then, computed_then}
-use Rattle.zpl_meaning.specs.Store.{Store}
-use Rattle.zpl_meaning.specs.Term.{Term, Unary, Binary}
-use Rattle.array_totals.specs.Total.{Total, array_of_total, computed_map, divides_by_zero, kept_values, pair_total, scan_total, sure, total_of, unary_total, values_if}
-use Rattle.value_rows.specs.Row.{folded_row, mapped, misses, paired}
-use Rattle.value_rows.proofs.FoldLemmas.{reduction_is}
-use Rattle.value_rows.proofs.RowLemmas.{rows_of_pair, rows_of_unary}
+use Rattle.array_stops.specs.of_zpl_meaning.Computed.{Computed, Gives, Traps, both_then, computed_then}
+use Rattle.array_stops.specs.of_zpl_meaning.Store.{Store}
+use Rattle.array_stops.specs.of_zpl_meaning.Term.{Term, Unary, Binary}
+use Rattle.row_stacks.specs.of_array_totals.Total.{Total, array_of_total, computed_map, divides_by_zero, kept_values, pair_total, scan_total, sure, total_of, unary_total, values_if}
+use Rattle.row_stacks.specs.of_value_rows.Row.{folded_row, mapped, misses, paired}
+use Rattle.row_stacks.proofs.of_value_rows.FoldLemmas.{reduction_is}
+use Rattle.row_stacks.proofs.of_value_rows.RowLemmas.{rows_of_pair, rows_of_unary}
 use Rattle.array_stops.specs.declared.stops.Stop.{Stop}
 use Rattle.array_stops.specs.declared.stops.Stop.TheVariants.{Trap, NoMemory}
 use Rattle.array_stops.specs.Answer.{Answers, Stops}

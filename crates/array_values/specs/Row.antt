@@ -4,11 +4,11 @@ use Rattle.std.specs.List.{flat_map, list_any}
 use Rattle.zpl_region.specs.declared.regions.Region.{Region}
 use Rattle.zpl_region.specs.Region.{members}
 use Rattle.zpl_arrays.specs.Array.{element}
-use Rattle.zpl_meaning.specs.Computed.{Computed, computed_then}
-use Rattle.zpl_meaning.specs.Store.{Store}
-use Rattle.zpl_meaning.specs.Term.{Term, Terms}
-use Rattle.array_totals.specs.Total.{Total, computed_map, total_of, totals_of, values_if}
-use Rattle.value_rows.specs.Row.{cleared}
+use Rattle.array_stops.specs.of_zpl_meaning.Computed.{Computed, computed_then}
+use Rattle.array_stops.specs.of_zpl_meaning.Store.{Store}
+use Rattle.array_stops.specs.of_zpl_meaning.Term.{Term, Terms}
+use Rattle.row_stacks.specs.of_array_totals.Total.{Total, computed_map, total_of, totals_of, values_if}
+use Rattle.row_stacks.specs.of_value_rows.Row.{cleared}
 
 -- values in a buffer, and whether a divisor was 0 where nothing is masked out
 pub record Row : Type 0 where

@@ -4,17 +4,17 @@ ghost use Rattle.zpl_region.specs.Dim.{IsUpTo};
 ghost use Rattle.zpl_region.specs.Region.{IsRegion, members, tuple_moved};
 ghost use Rattle.zpl_arrays.specs.Around.{around_source};
 ghost use Rattle.zpl_arrays.specs.Array.{element};
-ghost use Rattle.zpl_meaning.specs.Computed.{Gives};
-ghost use Rattle.zpl_meaning.specs.Fields.{coordinate_of};
-ghost use Rattle.zpl_meaning.specs.Store.{array_at};
+ghost use Rattle.array_stops.specs.of_zpl_meaning.Computed.{Gives};
+ghost use Rattle.array_stops.specs.of_zpl_meaning.Fields.{coordinate_of};
+ghost use Rattle.array_stops.specs.of_zpl_meaning.Store.{array_at};
 ghost use Rattle.array_terms.specs.Sound.{IsSmall};
 ghost use Rattle.array_stops.specs.Answer.{Answers};
 ghost use Rattle.array_values.specs.Row.{row_with};
 
 use array_stops::Stop;
-use array_store::Store;
+use element_rows::plain_rows::{push_constant, push_coordinates};
 use element_rows::{push_element, push_shifted, push_wrapped};
-use plain_rows::{push_constant, push_coordinates};
+use remap_rows::array_store::Store;
 use zpl_region::{Region, Vec3};
 
 /// The row of a value.

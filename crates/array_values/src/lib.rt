@@ -11,6 +11,8 @@ mod remaps;
 mod scans;
 mod values;
 
+pub use array_terms;
 pub use operators::{all_kept, kept_in};
 pub use remaps::no_array;
+pub use row_stacks;
 pub use values::{push_operand, push_values};

@@ -1,19 +1,19 @@
 //! What operators over regions make of the rows of their operands.
 ghost use Rattle.std.specs.Prelude.{◌≡◌, ◌+◌, ◌++◌, ℤ, List, IfOk, false, length, map};
 ghost use Rattle.zpl_region.specs.Region.{members};
-ghost use Rattle.zpl_meaning.specs.Computed.{Gives};
-ghost use Rattle.zpl_meaning.specs.Fields.{everywhere, is_kept_in};
+ghost use Rattle.array_stops.specs.of_zpl_meaning.Computed.{Gives};
+ghost use Rattle.array_stops.specs.of_zpl_meaning.Fields.{everywhere, is_kept_in};
 ghost use Rattle.array_terms.specs.Sound.{IsSmall};
 ghost use Rattle.array_terms.specs.View.{over_of};
-ghost use Rattle.value_rows.specs.Row.{folded_row};
+ghost use Rattle.row_stacks.specs.of_value_rows.Row.{folded_row};
 ghost use Rattle.array_stops.specs.Answer.{Answers};
 ghost use Rattle.array_values.specs.Row.{row_with};
 
 use array_stops::Stop;
-use array_store::Store;
 use array_terms::Over;
+use element_rows::plain_rows::push_constant;
 use kept_rows::{push_everywhere, push_kept};
-use plain_rows::push_constant;
+use remap_rows::array_store::Store;
 use row_stacks::fold_behind;
 use std::alloc::{AllocError, Global};
 use zpl_nums::Fold;

@@ -2,8 +2,8 @@
 ghost use Rattle.std.specs.Prelude.{◌≡◌, ◌≤◌, ◌++◌, IfOk, OnOk, false, length};
 ghost use Rattle.zpl_nums.specs.declared.ends.TrapKind.TheVariants.{OutsideStorage};
 ghost use Rattle.zpl_region.specs.Region.{members};
-ghost use Rattle.zpl_meaning.specs.Computed.{Gives, provided};
-ghost use Rattle.zpl_meaning.specs.Store.{array_at, no_array};
+ghost use Rattle.array_stops.specs.of_zpl_meaning.Computed.{Gives, provided};
+ghost use Rattle.array_stops.specs.of_zpl_meaning.Store.{array_at, no_array};
 ghost use Rattle.remap_rows.specs.Remap.{all_placed, remapped};
 ghost use Rattle.array_terms.specs.Sound.{IsSmall};
 ghost use Rattle.array_stops.specs.Answer.{Answers};
@@ -11,8 +11,8 @@ ghost use Rattle.array_values.specs.Row.{row_under, row_with};
 
 use array_lines::{Reading, Way, push_read};
 use array_stops::Stop;
-use array_store::{Array, Store};
 use array_writes::three_dims;
+use remap_rows::array_store::{Array, Store};
 use remap_rows::{Targets, are_placed, push_remapped};
 use std::alloc::{AllocError, Global};
 use zpl_nums::TrapKind;

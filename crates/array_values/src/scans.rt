@@ -1,8 +1,8 @@
 //! Scans of operands.
 ghost use Rattle.std.specs.Prelude.{◌≡◌, ◌+◌, ◌++◌, Bool, IsTrue, ℤ, List, false, length, map};
 ghost use Rattle.zpl_region.specs.Region.{members};
-ghost use Rattle.zpl_meaning.specs.Computed.{Gives};
-ghost use Rattle.array_totals.specs.Total.{Total, kept_values, scan_total};
+ghost use Rattle.array_stops.specs.of_zpl_meaning.Computed.{Gives};
+ghost use Rattle.row_stacks.specs.of_array_totals.Total.{Total, kept_values, scan_total};
 ghost use Rattle.array_terms.specs.Sound.{IsSmall};
 ghost use Rattle.array_stops.specs.Answer.{Answers};
 ghost use Rattle.array_values.specs.Row.{row_with};

@@ -1,8 +1,8 @@
 //! The values of terms, node by node.
 ghost use Rattle.std.specs.Prelude.{◌≡◌, Bool, List, Option, length};
 ghost use Rattle.zpl_region.specs.Region.{members};
-ghost use Rattle.zpl_meaning.specs.Context.{Mask as PlainMask, Over as PlainOver};
-ghost use Rattle.zpl_meaning.specs.Term.{Flooded, Folded, PartFolded, Remapped, Scanned};
+ghost use Rattle.array_stops.specs.of_zpl_meaning.Context.{Mask as PlainMask, Over as PlainOver};
+ghost use Rattle.array_stops.specs.of_zpl_meaning.Term.{Flooded, Folded, PartFolded, Remapped, Scanned};
 ghost use Rattle.array_terms.specs.Sound.{AreSound, IsSmall, IsSound};
 ghost use Rattle.array_terms.specs.View.{over_of, term_of, terms_of};
 ghost use Rattle.array_stops.specs.Answer.{Answers};
@@ -13,9 +13,9 @@ use crate::operators::{all_kept, fold_last, kept_in};
 use crate::remaps::{Indices, push_under, remap_at};
 use crate::scans::{Scan, scan_last};
 use array_stops::Stop;
-use array_store::Store;
 use array_terms::{Over, Term, Terms};
 use array_writes::Row;
+use remap_rows::array_store::Store;
 use row_stacks::{apply_behind, clear_behind, pair_behind};
 use source_rows::{PartFold, push_flooded, push_parts};
 use std::alloc::Global;

@@ -4,22 +4,22 @@ use Rattle.std.specs.Ordering.{int_eq}
 use Rattle.std.proofs.Math.Nat.{mul-le-mul_right}
 use Rattle.std.proofs.lemmas.Int.{ints}
 use Rattle.std.proofs.lemmas.List.{drop-map, length-append}
-use Rattle.zpl_region.specs.declared.dims.Dim.{Dim}
-use Rattle.zpl_region.specs.declared.dims.Dim.TheVariants.{Range, Flood}
-use Rattle.zpl_region.specs.declared.regions.Region.{Region}
-use Rattle.zpl_region.specs.Dim.{HasStep, IsCoordinate, coordinates}
-use Rattle.zpl_region.specs.Ends.{coordinate_count, tuple_count}
-use Rattle.zpl_region.specs.Region.{IsRegion, members, padding, tuples}
-use Rattle.zpl_region.specs.Tests.{are_coordinates, is_coordinate}
+use Rattle.array_lines.specs.of_zpl_region.declared.dims.Dim.{Dim}
+use Rattle.array_lines.specs.of_zpl_region.declared.dims.Dim.TheVariants.{Range, Flood}
+use Rattle.array_lines.specs.of_zpl_region.declared.regions.Region.{Region}
+use Rattle.array_lines.specs.of_zpl_region.Dim.{HasStep, IsCoordinate, coordinates}
+use Rattle.array_lines.specs.of_zpl_region.Ends.{coordinate_count, tuple_count}
+use Rattle.array_lines.specs.of_zpl_region.Region.{IsRegion, members, padding, tuples}
+use Rattle.array_lines.specs.of_zpl_region.Tests.{are_coordinates, is_coordinate}
 use Rattle.std.proofs.lemmas.Option.{slice_get_within}
-use Rattle.zpl_region.proofs.HullLemmas.{has_steps}
-use Rattle.zpl_region.proofs.ListLemmas.{cons_same, int_eq-false}
-use Rattle.zpl_region.proofs.ProgressionLemmas.{length-progression}
-use Rattle.zpl_region.proofs.TestLemmas.{is_coordinate_iff}
-use Rattle.zpl_arrays.proofs.ArrayLemmas.{flattened_member, place_of_tuple}
-use Rattle.zpl_region.proofs.RegionLemmas.{length-tuples_one}
-use Rattle.zpl_region.proofs.TupleLemmas.{length-tuples}
-use Rattle.zpl_arrays.specs.Array.{each_has_place, flattened, has_place, place_along, place_among}
+use Rattle.array_lines.proofs.of_zpl_region.HullLemmas.{has_steps}
+use Rattle.array_lines.proofs.of_zpl_region.ListLemmas.{cons_same, int_eq-false}
+use Rattle.array_lines.proofs.of_zpl_region.ProgressionLemmas.{length-progression}
+use Rattle.array_lines.proofs.of_zpl_region.TestLemmas.{is_coordinate_iff}
+use Rattle.array_lines.proofs.of_zpl_arrays.ArrayLemmas.{flattened_member, place_of_tuple}
+use Rattle.array_lines.proofs.of_zpl_region.RegionLemmas.{length-tuples_one}
+use Rattle.array_lines.proofs.of_zpl_region.TupleLemmas.{length-tuples}
+use Rattle.array_lines.specs.of_zpl_arrays.Array.{each_has_place, flattened, has_place, place_along, place_among}
 use Rattle.array_lines.specs.declared.sides.Side.{Side}
 use Rattle.array_lines.specs.declared.sides.Way.{Way}
 use Rattle.array_lines.specs.declared.sides.Way.TheVariants.{Moved}

@@ -3,9 +3,9 @@ use Rattle.std.proofs.Common.{◌≡◌, ℕ, zero, suc, ◌+◌, ◌-◌, ◌*�
 use Rattle.std.proofs.Math.Seq.{drop-cons}
 use Rattle.std.proofs.lemmas.List.{drop-drop, length-map}
 use Rattle.std.proofs.lemmas.Int.{ints}
-use Rattle.zpl_region.proofs.ListLemmas.{cons_same}
-use Rattle.zpl_region.proofs.ProgressionLemmas.{length-progression}
-use Rattle.zpl_region.specs.Progression.{progression}
+use Rattle.array_lines.proofs.of_zpl_region.ListLemmas.{cons_same}
+use Rattle.array_lines.proofs.of_zpl_region.ProgressionLemmas.{length-progression}
+use Rattle.array_lines.specs.of_zpl_region.Progression.{progression}
 use Rattle.array_lines.proofs.RunLemmas.{left_begin, left_more, left_none, left_of}
 use Rattle.array_writes.specs.declared.puts.Change.{Change}
 use Rattle.array_writes.specs.Write.{put_each, put_one, run_places}

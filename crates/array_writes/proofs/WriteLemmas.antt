@@ -2,15 +2,15 @@
 use Rattle.std.proofs.Common.{◌≡◌, ℕ, ◌<◌, Bool, true, false, ◌&&◌, ◌||◌, if◌then◌else◌, All, Option, Some, None, List, [], ◌∷◌, length, length-set, get_or, get_or-set_same, get_or-set_other, map, set, ℤ, pos, eqb, inl, inr, refl, sym, ◌∙◌, ap, subst, arith, slice_get}
 use Rattle.std.proofs.lemmas.Bool.{and_from, and_parts, eq-eqb, eqb-true}
 use Rattle.std.proofs.lemmas.Option.{slice_get_within}
-use Rattle.zpl_region.specs.declared.regions.Region.{Region}
-use Rattle.zpl_region.specs.Dim.{HasStep}
-use Rattle.zpl_region.specs.Region.{IsMember, members}
-use Rattle.zpl_region.specs.Tests.{is_member}
-use Rattle.zpl_region.proofs.LawLemmas.{members_iff}
-use Rattle.zpl_region.proofs.ListLemmas.{Among, Contains-from_among, among_from_Contains}
-use Rattle.zpl_region.proofs.TestLemmas.{is_member_iff}
-use Rattle.zpl_arrays.specs.Array.{Array, IsArray, element, place_among}
-use Rattle.zpl_arrays.proofs.ArrayLemmas.{array_of_is_array, element_of_member, place_of_tuple, same_elements, value_at_place}
+use Rattle.array_lines.specs.of_zpl_region.declared.regions.Region.{Region}
+use Rattle.array_lines.specs.of_zpl_region.Dim.{HasStep}
+use Rattle.array_lines.specs.of_zpl_region.Region.{IsMember, members}
+use Rattle.array_lines.specs.of_zpl_region.Tests.{is_member}
+use Rattle.array_lines.proofs.of_zpl_region.LawLemmas.{members_iff}
+use Rattle.array_lines.proofs.of_zpl_region.ListLemmas.{Among, Contains-from_among, among_from_Contains}
+use Rattle.array_lines.proofs.of_zpl_region.TestLemmas.{is_member_iff}
+use Rattle.array_lines.specs.of_zpl_arrays.Array.{Array, IsArray, element, place_among}
+use Rattle.array_lines.proofs.of_zpl_arrays.ArrayLemmas.{array_of_is_array, element_of_member, place_of_tuple, same_elements, value_at_place}
 use Rattle.array_writes.specs.declared.puts.Change.{Change}
 use Rattle.array_writes.specs.declared.puts.Change.TheVariants.{Set}
 use Rattle.array_writes.specs.Write.{place_at, placed, put_each, put_one, written_in}

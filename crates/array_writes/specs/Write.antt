@@ -2,14 +2,14 @@
 use Rattle.std.specs.Prelude.{◌≡◌, ℕ, zero, suc, ◌+◌, ◌*◌, Bool, true, false, ◌&&◌, ℤ, pos}
 use Rattle.std.specs.Prelude.{Option, Some, None, if◌then◌else◌, List, [], ◌∷◌, map, flat_map}
 use Rattle.std.specs.Prelude.{drop, slice_index_or, slice_set, take}
-use Rattle.zpl_nums.specs.Fold.{joined}
-use Rattle.zpl_region.specs.declared.dims.Dim.{Dim}
-use Rattle.zpl_region.specs.declared.dims.Dim.TheVariants.{Range, Flood}
-use Rattle.zpl_region.specs.declared.regions.Region.{Region}
-use Rattle.zpl_region.specs.Dim.{coordinates}
-use Rattle.zpl_region.specs.Region.{padding}
-use Rattle.zpl_region.specs.Tests.{is_member}
-use Rattle.zpl_arrays.specs.Array.{Array, array_of, element, has_place, place_among}
+use Rattle.array_lines.specs.of_zpl_nums.Fold.{joined}
+use Rattle.array_lines.specs.of_zpl_region.declared.dims.Dim.{Dim}
+use Rattle.array_lines.specs.of_zpl_region.declared.dims.Dim.TheVariants.{Range, Flood}
+use Rattle.array_lines.specs.of_zpl_region.declared.regions.Region.{Region}
+use Rattle.array_lines.specs.of_zpl_region.Dim.{coordinates}
+use Rattle.array_lines.specs.of_zpl_region.Region.{padding}
+use Rattle.array_lines.specs.of_zpl_region.Tests.{is_member}
+use Rattle.array_lines.specs.of_zpl_arrays.Array.{Array, array_of, element, has_place, place_among}
 use Rattle.array_lines.specs.declared.sides.Way.{Way}
 use Rattle.array_lines.specs.declared.sides.Way.TheVariants.{Moved}
 use Rattle.array_lines.specs.Axis.{along}

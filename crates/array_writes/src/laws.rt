@@ -1,9 +1,9 @@
 //! The law of writes.
 ghost use Rattle.std.specs.Prelude.{◌≡◌, All, Bool, ℤ, List, map};
-ghost use Rattle.zpl_region.specs.declared.regions.Region.{Region as Tuples};
-ghost use Rattle.zpl_region.specs.Dim.{HasStep};
-ghost use Rattle.zpl_region.specs.Region.{members};
-ghost use Rattle.zpl_arrays.specs.Array.{Array, IsArray};
+ghost use Rattle.array_lines.specs.of_zpl_region.declared.regions.Region.{Region as Tuples};
+ghost use Rattle.array_lines.specs.of_zpl_region.Dim.{HasStep};
+ghost use Rattle.array_lines.specs.of_zpl_region.Region.{members};
+ghost use Rattle.array_lines.specs.of_zpl_arrays.Array.{Array, IsArray};
 ghost use Rattle.array_writes.specs.declared.puts.Change.{Change};
 ghost use Rattle.array_writes.specs.Write.{place_at, put_each, written_in};
 

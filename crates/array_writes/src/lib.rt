@@ -9,6 +9,8 @@ mod laws;
 mod puts;
 mod writes;
 
+pub use array_lines;
+pub use array_lines::region_places;
 pub use laws::writes_are_those_of_functions;
 pub use puts::{Aim, Change, Row, put_row};
 pub use writes::{solid, three_dims, write_row};

@@ -1,17 +1,17 @@
 //! Values put at the places of all tuples of a region.
 ghost use Rattle.std.specs.Prelude.{◌≡◌, ◌+◌, ◌-◌, ◌*◌, ◌<◌, ◌≤◌, ◌^◌, All, IfSome, length};
 ghost use Rattle.std.specs.Prelude.{map};
-ghost use Rattle.zpl_region.specs.Ends.{tuple_count};
-ghost use Rattle.zpl_region.specs.Region.{IsRegion, members};
+ghost use Rattle.array_lines.specs.of_zpl_region.Ends.{tuple_count};
+ghost use Rattle.array_lines.specs.of_zpl_region.Region.{IsRegion, members};
 ghost use Rattle.array_lines.specs.Axis.{along};
 ghost use Rattle.array_lines.specs.Read.{IsWay};
 ghost use Rattle.array_writes.specs.Write.{AreSides, IsPart, IsUnder, all_places, line_places};
 ghost use Rattle.array_writes.specs.Write.{place_gone, placed, plane_places, put_each, put_one};
 ghost use Rattle.array_writes.specs.Write.{run_places, tuples_under};
 
+use array_lines::zpl_nums::{Fold, join};
+use array_lines::zpl_region::Region;
 use array_lines::{Side, Way, line_of};
-use zpl_nums::{Fold, join};
-use zpl_region::Region;
 
 /// What a value makes of the one that stands at its place.
 #[derive(Clone, Copy)]

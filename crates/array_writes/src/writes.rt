@@ -1,13 +1,13 @@
 //! Writes.
 ghost use Rattle.std.specs.Prelude.{◌≡◌, ◌≤◌, length, map};
-ghost use Rattle.zpl_region.specs.Dim.{IsDim};
-ghost use Rattle.zpl_region.specs.Ends.{tuple_count};
-ghost use Rattle.zpl_region.specs.Region.{IsRegion, members};
+ghost use Rattle.array_lines.specs.of_zpl_region.Dim.{IsDim};
+ghost use Rattle.array_lines.specs.of_zpl_region.Ends.{tuple_count};
+ghost use Rattle.array_lines.specs.of_zpl_region.Region.{IsRegion, members};
 ghost use Rattle.array_writes.specs.Write.{place_at, put_each, solid, solid_region};
 
 use crate::puts::{Aim, Change, Row, put_row};
 use array_lines::Way;
-use zpl_region::{Dim, Region};
+use array_lines::zpl_region::{Dim, Region};
 
 /// The dimension with the one coordinate 0.
 const PADDING: Dim = Dim::Range {

@@ -48,34 +48,34 @@ use Rattle.flat_form.specs.Act.{controlled}
 use Rattle.flat_form.specs.Row as row
 use Rattle.flat_form.specs.Row.{Row}
 use Rattle.flat_form.specs.Whole.{Whole, registers_of}
-use Rattle.zpl_lowering.specs.Where as low_where
-use Rattle.zpl_lowering.specs.Where.{Stored, Slotted, SlotCurrents, SlotEdge, Where, Next, line_of, slotted_at, slotted_or}
-use Rattle.zpl_lowering.specs.Reference.{Reference, at_place}
-use Rattle.zpl_lowering.specs.Statement as low
-use Rattle.zpl_lowering.specs.Statement.{each_border, lowered_borders, source_shift}
-use Rattle.lowering_runs.specs.Run.{decide, does, step, straight}
-use Rattle.lowering_runs.specs.Seen.{Sight, Spot, seen_currents, seen_edge, seen_over, seen_place, seen_store, seen_thing, slot_in}
-use Rattle.lowering_runs.specs.Agrees.{Agrees, Going, Trapping}
-use Rattle.lowering_runs.specs.Stands.{AreTaken, HasRoom, IsLike, IsTaken, IsTakenEdge, Stands}
-use Rattle.lowering_runs.specs.Goes.{World, Goes}
-use Rattle.lowering_runs.proofs.AgreeLemmas.{behind_agrees, counting_agrees}
-use Rattle.lowering_runs.proofs.FitLemmas.{anew_goes, held_on}
-use Rattle.lowering_runs.proofs.NumberLemmas.{get_other, get_same, length_set}
-use Rattle.lowering_runs.proofs.RowLemmas.{settled_act}
-use Rattle.lowering_runs.proofs.SuitLemmas.{FormGoes, goes_more}
-use Rattle.lowering_runs.proofs.ValueLemmas.{thing_seen}
-use Rattle.array_puts.specs.Put.{with_array_in}
-use Rattle.array_runs.specs.Floods.{IsWritableAs, slot_floods}
-use Rattle.array_runs.specs.Gates.{IsThere, gate, holds, lies}
-use Rattle.array_runs.specs.Reads.{EachCovers, EachMatches}
-use Rattle.array_runs.proofs.CodedLemmas.{CurrentOf, current_of, region_of}
-use Rattle.array_runs.proofs.FloodLemmas.{current_floods, each_matches}
-use Rattle.array_runs.proofs.GateLemmas.{each_gate}
-use Rattle.array_runs.proofs.LikeLemmas.{index_if, index_is, like_array}
-use Rattle.array_runs.proofs.PlaceLemmas.{reference_same}
-use Rattle.array_runs.proofs.IntegerLemmas.{element_integer, made_integers}
-use Rattle.array_runs.proofs.StoredLemmas.{IsFound, found_array, index_of_found}
-use Rattle.array_runs.proofs.TargetLemmas.{covers_matching}
+use Rattle.prefix_runs.specs.of_zpl_lowering.Where as low_where
+use Rattle.prefix_runs.specs.of_zpl_lowering.Where.{Stored, Slotted, SlotCurrents, SlotEdge, Where, Next, line_of, slotted_at, slotted_or}
+use Rattle.prefix_runs.specs.of_zpl_lowering.Reference.{Reference, at_place}
+use Rattle.prefix_runs.specs.of_zpl_lowering.Statement as low
+use Rattle.prefix_runs.specs.of_zpl_lowering.Statement.{each_border, lowered_borders, source_shift}
+use Rattle.prefix_runs.specs.of_lowering_runs.Run.{decide, does, step, straight}
+use Rattle.prefix_runs.specs.of_lowering_runs.Seen.{Sight, Spot, seen_currents, seen_edge, seen_over, seen_place, seen_store, seen_thing, slot_in}
+use Rattle.prefix_runs.specs.of_lowering_runs.Agrees.{Agrees, Going, Trapping}
+use Rattle.prefix_runs.specs.of_lowering_runs.Stands.{AreTaken, HasRoom, IsLike, IsTaken, IsTakenEdge, Stands}
+use Rattle.prefix_runs.specs.of_lowering_runs.Goes.{World, Goes}
+use Rattle.prefix_runs.proofs.of_lowering_runs.AgreeLemmas.{behind_agrees, counting_agrees}
+use Rattle.prefix_runs.proofs.of_lowering_runs.FitLemmas.{anew_goes, held_on}
+use Rattle.prefix_runs.proofs.of_lowering_runs.NumberLemmas.{get_other, get_same, length_set}
+use Rattle.prefix_runs.proofs.of_lowering_runs.RowLemmas.{settled_act}
+use Rattle.prefix_runs.proofs.of_lowering_runs.SuitLemmas.{FormGoes, goes_more}
+use Rattle.prefix_runs.proofs.of_lowering_runs.ValueLemmas.{thing_seen}
+use Rattle.prefix_runs.specs.of_array_puts.Put.{with_array_in}
+use Rattle.prefix_runs.specs.of_array_runs.Floods.{IsWritableAs, slot_floods}
+use Rattle.prefix_runs.specs.of_array_runs.Gates.{IsThere, gate, holds, lies}
+use Rattle.prefix_runs.specs.of_array_runs.Reads.{EachCovers, EachMatches}
+use Rattle.prefix_runs.proofs.of_array_runs.CodedLemmas.{CurrentOf, current_of, region_of}
+use Rattle.prefix_runs.proofs.of_array_runs.FloodLemmas.{current_floods, each_matches}
+use Rattle.prefix_runs.proofs.of_array_runs.GateLemmas.{each_gate}
+use Rattle.prefix_runs.proofs.of_array_runs.LikeLemmas.{index_if, index_is, like_array}
+use Rattle.prefix_runs.proofs.of_array_runs.PlaceLemmas.{reference_same}
+use Rattle.prefix_runs.proofs.of_array_runs.IntegerLemmas.{element_integer, made_integers}
+use Rattle.prefix_runs.proofs.of_array_runs.StoredLemmas.{IsFound, found_array, index_of_found}
+use Rattle.prefix_runs.proofs.of_array_runs.TargetLemmas.{covers_matching}
 use Rattle.prefix_runs.proofs.FillLemmas.{slots_below}
 use Rattle.prefix_runs.proofs.ShapeLemmas.{Keeps, each_length, inside_keeps, outside_keeps}
 use Rattle.prefix_runs.proofs.ShapedLemmas.{filled, form_step, limit_step}

@@ -27,16 +27,16 @@ use Rattle.flat_form.specs.Right as right
 use Rattle.flat_form.specs.Right.{can_read, can_write, each_covers, has_places, is_settled, matches, reads_well, writes_well}
 use Rattle.flat_form.specs.Whole.{Whole}
 use Rattle.normal_runs.proofs.PlaceLemmas.{moved_none, set_same, set_there, set_twice}
-use Rattle.zpl_lowering.specs.Where.{Stored}
-use Rattle.lowering_runs.specs.Run.{step, straight}
-use Rattle.lowering_runs.specs.Seen.{Spot}
-use Rattle.lowering_runs.proofs.RowLemmas.{settled_act}
-use Rattle.array_puts.specs.Put.{with_array_in}
-use Rattle.array_puts.proofs.WriteLemmas.{all_written, every_among, put_all}
-use Rattle.array_runs.specs.Reads.{EachCovers, EachMatches}
-use Rattle.array_runs.proofs.ElementLemmas.{all_members, covers_row}
-use Rattle.array_runs.proofs.StoredLemmas.{IsFound}
-use Rattle.array_runs.proofs.TargetLemmas.{flat_member, matches_row}
+use Rattle.prefix_runs.specs.of_zpl_lowering.Where.{Stored}
+use Rattle.prefix_runs.specs.of_lowering_runs.Run.{step, straight}
+use Rattle.prefix_runs.specs.of_lowering_runs.Seen.{Spot}
+use Rattle.prefix_runs.proofs.of_lowering_runs.RowLemmas.{settled_act}
+use Rattle.prefix_runs.specs.of_array_puts.Put.{with_array_in}
+use Rattle.prefix_runs.proofs.of_array_puts.WriteLemmas.{all_written, every_among, put_all}
+use Rattle.prefix_runs.specs.of_array_runs.Reads.{EachCovers, EachMatches}
+use Rattle.prefix_runs.proofs.of_array_runs.ElementLemmas.{all_members, covers_row}
+use Rattle.prefix_runs.proofs.of_array_runs.StoredLemmas.{IsFound}
+use Rattle.prefix_runs.proofs.of_array_runs.TargetLemmas.{flat_member, matches_row}
 
 -- ---- values that are set one after another
 

@@ -25,7 +25,7 @@ use Rattle.zpl_region.proofs.TestLemmas.{is_within_limit_iff}
 use Rattle.zpl_region.specs.Ends.{coordinate_count, tuple_count}
 use Rattle.zpl_arrays.specs.Border.{border_conforms, border_sources, dim_border_conforms, each_border_conforms}
 use Rattle.zpl_arrays.proofs.SourceLemmas.{wide_enough, zero_component}
-use Rattle.zpl_lowering.specs.Statement.{source_shift}
+use Rattle.prefix_runs.specs.of_zpl_lowering.Statement.{source_shift}
 
 -- ---- a dimension
 

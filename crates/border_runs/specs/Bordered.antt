@@ -6,8 +6,8 @@ use Rattle.zpl_tree.specs.Syntax.{Name, Form, Assign, Invoke, Block, If, While, 
 use Rattle.zpl_meaning.specs.Store.{Thing, Scalar, ArrayAt, Fixed, thing_of}
 use Rattle.zpl_meaning.specs.Context.{Edge, Place, over_at}
 use Rattle.zpl_meaning.specs.Proper.{HasCurrent}
-use Rattle.zpl_lowering.specs.Where.{Slotted, Where, slotted_at}
-use Rattle.array_runs.specs.Floods.{IsWritableAs}
+use Rattle.prefix_runs.specs.of_zpl_lowering.Where.{Slotted, Where, slotted_at}
+use Rattle.prefix_runs.specs.of_array_runs.Floods.{IsWritableAs}
 
 -- The nearest prefix is a border, of a region within the limit; and it has what that comes to.
 abbrev pub IsBorder : Option Edge → Region → Type 0

@@ -5,8 +5,8 @@ ghost use Rattle.std.specs.Prelude.{ℕ, List};
 ghost use Rattle.zpl_nums.specs.declared.ends.Border.{Border as Kind};
 ghost use Rattle.zpl_tree.specs.Syntax.{Border, Form, Name};
 ghost use Rattle.zpl_meaning.specs.Statement.{exec_form};
-ghost use Rattle.zpl_lowering.specs.Statement.{lowered_form};
-ghost use Rattle.lowering_runs.specs.Goes.{Goes, World};
+ghost use Rattle.prefix_runs.specs.of_zpl_lowering.Statement.{lowered_form};
+ghost use Rattle.prefix_runs.specs.of_lowering_runs.Goes.{Goes, World};
 ghost use Rattle.border_runs.specs.Bordered.{BorderLeaf, IsBorderServed};
 
 /// The code of a border statement goes as the statement does, from each state that its place fits:

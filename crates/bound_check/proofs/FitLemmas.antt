@@ -5,15 +5,15 @@ use Rattle.std.specs.Prelude.{All, Option, Some, None, filter, if◌then◌else�
 use Rattle.std.specs.Option.{IfSome, IsSomeAnd}
 use Rattle.std.specs.List.{AllByRecursion}
 use Rattle.std.proofs.lemmas.List.Elements.{All-from_recursion, recursion_from_All}
-use Rattle.node_form.specs.declared.words.ExprOp.{ExprOp}
-use Rattle.node_form.specs.declared.words.ExprOp.TheVariants as word
-use Rattle.node_form.specs.declared.members.Member.{Member}
-use Rattle.node_form.specs.declared.members.Member.TheVariants as member
-use Rattle.node_form.specs.declared.instructions.Instr.{Instr}
-use Rattle.node_form.specs.declared.instructions.Instr.TheVariants as instr
-use Rattle.node_form.specs.declared.tables.Tables.{Tables}
-use Rattle.node_form.specs.Fits.{Fits, FitsInstr, FitsMember, FitsWord, HasExpr}
-use Rattle.code_parts.specs.Stretch.{ends_stretch}
+use Rattle.flat_passes.specs.of_node_form.declared.words.ExprOp.{ExprOp}
+use Rattle.flat_passes.specs.of_node_form.declared.words.ExprOp.TheVariants as word
+use Rattle.flat_passes.specs.of_node_form.declared.members.Member.{Member}
+use Rattle.flat_passes.specs.of_node_form.declared.members.Member.TheVariants as member
+use Rattle.flat_passes.specs.of_node_form.declared.instructions.Instr.{Instr}
+use Rattle.flat_passes.specs.of_node_form.declared.instructions.Instr.TheVariants as instr
+use Rattle.flat_passes.specs.of_node_form.declared.tables.Tables.{Tables}
+use Rattle.flat_passes.specs.of_node_form.Fits.{Fits, FitsInstr, FitsMember, FitsWord, HasExpr}
+use Rattle.flat_passes.specs.of_code_parts.Stretch.{ends_stretch}
 use Rattle.flat_passes.specs.Numbers.{number_among, numbers_from}
 use Rattle.flat_passes.specs.Rewritten.{with_moved_goal}
 use Rattle.flat_passes.proofs.FitLemmas.{alone_fits, fits_anew}

@@ -13,32 +13,32 @@ use Rattle.zpl_region.specs.declared.regions.Region.{Region}
 use Rattle.zpl_region.specs.Ends.{tuple_count}
 use Rattle.zpl_region.specs.Hull.{all_from}
 use Rattle.zpl_region.specs.Region.{padding}
-use Rattle.zpl_arrays.specs.Reference.{is_reference}
-use Rattle.zpl_arrays.proofs.CheckLemmas.{reference_of_none}
-use Rattle.row_runs.specs.Run.{Effect, Does, Goes, Stops, Wrong}
-use Rattle.row_runs.specs.Run.{runs}
-use Rattle.row_runs.specs.Segments.{Keeps}
-use Rattle.row_runs.specs.Straight.{Flow, Halts, IsStep, OnTo, Stepping, Tied, TiedHalt, TiedOn}
-use Rattle.row_runs.specs.Straight.{TiedWrong, flow_behind, flow_of, flow_step, through}
-use Rattle.node_form.specs.declared.arrays.ArrayRow.{ArrayRow}
-use Rattle.node_form.specs.declared.arrays.Item.{Item}
-use Rattle.node_form.specs.declared.instructions.Instr.{Instr}
-use Rattle.node_form.specs.declared.instructions.Instr.TheVariants as instr
-use Rattle.node_form.specs.declared.members.Member.{Member}
-use Rattle.node_form.specs.declared.members.Member.TheVariants as member
-use Rattle.node_form.specs.declared.tables.Tables.{Tables}
-use Rattle.node_form.specs.declared.touches.Thing.{Thing}
-use Rattle.node_form.specs.declared.touches.Thing.TheVariants as thing
-use Rattle.node_form.specs.Control as control
-use Rattle.node_form.specs.Fits.{Fits, FitsInstr, IsRank, storage_of}
-use Rattle.node_form.specs.Touch.{IsWritten, IsWrittenByMember}
-use Rattle.grid_meaning.specs.Stored.{no_places}
-use Rattle.code_parts.specs.Needs.{is_decided, is_within, leaves_passing}
-use Rattle.code_parts.specs.Stretch.{ends_stretch}
-use Rattle.flat_form.specs.Act.{act, controlled, flat_run}
-use Rattle.flat_form.specs.Row.{inlined}
-use Rattle.flat_form.specs.Whole.{Whole, registers_of, start_whole}
-use Rattle.flat_form.proofs.ChangeLemmas.{change_written}
+use Rattle.flat_passes.specs.of_zpl_arrays.Reference.{is_reference}
+use Rattle.flat_passes.proofs.of_zpl_arrays.CheckLemmas.{reference_of_none}
+use Rattle.flat_passes.specs.of_row_runs.Run.{Effect, Does, Goes, Stops, Wrong}
+use Rattle.flat_passes.specs.of_row_runs.Run.{runs}
+use Rattle.flat_passes.specs.of_row_runs.Segments.{Keeps}
+use Rattle.flat_passes.specs.of_row_runs.Straight.{Flow, Halts, IsStep, OnTo, Stepping, Tied, TiedHalt, TiedOn}
+use Rattle.flat_passes.specs.of_row_runs.Straight.{TiedWrong, flow_behind, flow_of, flow_step, through}
+use Rattle.flat_passes.specs.of_node_form.declared.arrays.ArrayRow.{ArrayRow}
+use Rattle.flat_passes.specs.of_node_form.declared.arrays.Item.{Item}
+use Rattle.flat_passes.specs.of_node_form.declared.instructions.Instr.{Instr}
+use Rattle.flat_passes.specs.of_node_form.declared.instructions.Instr.TheVariants as instr
+use Rattle.flat_passes.specs.of_node_form.declared.members.Member.{Member}
+use Rattle.flat_passes.specs.of_node_form.declared.members.Member.TheVariants as member
+use Rattle.flat_passes.specs.of_node_form.declared.tables.Tables.{Tables}
+use Rattle.flat_passes.specs.of_node_form.declared.touches.Thing.{Thing}
+use Rattle.flat_passes.specs.of_node_form.declared.touches.Thing.TheVariants as thing
+use Rattle.flat_passes.specs.of_node_form.Control as control
+use Rattle.flat_passes.specs.of_node_form.Fits.{Fits, FitsInstr, IsRank, storage_of}
+use Rattle.flat_passes.specs.of_node_form.Touch.{IsWritten, IsWrittenByMember}
+use Rattle.flat_passes.specs.of_grid_meaning.Stored.{no_places}
+use Rattle.flat_passes.specs.of_code_parts.Needs.{is_decided, is_within, leaves_passing}
+use Rattle.flat_passes.specs.of_code_parts.Stretch.{ends_stretch}
+use Rattle.flat_passes.specs.of_flat_form.Act.{act, controlled, flat_run}
+use Rattle.flat_passes.specs.of_flat_form.Row.{inlined}
+use Rattle.flat_passes.specs.of_flat_form.Whole.{Whole, registers_of, start_whole}
+use Rattle.flat_passes.proofs.of_flat_form.ChangeLemmas.{change_written}
 use Rattle.flat_passes.specs.Kept.{AreControlled, EndsAlike, KeepsFronts, goal_of}
 use Rattle.flat_passes.specs.Rewritten.{has_goal, rewritten_code, with_moved_goal}
 use Rattle.flat_passes.proofs.FlatRowLemmas.{does, ends_alike, steps_in, straight}

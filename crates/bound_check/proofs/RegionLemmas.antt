@@ -10,10 +10,10 @@ use Rattle.zpl_region.specs.declared.regions.Region.{Region}
 use Rattle.zpl_region.specs.Dim.{HasStep, IsDim, IsDimWithinLimit}
 use Rattle.zpl_region.specs.Region.{IsRegion, padding}
 use Rattle.zpl_region.proofs.RegionLemmas.{within_is_dim}
-use Rattle.node_form.specs.declared.arrays.ArrayDim.{ArrayDim}
-use Rattle.node_form.specs.declared.arrays.ArrayDim.TheVariants.{Range, Star}
-use Rattle.node_form.specs.declared.arrays.ArrayRow.{ArrayRow}
-use Rattle.node_form.specs.Fits.{FitsArray, FitsRegion, IsUnused, storage_dim, storage_of}
+use Rattle.flat_passes.specs.of_node_form.declared.arrays.ArrayDim.{ArrayDim}
+use Rattle.flat_passes.specs.of_node_form.declared.arrays.ArrayDim.TheVariants.{Range, Star}
+use Rattle.flat_passes.specs.of_node_form.declared.arrays.ArrayRow.{ArrayRow}
+use Rattle.flat_passes.specs.of_node_form.Fits.{FitsArray, FitsRegion, IsUnused, storage_dim, storage_of}
 
 pub region_fits : (region : Region) → FitsRegion region → IsRegion region
 region_fits region fits = record {

@@ -4,12 +4,12 @@ use Rattle.std.proofs.Common.{List, [], ◌∷◌, length, length-append}
 use Rattle.std.specs.Prelude.{cond, filter, count_by, Option, Some, None}
 use Rattle.std.specs.Option.{option_map}
 use Rattle.std.specs.List.{AllByRecursion}
-use Rattle.row_runs.specs.Cut.{Stretch, as_list, moved_by}
-use Rattle.row_runs.proofs.CutLemmas.{cut_rows}
-use Rattle.node_form.specs.declared.instructions.Instr.{Instr}
-use Rattle.node_form.specs.declared.tables.Tables.{Tables}
-use Rattle.code_parts.specs.Counts.{code_size, count_of}
-use Rattle.code_parts.specs.Stretch.{ends_stretch, is_goal}
+use Rattle.flat_passes.specs.of_row_runs.Cut.{Stretch, as_list, moved_by}
+use Rattle.flat_passes.proofs.of_row_runs.CutLemmas.{cut_rows}
+use Rattle.flat_passes.specs.of_node_form.declared.instructions.Instr.{Instr}
+use Rattle.flat_passes.specs.of_node_form.declared.tables.Tables.{Tables}
+use Rattle.flat_passes.specs.of_code_parts.Counts.{code_size, count_of}
+use Rattle.flat_passes.specs.of_code_parts.Stretch.{ends_stretch, is_goal}
 use Rattle.flat_passes.specs.Rewritten.{has_goal, stretches_of, with_moved_goal}
 use Rattle.flat_passes.proofs.StretchLemmas.{AsMuch, AtMost, IsCut, all_cut, as_much, at_most}
 use Rattle.flat_passes.proofs.StretchLemmas.{count_append, same_goals, straight_count}

@@ -6,14 +6,14 @@ use Rattle.std.specs.Option.{option_map}
 use Rattle.std.specs.List.{AllByRecursion, list_all}
 use Rattle.std.proofs.lemmas.List.Elements.{All-from_recursion}
 use Rattle.std.proofs.lemmas.List.Folds.{list_all-append}
-use Rattle.row_runs.specs.Segments.{news}
-use Rattle.row_runs.specs.Cut.{Stretch, all_rows, as_list, moved_by, segments_by}
-use Rattle.row_runs.proofs.CutLemmas.{cut_rows}
-use Rattle.node_form.specs.declared.instructions.Instr.{Instr}
-use Rattle.node_form.specs.declared.instructions.Instr.TheVariants as instr
-use Rattle.node_form.specs.declared.tables.Tables.{Tables}
-use Rattle.code_parts.specs.Needs.{IsUndecided, is_decided, leaves_passing}
-use Rattle.code_parts.specs.Stretch.{ends_stretch, is_goal}
+use Rattle.flat_passes.specs.of_row_runs.Segments.{news}
+use Rattle.flat_passes.specs.of_row_runs.Cut.{Stretch, all_rows, as_list, moved_by, segments_by}
+use Rattle.flat_passes.proofs.of_row_runs.CutLemmas.{cut_rows}
+use Rattle.flat_passes.specs.of_node_form.declared.instructions.Instr.{Instr}
+use Rattle.flat_passes.specs.of_node_form.declared.instructions.Instr.TheVariants as instr
+use Rattle.flat_passes.specs.of_node_form.declared.tables.Tables.{Tables}
+use Rattle.flat_passes.specs.of_code_parts.Needs.{IsUndecided, is_decided, leaves_passing}
+use Rattle.flat_passes.specs.of_code_parts.Stretch.{ends_stretch, is_goal}
 use Rattle.flat_passes.specs.Rewritten.{stretches_of, with_moved_goal}
 use Rattle.flat_passes.proofs.StretchLemmas.{HoldsOf, IsCut, all_cut, news_hold}
 use Rattle.bound_check.specs.Checked.{checked, stays}

@@ -13,13 +13,13 @@ use Rattle.std.proofs.lemmas.List.{length-set, map-set, set_past}
 use Rattle.std.proofs.lemmas.List.Elements.{All-from_recursion, recursion_from_All}
 use Rattle.std.proofs.lemmas.List.Folds.{list_all-append}
 use Rattle.zpl_region.specs.declared.regions.Region.{Region}
-use Rattle.node_form.specs.declared.arrays.ArrayRow.{ArrayRow}
-use Rattle.node_form.specs.declared.instructions.Instr.{Instr}
-use Rattle.node_form.specs.declared.instructions.Instr.TheVariants as instr
-use Rattle.node_form.specs.declared.tables.Tables.{Tables}
-use Rattle.node_form.specs.Fits.{FitsInstr, FitsRegion}
-use Rattle.code_parts.specs.Needs.{is_decided, is_within, leaves_passing, passes}
-use Rattle.code_parts.specs.Stretch.{ends_stretch}
+use Rattle.flat_passes.specs.of_node_form.declared.arrays.ArrayRow.{ArrayRow}
+use Rattle.flat_passes.specs.of_node_form.declared.instructions.Instr.{Instr}
+use Rattle.flat_passes.specs.of_node_form.declared.instructions.Instr.TheVariants as instr
+use Rattle.flat_passes.specs.of_node_form.declared.tables.Tables.{Tables}
+use Rattle.flat_passes.specs.of_node_form.Fits.{FitsInstr, FitsRegion}
+use Rattle.flat_passes.specs.of_code_parts.Needs.{is_decided, is_within, leaves_passing, passes}
+use Rattle.flat_passes.specs.of_code_parts.Stretch.{ends_stretch}
 use Rattle.flat_passes.specs.Rewritten.{with_moved_goal}
 use Rattle.flat_passes.proofs.DraftLemmas.{rest_at}
 use Rattle.flat_passes.proofs.StretchLemmas.{every_append}

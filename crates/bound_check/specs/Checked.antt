@@ -1,8 +1,8 @@
 -- Checks of places that always pass are left out.
 use Rattle.std.specs.Prelude.{Bool, not, filter, if◌then◌else◌, List, [], ◌∷◌}
-use Rattle.node_form.specs.declared.instructions.Instr.{Instr}
-use Rattle.node_form.specs.declared.tables.Tables.{Tables}
-use Rattle.code_parts.specs.Needs.{is_decided}
+use Rattle.flat_passes.specs.of_node_form.declared.instructions.Instr.{Instr}
+use Rattle.flat_passes.specs.of_node_form.declared.tables.Tables.{Tables}
+use Rattle.flat_passes.specs.of_code_parts.Needs.{is_decided}
 use Rattle.flat_passes.specs.Rewritten.{rewritten_code}
 
 -- A row stays unless it is a `need` whose slot is written by `fix` rows alone, and which passes for

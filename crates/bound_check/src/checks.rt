@@ -2,16 +2,16 @@
 ghost use Rattle.std.specs.Prelude.{◌≡◌, ◌++◌, All, IfOk, OnOk, Some, length, true};
 ghost use Rattle.std.specs.Option.{IfSome};
 ghost use Rattle.std.specs.List.{list_all};
-ghost use Rattle.node_form.specs.Fits.{Fits, FitsArray, FitsInstr, FitsRegion, storage_of};
-ghost use Rattle.code_parts.specs.Needs.{is_decided, is_within};
+ghost use Rattle.flat_passes.specs.of_node_form.Fits.{Fits, FitsArray, FitsInstr, FitsRegion, storage_of};
+ghost use Rattle.flat_passes.specs.of_code_parts.Needs.{is_decided, is_within};
 ghost use Rattle.bound_check.specs.Checked.{checked, rows_stayed};
 ghost use Rattle.bound_check.specs.Writes.{all_noted, passes_within};
 
 use crate::writes::Writes;
 use flat_passes::NewNumbers;
-use node_form::{ArrayRow, Code, Instr, Rows, Tables, storage_dim};
+use flat_passes::node_form::{ArrayRow, Code, Instr, Rows, Tables, storage_dim};
+use flat_passes::zpl_arrays::is_reference;
 use std::alloc::{AllocError, Global};
-use zpl_arrays::is_reference;
 use zpl_region::{Region, Vec3};
 
 /// The tables without checks of places that always pass: those of slots that `fix` rows alone

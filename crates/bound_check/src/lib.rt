@@ -5,12 +5,12 @@ mod checks;
 mod writes;
 
 ghost use Rattle.std.specs.Prelude.{◌≡◌, ℕ, ◌≤◌};
-ghost use Rattle.node_form.specs.declared.tables.Tables.{Tables as Code};
-ghost use Rattle.code_parts.specs.Counts.{code_size, count_of};
-ghost use Rattle.code_parts.specs.Needs.{IsUndecided};
-ghost use Rattle.node_form.specs.Fits.{Fits};
-ghost use Rattle.row_runs.specs.Segments.{Keeps};
-ghost use Rattle.flat_form.specs.Act.{flat_run};
+ghost use Rattle.flat_passes.specs.of_node_form.declared.tables.Tables.{Tables as Code};
+ghost use Rattle.flat_passes.specs.of_code_parts.Counts.{code_size, count_of};
+ghost use Rattle.flat_passes.specs.of_code_parts.Needs.{IsUndecided};
+ghost use Rattle.flat_passes.specs.of_node_form.Fits.{Fits};
+ghost use Rattle.flat_passes.specs.of_row_runs.Segments.{Keeps};
+ghost use Rattle.flat_passes.specs.of_flat_form.Act.{flat_run};
 ghost use Rattle.flat_passes.specs.Rewritten.{has_goal};
 ghost use Rattle.bound_check.specs.Checked.{checked};
 

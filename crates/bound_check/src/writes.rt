@@ -3,7 +3,7 @@ ghost use Rattle.std.specs.Prelude.{◌≡◌, ◌<◌, [], IfOk, OnOk, length, 
 ghost use Rattle.std.specs.Prelude.{slice_index_or};
 ghost use Rattle.bound_check.specs.Writes.{all_noted, noted, with_write, write_of};
 
-use node_form::{Instr, Tables};
+use flat_passes::node_form::{Instr, Tables};
 use std::alloc::{AllocError, Global};
 use std::marker::Model;
 use zpl_region::Region;

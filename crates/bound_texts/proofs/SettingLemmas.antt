@@ -4,7 +4,7 @@ use Rattle.std.proofs.Common.{Result, Ok, Err, OnOk, refl, sym, ◌∙◌, ap}
 use Rattle.std.proofs.lemmas.List.{append-nil}
 use Rattle.zpl_binding.specs.Settings.{Setting}
 use Rattle.zpl_bind.specs.Lists.{settings_of}
-use Rattle.call_claims.specs.Setting.{one_or_none, setting_in, settings_among}
+use Rattle.call_words.specs.of_call_claims.Setting.{one_or_none, setting_in, settings_among}
 use Rattle.call_words.proofs.AskedLemmas.{settings_more}
 
 -- a pair more

@@ -22,10 +22,10 @@ use Rattle.rank_types.specs.Faults.{Holds}
 use Rattle.zpl_bind.specs.declared.faults.BindFault.{BindFault as TheBindFault}
 use Rattle.zpl_bind.specs.declared.faults.BindFault.TheVariants as bind
 use Rattle.zpl_bound.specs.Faults.{Holds as HoldsBound}
-use Rattle.call_claims.specs.Refusal.{IsFault, placed_text}
-use Rattle.call_claims.specs.Refusal.IsFault.{lexical, syntax, too_deep, judged}
-use Rattle.call_claims.specs.Texts.{bind_name, judged_name, settings_text}
-use Rattle.call_claims.specs.Accepted.{IsAccepted, IsFaulty}
+use Rattle.call_words.specs.of_call_claims.Refusal.{IsFault, placed_text}
+use Rattle.call_words.specs.of_call_claims.Refusal.IsFault.{lexical, syntax, too_deep, judged}
+use Rattle.call_words.specs.of_call_claims.Texts.{bind_name, judged_name, settings_text}
+use Rattle.call_words.specs.of_call_claims.Accepted.{IsAccepted, IsFaulty}
 use Rattle.mean_claims.specs.Text.{IsUnboundWith}
 use Rattle.call_answers.specs.Refusals.{of_lex, of_parse, of_judge, of_bind}
 use Rattle.call_answers.specs.declared.refusals.Refusal.{Refusal}

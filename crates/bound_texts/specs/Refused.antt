@@ -6,9 +6,9 @@ use Rattle.zpl_tree.specs.Syntax.{Program}
 use Rattle.zpl_grammar.specs.Texts.{IsShallowTree}
 use Rattle.zpl_binding.specs.Outcome.{BindFault}
 use Rattle.zpl_binding.specs.Settings.{Setting}
-use Rattle.call_claims.specs.Refusal.{IsFault}
-use Rattle.call_claims.specs.Texts.{bind_name, settings_text}
-use Rattle.call_claims.specs.Accepted.{IsFaulty}
+use Rattle.call_words.specs.of_call_claims.Refusal.{IsFault}
+use Rattle.call_words.specs.of_call_claims.Texts.{bind_name, settings_text}
+use Rattle.call_words.specs.of_call_claims.Accepted.{IsFaulty}
 use Rattle.mean_claims.specs.Text.{IsUnboundWith}
 use Rattle.call_answers.specs.declared.refusals.Refusal.{Refusal}
 use Rattle.call_answers.specs.declared.refusals.Refusal.TheVariants.{Lex, Parse, Judge, Bind}

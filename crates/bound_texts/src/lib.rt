@@ -5,5 +5,7 @@
 mod settings;
 mod texts;
 
+pub use call_answers;
+pub use mean_claims;
 pub use settings::settings_of;
 pub use texts::{Accepted, accepted_text, accepted_tree, tokens_of, tree_of};

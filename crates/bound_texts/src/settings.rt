@@ -1,7 +1,7 @@
 //! The settings among words, as binding takes them.
 ghost use Rattle.std.specs.Prelude.{◌≡◌, ◌++◌, IfOk, OnOk, map, string_bytes};
 ghost use Rattle.zpl_bind.specs.Lists.{settings_of};
-ghost use Rattle.call_claims.specs.Setting.{one_or_none, setting_in, settings_among};
+ghost use Rattle.call_words.specs.of_call_claims.Setting.{one_or_none, setting_in, settings_among};
 
 use call_words::setting_in;
 use std::alloc::{AllocError, Global};

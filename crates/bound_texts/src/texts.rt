@@ -7,8 +7,8 @@ ghost use Rattle.zpl_text.specs.declared.TheConstants.{MOST_SOURCE};
 ghost use Rattle.zpl_tree.specs.View.{syntax_of};
 ghost use Rattle.zpl_grammar.specs.Texts.{IsShallowTree};
 ghost use Rattle.zpl_bind.specs.Bound.{IsBoundBy};
-ghost use Rattle.call_claims.specs.Setting.{settings_among};
-ghost use Rattle.call_claims.specs.Accepted.{IsAccepted};
+ghost use Rattle.call_words.specs.of_call_claims.Setting.{settings_among};
+ghost use Rattle.call_words.specs.of_call_claims.Accepted.{IsAccepted};
 ghost use Rattle.bound_texts.specs.Accepted.{Carries, program_of};
 ghost use Rattle.bound_texts.specs.Refused.{IsOnlyTree, IsRefused, IsRejected, IsUnread};
 

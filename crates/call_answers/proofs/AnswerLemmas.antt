@@ -1,8 +1,8 @@
 -- Answers by their statuses.
 use Rattle.std.proofs.Common.{◌≡◌, ◌≢◌, ℕ, ◌⊎◌, refl, sym, ◌∙◌, ap, inl, inr, arith}
-use Rattle.call_claims.specs.Decided.{IsDecided}
-use Rattle.call_claims.specs.declared.status.TheConstants.{PUT_FAILED, REFUSED, UNBOUND}
-use Rattle.call_claims.specs.declared.status.TheConstants.{USAGE}
+use Rattle.exec_claims.specs.of_call_claims.Decided.{IsDecided}
+use Rattle.exec_claims.specs.of_call_claims.declared.status.TheConstants.{PUT_FAILED, REFUSED, UNBOUND}
+use Rattle.exec_claims.specs.of_call_claims.declared.status.TheConstants.{USAGE}
 use Rattle.call_answers.specs.Answers.{status_of, stop_status}
 use Rattle.call_answers.specs.declared.answers.Answer.{Answer}
 use Rattle.call_answers.specs.declared.answers.Answer.TheVariants as answer

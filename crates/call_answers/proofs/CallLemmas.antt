@@ -4,11 +4,11 @@ use Rattle.std.proofs.Common.{◌≡◌, ◌≢◌, ℕ, ◌⊎◌, List, None, 
 use Rattle.std.proofs.Common.{inl, inr, arith}
 use Rattle.zpl_io.specs.Faults.{CountsFaults, Rose}
 use Rattle.zpl_io.specs.Sink.{StopsAtFault}
-use Rattle.call_claims.specs.Answer.{CountsFetches, CountsPuts, IsAnswered, IsHalfAnswered}
-use Rattle.call_claims.specs.Decided.{IsDecided}
-use Rattle.call_claims.specs.Stream.{Stream}
-use Rattle.call_claims.specs.Texts.{no_memory_text}
-use Rattle.call_claims.specs.declared.status.TheConstants.{NO_MEMORY, PUT_FAILED, UNREADABLE, USAGE}
+use Rattle.exec_claims.specs.of_call_claims.Answer.{CountsFetches, CountsPuts, IsAnswered, IsHalfAnswered}
+use Rattle.exec_claims.specs.of_call_claims.Decided.{IsDecided}
+use Rattle.exec_claims.specs.of_call_claims.Stream.{Stream}
+use Rattle.exec_claims.specs.of_call_claims.Texts.{no_memory_text}
+use Rattle.exec_claims.specs.of_call_claims.declared.status.TheConstants.{NO_MEMORY, PUT_FAILED, UNREADABLE, USAGE}
 use Rattle.call_answers.specs.Answers.{status_of, told_of}
 use Rattle.call_answers.specs.Stops.{CallStopsAtFault}
 use Rattle.call_answers.specs.Told.{IsAnswerOf, IsHalfTold}

@@ -3,8 +3,8 @@ use Rattle.std.proofs.Common.{◌≡◌, ◌≢◌, ℕ, ◌≤◌, List, [], �
 use Rattle.std.proofs.Common.{refl, sym, ◌∙◌, subst, arith}
 use Rattle.zpl_io.specs.Faults.{CountsFaults}
 use Rattle.zpl_io.specs.Files.{GainsWhole, GainsTooMuch}
-use Rattle.call_claims.specs.Decided.{IsDecided}
-use Rattle.call_claims.specs.declared.status.TheConstants.{UNREADABLE}
+use Rattle.exec_claims.specs.of_call_claims.Decided.{IsDecided}
+use Rattle.exec_claims.specs.of_call_claims.declared.status.TheConstants.{UNREADABLE}
 use Rattle.call_answers.specs.Fetched.{IsLongText, IsWholeText}
 
 pub whole_of : (Tells : List ℕ → Type 0) (limit : ℕ) (old new : List ℕ) → old ≡ []

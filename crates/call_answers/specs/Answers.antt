@@ -11,11 +11,11 @@ use Rattle.zpl_bind.specs.Fault.{fault_name}
 use Rattle.grid_sim.specs.declared.counts.Counts.{Counts}
 use Rattle.grid_sim.specs.StuckKind.{StuckKind}
 use Rattle.grid_sim.specs.StuckKind.TheVariants as kind
-use Rattle.call_claims.specs.Texts.{usage_text, unreadable_text, too_long_text, trap_text}
-use Rattle.call_claims.specs.Texts.{settings_text, turn_limit_text, no_memory_text}
-use Rattle.call_claims.specs.declared.status.TheConstants.{DONE, USAGE, UNREADABLE, TOO_LONG}
-use Rattle.call_claims.specs.declared.status.TheConstants.{REFUSED, UNBOUND, TRAPPED, TURN_LIMIT}
-use Rattle.call_claims.specs.declared.status.TheConstants.{PUT_FAILED, NO_MEMORY}
+use Rattle.exec_claims.specs.of_call_claims.Texts.{usage_text, unreadable_text, too_long_text, trap_text}
+use Rattle.exec_claims.specs.of_call_claims.Texts.{settings_text, turn_limit_text, no_memory_text}
+use Rattle.exec_claims.specs.of_call_claims.declared.status.TheConstants.{DONE, USAGE, UNREADABLE, TOO_LONG}
+use Rattle.exec_claims.specs.of_call_claims.declared.status.TheConstants.{REFUSED, UNBOUND, TRAPPED, TURN_LIMIT}
+use Rattle.exec_claims.specs.of_call_claims.declared.status.TheConstants.{PUT_FAILED, NO_MEMORY}
 use Rattle.exec_claims.specs.Texts.{order_refused_text, listing_refused_text, report_text, stuck_text}
 use Rattle.exec_claims.specs.Texts.{too_many_moves_text}
 use Rattle.exec_claims.specs.declared.status.TheConstants.{ORDER_REFUSED, LISTING_REFUSED, STUCK}

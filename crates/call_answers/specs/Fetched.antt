@@ -1,6 +1,6 @@
 -- What comes of the fetch of a file.
 use Rattle.std.specs.Prelude.{◌≡◌, ℕ, ◌<◌, ◌≤◌, List, length, Result, Ok, Err, ⊤}
-use Rattle.call_claims.specs.declared.status.TheConstants.{UNREADABLE}
+use Rattle.exec_claims.specs.of_call_claims.declared.status.TheConstants.{UNREADABLE}
 use Rattle.call_answers.specs.Answers.{status_of}
 use Rattle.call_answers.specs.declared.answers.Answer.{Answer}
 use Rattle.call_answers.specs.declared.answers.Answer.TheVariants as answer

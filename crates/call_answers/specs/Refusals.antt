@@ -13,9 +13,9 @@ use Rattle.rank_types.specs.Faults.{judge_name, judge_offset}
 use Rattle.zpl_bind.specs.declared.faults.BindFault.{BindFault}
 use Rattle.zpl_bind.specs.declared.faults.BindFault.TheVariants as bind
 use Rattle.zpl_bind.specs.Fault.{fault_name}
-use Rattle.call_claims.specs.Texts.{bad_shape_text, fault_text, settings_text, too_deep_text}
-use Rattle.call_claims.specs.Texts.{too_much_storage_text, whole_text}
-use Rattle.call_claims.specs.declared.status.TheConstants.{REFUSED, UNBOUND}
+use Rattle.exec_claims.specs.of_call_claims.Texts.{bad_shape_text, fault_text, settings_text, too_deep_text}
+use Rattle.exec_claims.specs.of_call_claims.Texts.{too_much_storage_text, whole_text}
+use Rattle.exec_claims.specs.of_call_claims.declared.status.TheConstants.{REFUSED, UNBOUND}
 use Rattle.call_answers.specs.declared.refusals.BuildFault.{BuildFault}
 use Rattle.call_answers.specs.declared.refusals.BuildFault.TheVariants as build
 use Rattle.call_answers.specs.declared.refusals.Refusal.{Refusal}

@@ -1,6 +1,6 @@
 -- How a call leaves the sinks that it puts on.
 use Rattle.std.specs.Prelude.{◌≡◌, ◌≢◌, ◌⊎◌, ℕ}
-use Rattle.call_claims.specs.declared.status.TheConstants.{PUT_FAILED}
+use Rattle.exec_claims.specs.of_call_claims.declared.status.TheConstants.{PUT_FAILED}
 
 -- Of out and of errs, `before` and `after` say that the last put failed, and `same` says that errs
 -- is as it was. With the status of a failed put, a put of one of them failed and was its last one:

@@ -2,7 +2,7 @@
 use Rattle.std.specs.Prelude.{◌≡◌, ◌≢◌, ℕ, ◌⊎◌, List, None}
 use Rattle.zpl_io.specs.Faults.{Rose}
 use Rattle.zpl_io.specs.Sink.{Takes, TakesFront}
-use Rattle.call_claims.specs.Stream.{Stream}
+use Rattle.exec_claims.specs.of_call_claims.Stream.{Stream}
 use Rattle.call_answers.specs.Answers.{status_of, told_of, NeedsNoMemory}
 use Rattle.call_answers.specs.declared.answers.Answer.{Answer}
 use Rattle.call_answers.specs.declared.answers.Answer.TheVariants as answer

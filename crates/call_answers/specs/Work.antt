@@ -1,8 +1,8 @@
 -- What comes of the work of a call.
 use Rattle.std.specs.Prelude.{ℕ}
 use Rattle.grid_sim.specs.declared.counts.Counts.{Counts}
-use Rattle.call_claims.specs.declared.ran.Ran.{Ran}
-use Rattle.call_claims.specs.Execution.{Execution}
+use Rattle.exec_claims.specs.of_call_claims.declared.ran.Ran.{Ran}
+use Rattle.exec_claims.specs.of_call_claims.Execution.{Execution}
 use Rattle.call_answers.specs.declared.work.Work.{Work}
 
 abbrev pub no_counts : Counts

@@ -10,7 +10,10 @@ mod telling;
 mod work;
 
 pub use answers::{Answer, Stop};
+pub use exec_claims;
 pub use fetches::text_of_file;
+pub use grid_sim;
+pub use grid_sim::row_turn;
 pub use refusals::{BuildFault, Refusal};
 pub use telling::told;
 pub use work::{Work, answered};

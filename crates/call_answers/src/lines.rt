@@ -1,8 +1,8 @@
 //! The lines that are told of answers.
 ghost use Rattle.std.specs.Prelude.{◌≡◌, ◌++◌, codes, IfOk, OnOk};
 ghost use Rattle.std.specs.Fmt.{decimal};
-ghost use Rattle.call_claims.specs.Texts.{fault_text, settings_text, trap_name, trap_text};
-ghost use Rattle.call_claims.specs.Texts.{whole_text};
+ghost use Rattle.exec_claims.specs.of_call_claims.Texts.{fault_text, settings_text, trap_name, trap_text};
+ghost use Rattle.exec_claims.specs.of_call_claims.Texts.{whole_text};
 ghost use Rattle.exec_claims.specs.Texts.{listing_refused_text, order_refused_text};
 ghost use Rattle.exec_claims.specs.Texts.{report_text, stuck_text};
 ghost use Rattle.call_answers.specs.Answers.{kind_text};

@@ -2,7 +2,7 @@
 ghost use Rattle.std.specs.Prelude.{◌≡◌, ◌≢◌, ◌⊎◌, ◌++◌, [], IfOk, IsErr, IsOk, None, OnErr, OnOk};
 ghost use Rattle.zpl_io.specs.Faults.{CountsFaults};
 ghost use Rattle.zpl_io.specs.Sink.{StopsAtFault, Takes, TakesFront};
-ghost use Rattle.call_claims.specs.Stream.{stream_of};
+ghost use Rattle.exec_claims.specs.of_call_claims.Stream.{stream_of};
 ghost use Rattle.call_answers.specs.Answers.{bytes_of, counts_text, report_of, stop_text, text_of};
 ghost use Rattle.call_answers.specs.Answers.{told_of, NeedsNoMemory, StopNeedsNoMemory};
 ghost use Rattle.call_answers.specs.Refusals.{build_text, refusal_text};

@@ -1,9 +1,9 @@
 //! What comes of the work of a call, and what the call answers.
 ghost use Rattle.std.specs.Prelude.{◌≡◌, ◌≢◌};
 ghost use Rattle.zpl_io.specs.Sink.{StopsAtFault};
-ghost use Rattle.call_claims.specs.Answer.{CountsPuts};
-ghost use Rattle.call_claims.specs.Stream.{stream_of};
-ghost use Rattle.call_claims.specs.declared.status.TheConstants.{PUT_FAILED};
+ghost use Rattle.exec_claims.specs.of_call_claims.Answer.{CountsPuts};
+ghost use Rattle.exec_claims.specs.of_call_claims.Stream.{stream_of};
+ghost use Rattle.exec_claims.specs.of_call_claims.declared.status.TheConstants.{PUT_FAILED};
 ghost use Rattle.call_answers.specs.Work.{no_counts, ran_of};
 ghost use Rattle.call_answers.specs.Told.{IsAnswerOf};
 

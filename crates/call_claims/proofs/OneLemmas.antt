@@ -8,7 +8,7 @@ use Rattle.std.specs.Char.{is_ascii_digit}
 use Rattle.std.specs.Str.Parse.{digits_value}
 use Rattle.zpl_text.specs.Bytes.{is_word_start, is_word_byte}
 use Rattle.zpl_text.specs.Kinds.{IsWord as IsWordText}
-use Rattle.zpl_binding.specs.Settings.{Setting}
+use Rattle.zpl_claims.specs.of_zpl_binding.Settings.{Setting}
 use Rattle.call_claims.specs.Words.{AreFactors, IsFactor, IsNumber, IsTurnsWord, IsSettingWord, IsWord, Word, Order}
 use Rattle.call_claims.specs.Words.AreFactors.{last_factor, one_factor}
 use Rattle.call_claims.specs.Words.{AreLetters, Turns, Report, Links, Latency, Grid, Letters, Sets, grid_of, with_letters}

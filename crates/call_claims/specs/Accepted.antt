@@ -2,11 +2,11 @@
 use Rattle.std.specs.Prelude.{ℕ, List}
 use Rattle.zpl_text.specs.declared.tokens.Token.{Token}
 use Rattle.zpl_text.specs.Tokens.{IsTokens}
-use Rattle.zpl_tree.specs.Syntax.{Program}
+use Rattle.zpl_grammar.specs.of_zpl_tree.Syntax.{Program}
 use Rattle.zpl_grammar.specs.Texts.{IsShallowTree}
-use Rattle.zpl_names.specs.Accepted.{IsFaultless}
-use Rattle.zpl_binding.specs.Bound.{IsAcceptedWith}
-use Rattle.zpl_binding.specs.Settings.{Setting}
+use Rattle.zpl_claims.specs.of_zpl_names.Accepted.{IsFaultless}
+use Rattle.zpl_claims.specs.of_zpl_binding.Bound.{IsAcceptedWith}
+use Rattle.zpl_claims.specs.of_zpl_binding.Settings.{Setting}
 
 -- The text's tree, which isn't too deep and has no fault of names, ranks and types.
 pub record IsAccepted (text : List ℕ) (program : Program) : Type 0 where

@@ -7,7 +7,7 @@
 --   Asks                   what holds of the file of a command and of what is asked for
 use Rattle.std.specs.Prelude.{◌≡◌, ℕ, Bool, true, false, List, [], ◌∷◌, ◌++◌, codes, Option, Some, None}
 use Rattle.std.specs.Option.{option_map}
-use Rattle.zpl_binding.specs.Settings.{Setting}
+use Rattle.zpl_claims.specs.of_zpl_binding.Settings.{Setting}
 use Rattle.zpl_claims.specs.Build.{Build, no_options, one_processor}
 use Rattle.zpl_claims.specs.declared.options.Options.{Options}
 use Rattle.call_claims.specs.Words.{Word, Order, Turns, Report, Links, Latency, Grid, Letters, Sets}

@@ -1,6 +1,6 @@
 -- What was made and run in a call.
 use Rattle.std.specs.Prelude.{◌≡◌, ℕ, Option, Some, None}
-use Rattle.node_form.specs.declared.tables.Tables.{Tables}
+use Rattle.zpl_claims.specs.of_node_form.declared.tables.Tables.{Tables}
 use Rattle.call_claims.specs.declared.ran.Ran.{Ran}
 
 -- the code that was made, where some was, and how many turns it was given

@@ -1,6 +1,6 @@
 -- What words ask for can be met.
 use Rattle.std.specs.Prelude.{◌≤◌}
-use Rattle.grid_meaning.specs.Grid.{IsCapacity}
+use Rattle.zpl_claims.specs.of_grid_meaning.Grid.{IsCapacity}
 use Rattle.call_claims.specs.Command.{Asked, latency_of, limit_of}
 use Rattle.call_claims.specs.declared.limits.TheConstants.{MOST_LATENCY, MOST_TURNS}
 

@@ -5,9 +5,9 @@ use Rattle.zpl_text.specs.declared.tokens.Token.{Token}
 use Rattle.zpl_text.specs.Faults.{lexical_name, lexical_offset}
 use Rattle.zpl_text.specs.Lines.{line_at}
 use Rattle.zpl_text.specs.Tokens.{IsTokens, HasFault}
-use Rattle.zpl_tree.specs.Syntax.{Program}
+use Rattle.zpl_grammar.specs.of_zpl_tree.Syntax.{Program}
 use Rattle.zpl_grammar.specs.Texts.{IsShallowTree, IsSyntaxFault, IsTooDeep}
-use Rattle.zpl_names.specs.Accepted.{FaultKind, HasFault as HasJudgeFault}
+use Rattle.zpl_claims.specs.of_zpl_names.Accepted.{FaultKind, HasFault as HasJudgeFault}
 use Rattle.call_claims.specs.Texts.{fault_text, judged_name, too_deep_text}
 
 -- a fault of the text, told by its name and its place

@@ -2,7 +2,7 @@
 use Rattle.std.specs.Prelude.{ℕ, nat_eq, if◌then◌else◌, List, [], ◌∷◌, codes, take, drop, flat_map, Option, Some, None}
 use Rattle.std.specs.List.{prefix_len, starts_with}
 use Rattle.zpl_text.specs.Bytes.{is_word_byte}
-use Rattle.zpl_binding.specs.Settings.{Setting}
+use Rattle.zpl_claims.specs.of_zpl_binding.Settings.{Setting}
 
 -- what stands before `:=` and behind it, where the rest begins so
 abbrev pub set_by : List ℕ → List ℕ → Option Setting

@@ -4,10 +4,10 @@ use Rattle.std.specs.Fmt.{decimal}
 use Rattle.zpl_nums.specs.declared.ends.TrapKind.{TrapKind}
 use Rattle.zpl_nums.specs.declared.ends.TrapKind.TheVariants.{DivideByZero, OutsideStorage}
 use Rattle.zpl_nums.specs.declared.ends.TrapKind.TheVariants.{RegionLimit, RegionMismatch}
-use Rattle.zpl_names.specs.Accepted.{FaultKind}
-use Rattle.zpl_names.specs.Accepted as judged
-use Rattle.zpl_binding.specs.Outcome.{BindFault}
-use Rattle.zpl_binding.specs.Outcome as bound
+use Rattle.zpl_claims.specs.of_zpl_names.Accepted.{FaultKind}
+use Rattle.zpl_claims.specs.of_zpl_names.Accepted as judged
+use Rattle.zpl_claims.specs.of_zpl_binding.Outcome.{BindFault}
+use Rattle.zpl_claims.specs.of_zpl_binding.Outcome as bound
 
 abbrev pub usage_text : List ℕ
 usage_text = codes "usage: zplgrid run|mean|list|exec|gen WORD [words]\n"

@@ -7,7 +7,7 @@ use Rattle.std.specs.Char.{is_ascii_digit}
 use Rattle.std.specs.Str.Parse.{digits_value}
 use Rattle.zpl_tokens.specs.declared.Kind.TheVariants.{Name}
 use Rattle.zpl_text.specs.Kinds.{IsToken}
-use Rattle.zpl_binding.specs.Settings.{Setting}
+use Rattle.zpl_claims.specs.of_zpl_binding.Settings.{Setting}
 use Rattle.zpl_claims.specs.Build.{no_options}
 use Rattle.zpl_claims.specs.declared.options.Options.{Options}
 use Rattle.call_claims.specs.declared.limits.TheConstants.{MOST_DIGITS, MOST_LATENCY, MOST_LINKS, MOST_TURNS}

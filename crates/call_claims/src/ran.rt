@@ -1,5 +1,5 @@
 //! What comes of a call.
-use node_form::NodeProgram;
+use zpl_claims::node_form::NodeProgram;
 
 /// What came of a call.
 #[derive(Drop)]

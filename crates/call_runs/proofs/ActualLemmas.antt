@@ -14,16 +14,16 @@ use Rattle.zpl_meaning.specs.Calls as mean_calls
 use Rattle.zpl_meaning.specs.Calls.{Handed, actual_thing, copied_array, handed_on}
 use Rattle.row_runs.specs.Straight.{Every}
 use Rattle.flat_form.specs.Whole.{Whole}
-use Rattle.zpl_lowering.specs.Where.{Stored, Where, Next}
-use Rattle.zpl_lowering.specs.Statement as low
-use Rattle.zpl_lowering.specs.Statement.{Given}
-use Rattle.lowering_runs.specs.Seen.{Spot, Sight, array_in, numbered, scalar_in, seen_place, seen_store, seen_thing}
-use Rattle.lowering_runs.specs.Stands.{IsKnown, Stands}
-use Rattle.lowering_runs.specs.Frames.{seen_given}
-use Rattle.lowering_runs.proofs.CallLemmas.{actual_known, actual_seen, referred_is}
-use Rattle.lowering_runs.specs.Values.{Hold, nodes_of}
-use Rattle.lowering_runs.proofs.ValueLemmas.{known_thing}
-use Rattle.array_runs.proofs.StoredLemmas.{seen_at}
+use Rattle.prefix_runs.specs.of_zpl_lowering.Where.{Stored, Where, Next}
+use Rattle.prefix_runs.specs.of_zpl_lowering.Statement as low
+use Rattle.prefix_runs.specs.of_zpl_lowering.Statement.{Given}
+use Rattle.prefix_runs.specs.of_lowering_runs.Seen.{Spot, Sight, array_in, numbered, scalar_in, seen_place, seen_store, seen_thing}
+use Rattle.prefix_runs.specs.of_lowering_runs.Stands.{IsKnown, Stands}
+use Rattle.prefix_runs.specs.of_lowering_runs.Frames.{seen_given}
+use Rattle.prefix_runs.proofs.of_lowering_runs.CallLemmas.{actual_known, actual_seen, referred_is}
+use Rattle.prefix_runs.specs.of_lowering_runs.Values.{Hold, nodes_of}
+use Rattle.prefix_runs.proofs.of_lowering_runs.ValueLemmas.{known_thing}
+use Rattle.prefix_runs.proofs.of_array_runs.StoredLemmas.{seen_at}
 use Rattle.call_runs.specs.Taken.{AllGiven, AreCallActuals, IsArrayThing}
 
 -- ---- arrays that are there

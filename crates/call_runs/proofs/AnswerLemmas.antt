@@ -27,27 +27,27 @@ use Rattle.node_form.specs.declared.tables.Tables.{Tables}
 use Rattle.row_runs.specs.Structured as code
 use Rattle.row_runs.specs.Structured.{Course, GoesOn}
 use Rattle.flat_form.specs.Whole.{Whole}
-use Rattle.zpl_lowering.specs.Where.{Stored, Where, Next, line_of}
-use Rattle.zpl_lowering.specs.Lowered.{Lowered, behind, joined, phased}
-use Rattle.zpl_lowering.specs.Slate as low_slate
-use Rattle.zpl_lowering.specs.Statement as low
-use Rattle.zpl_lowering.specs.Statement.{Given}
-use Rattle.lowering_runs.specs.Seen.{Spot, Sight, Answer, array_in, numbered, place_of, seen_place, seen_spot, seen_store, seen_thing}
-use Rattle.lowering_runs.specs.Run.{does}
-use Rattle.lowering_runs.specs.Agrees.{Agrees, Going, Trapping, Shattering, Wanting}
-use Rattle.lowering_runs.specs.Stands.{HasRoom, IsLike, Stands}
-use Rattle.lowering_runs.specs.Goes.{World, Goes, ValuesGo, lowering}
-use Rattle.lowering_runs.specs.Values.{AreSet, nodes_of}
-use Rattle.lowering_runs.specs.Frames.{seen_given}
-use Rattle.lowering_runs.specs.Called.{calling_at}
-use Rattle.lowering_runs.proofs.CallLemmas.{value_meant}
-use Rattle.lowering_runs.proofs.FitLemmas.{room_coded, room_first, room_here, room_rest}
-use Rattle.lowering_runs.proofs.FrameLemmas.{cut_seen, map_append}
-use Rattle.lowering_runs.proofs.HeadLemmas.{phased_length, with_computed_value}
-use Rattle.lowering_runs.proofs.ListLemmas.{filled_agrees, meant_length}
-use Rattle.lowering_runs.proofs.NumberLemmas.{get_some, number_below}
-use Rattle.lowering_runs.proofs.RowLemmas.{like_variable, set}
-use Rattle.lowering_runs.proofs.ValueLemmas.{known_thing, thing_seen}
+use Rattle.prefix_runs.specs.of_zpl_lowering.Where.{Stored, Where, Next, line_of}
+use Rattle.prefix_runs.specs.of_zpl_lowering.Lowered.{Lowered, behind, joined, phased}
+use Rattle.prefix_runs.specs.of_zpl_lowering.Slate as low_slate
+use Rattle.prefix_runs.specs.of_zpl_lowering.Statement as low
+use Rattle.prefix_runs.specs.of_zpl_lowering.Statement.{Given}
+use Rattle.prefix_runs.specs.of_lowering_runs.Seen.{Spot, Sight, Answer, array_in, numbered, place_of, seen_place, seen_spot, seen_store, seen_thing}
+use Rattle.prefix_runs.specs.of_lowering_runs.Run.{does}
+use Rattle.prefix_runs.specs.of_lowering_runs.Agrees.{Agrees, Going, Trapping, Shattering, Wanting}
+use Rattle.prefix_runs.specs.of_lowering_runs.Stands.{HasRoom, IsLike, Stands}
+use Rattle.prefix_runs.specs.of_lowering_runs.Goes.{World, Goes, ValuesGo, lowering}
+use Rattle.prefix_runs.specs.of_lowering_runs.Values.{AreSet, nodes_of}
+use Rattle.prefix_runs.specs.of_lowering_runs.Frames.{seen_given}
+use Rattle.prefix_runs.specs.of_lowering_runs.Called.{calling_at}
+use Rattle.prefix_runs.proofs.of_lowering_runs.CallLemmas.{value_meant}
+use Rattle.prefix_runs.proofs.of_lowering_runs.FitLemmas.{room_coded, room_first, room_here, room_rest}
+use Rattle.prefix_runs.proofs.of_lowering_runs.FrameLemmas.{cut_seen, map_append}
+use Rattle.prefix_runs.proofs.of_lowering_runs.HeadLemmas.{phased_length, with_computed_value}
+use Rattle.prefix_runs.proofs.of_lowering_runs.ListLemmas.{filled_agrees, meant_length}
+use Rattle.prefix_runs.proofs.of_lowering_runs.NumberLemmas.{get_some, number_below}
+use Rattle.prefix_runs.proofs.of_lowering_runs.RowLemmas.{like_variable, set}
+use Rattle.prefix_runs.proofs.of_lowering_runs.ValueLemmas.{known_thing, thing_seen}
 use Rattle.call_runs.specs.Answered.{CallsAnswer, HasAnswered, IsAnswered}
 use Rattle.call_runs.specs.Taken.{AllGiven}
 use Rattle.call_runs.proofs.ActualLemmas.{given_earlier, given_is, handed_is, values_are, values_counted}

@@ -11,7 +11,7 @@ use Rattle.zpl_nums.specs.Integer.{IsInteger}
 use Rattle.zpl_arrays.specs.Array.{Array, array_of, element, has_place}
 use Rattle.node_form.specs.declared.arrays.ArrayRow.{ArrayRow}
 use Rattle.row_runs.specs.Straight.{Every}
-use Rattle.lowering_runs.specs.Seen.{array_in}
+use Rattle.prefix_runs.specs.of_lowering_runs.Seen.{array_in}
 use Rattle.std.proofs.lemmas.Bool.{cases_eq}
 use Rattle.zpl_arrays.proofs.ArrayLemmas.{array_of_is_array, element_of_member, flattened_is, place_of_member, same_elements}
 use Rattle.zpl_binding.specs.Regions.{no_region}
@@ -39,21 +39,21 @@ use Rattle.flat_form.specs.Right as right
 use Rattle.flat_form.specs.Right.{can_read, can_write, each_covers, has_places, matches, reads_well, writes_well}
 use Rattle.flat_form.specs.Whole.{Whole}
 use Rattle.normal_runs.proofs.PlaceLemmas.{moved_none, set_apart, set_there}
-use Rattle.zpl_lowering.specs.Where.{Stored, Next}
-use Rattle.zpl_lowering.specs.Program.{made_copy}
-use Rattle.lowering_runs.specs.Run.{decide, does, step, straight}
-use Rattle.lowering_runs.specs.Stands.{IsSound, IsStored}
-use Rattle.lowering_runs.proofs.NumberLemmas.{get_other, get_same, length_set}
-use Rattle.lowering_runs.proofs.RowLemmas.{settled_act}
-use Rattle.array_puts.specs.Put.{BothGive, IsPutting, IsSame, assigned, put_group, with_array_in}
-use Rattle.array_puts.proofs.PutLemmas.{put_assigns}
-use Rattle.array_runs.specs.Reads.{EachCovers, EachMatches}
-use Rattle.array_runs.proofs.AssignLemmas.{all_read}
-use Rattle.array_runs.proofs.ElementLemmas.{all_members, covers_row}
-use Rattle.array_runs.proofs.FloodLemmas.{each_matches}
-use Rattle.array_runs.proofs.LikeLemmas.{index_if, index_is, zip_new}
-use Rattle.array_runs.proofs.StoredLemmas.{IsFound, found_array, index_of_found}
-use Rattle.array_runs.proofs.TargetLemmas.{covers_matching, matches_row}
+use Rattle.prefix_runs.specs.of_zpl_lowering.Where.{Stored, Next}
+use Rattle.prefix_runs.specs.of_zpl_lowering.Program.{made_copy}
+use Rattle.prefix_runs.specs.of_lowering_runs.Run.{decide, does, step, straight}
+use Rattle.prefix_runs.specs.of_lowering_runs.Stands.{IsSound, IsStored}
+use Rattle.prefix_runs.proofs.of_lowering_runs.NumberLemmas.{get_other, get_same, length_set}
+use Rattle.prefix_runs.proofs.of_lowering_runs.RowLemmas.{settled_act}
+use Rattle.prefix_runs.specs.of_array_puts.Put.{BothGive, IsPutting, IsSame, assigned, put_group, with_array_in}
+use Rattle.prefix_runs.proofs.of_array_puts.PutLemmas.{put_assigns}
+use Rattle.prefix_runs.specs.of_array_runs.Reads.{EachCovers, EachMatches}
+use Rattle.prefix_runs.proofs.of_array_runs.AssignLemmas.{all_read}
+use Rattle.prefix_runs.proofs.of_array_runs.ElementLemmas.{all_members, covers_row}
+use Rattle.prefix_runs.proofs.of_array_runs.FloodLemmas.{each_matches}
+use Rattle.prefix_runs.proofs.of_array_runs.LikeLemmas.{index_if, index_is, zip_new}
+use Rattle.prefix_runs.proofs.of_array_runs.StoredLemmas.{IsFound, found_array, index_of_found}
+use Rattle.prefix_runs.proofs.of_array_runs.TargetLemmas.{covers_matching, matches_row}
 use Rattle.prefix_runs.proofs.ShapedLemmas.{filled}
 use Rattle.call_runs.specs.Copied.{IsCopied, copy_at}
 

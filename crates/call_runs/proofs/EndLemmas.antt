@@ -13,18 +13,18 @@ use Rattle.zpl_meaning.specs.Statement.{Context}
 use Rattle.node_form.specs.declared.tables.Tables.{Tables}
 use Rattle.row_runs.specs.Structured as code
 use Rattle.flat_form.specs.Whole.{Whole}
-use Rattle.zpl_lowering.specs.Where.{Where, Next}
-use Rattle.zpl_lowering.specs.Lowered.{Lowered, behind, followed, rows_alone}
-use Rattle.zpl_lowering.specs.Statement as low
-use Rattle.zpl_lowering.specs.Statement.{Lowering}
-use Rattle.lowering_runs.specs.Seen.{Sight, seen_place}
-use Rattle.lowering_runs.specs.Run.{does}
-use Rattle.lowering_runs.specs.Agrees.{Agrees}
-use Rattle.lowering_runs.specs.Stands.{HasRoom, IsBefore, IsLike, Stands}
-use Rattle.lowering_runs.specs.Goes.{World, Goes, context, lowering}
-use Rattle.lowering_runs.proofs.AgreeLemmas.{alike_agrees, counting_agrees, goes_agrees, then_agrees, weaker_agrees}
-use Rattle.lowering_runs.proofs.FitLemmas.{IsCarried, before_behind, like_anew, like_then, place_kept, room_first, room_rest, stands_on}
-use Rattle.lowering_runs.proofs.SuitLemmas.{own_counted}
+use Rattle.prefix_runs.specs.of_zpl_lowering.Where.{Where, Next}
+use Rattle.prefix_runs.specs.of_zpl_lowering.Lowered.{Lowered, behind, followed, rows_alone}
+use Rattle.prefix_runs.specs.of_zpl_lowering.Statement as low
+use Rattle.prefix_runs.specs.of_zpl_lowering.Statement.{Lowering}
+use Rattle.prefix_runs.specs.of_lowering_runs.Seen.{Sight, seen_place}
+use Rattle.prefix_runs.specs.of_lowering_runs.Run.{does}
+use Rattle.prefix_runs.specs.of_lowering_runs.Agrees.{Agrees}
+use Rattle.prefix_runs.specs.of_lowering_runs.Stands.{HasRoom, IsBefore, IsLike, Stands}
+use Rattle.prefix_runs.specs.of_lowering_runs.Goes.{World, Goes, context, lowering}
+use Rattle.prefix_runs.proofs.of_lowering_runs.AgreeLemmas.{alike_agrees, counting_agrees, goes_agrees, then_agrees, weaker_agrees}
+use Rattle.prefix_runs.proofs.of_lowering_runs.FitLemmas.{IsCarried, before_behind, like_anew, like_then, place_kept, room_first, room_rest, stands_on}
+use Rattle.prefix_runs.proofs.of_lowering_runs.SuitLemmas.{own_counted}
 use Rattle.prefix_runs.specs.Under.{IsUnder}
 use Rattle.prefix_runs.proofs.UnderLemmas.{under_goes_to}
 use Rattle.call_runs.specs.Answered.{HasReturned, Returns}

@@ -12,22 +12,22 @@ use Rattle.zpl_meaning.specs.Calls as mean_calls
 use Rattle.zpl_meaning.specs.Calls.{Called, Handed, formals_in, handed_on}
 use Rattle.zpl_meaning.specs.Statement as mean
 use Rattle.row_runs.specs.Structured as code
-use Rattle.zpl_lowering.specs.Where.{Where, line_of}
-use Rattle.zpl_lowering.specs.Lowered.{behind, joined, phased}
-use Rattle.zpl_lowering.specs.Statement as low
-use Rattle.zpl_lowering.specs.Statement.{Given}
-use Rattle.lowering_runs.specs.Seen.{numbered, seen_place}
-use Rattle.lowering_runs.specs.Run.{does}
-use Rattle.lowering_runs.specs.Agrees.{Agrees}
-use Rattle.lowering_runs.specs.Stands.{HasRoom, IsLike}
-use Rattle.lowering_runs.specs.Goes.{World, Goes, ValuesGo}
-use Rattle.lowering_runs.specs.Values.{AreSet, nodes_of}
-use Rattle.lowering_runs.specs.Frames.{seen_given}
-use Rattle.lowering_runs.specs.Called.{calling_at}
-use Rattle.lowering_runs.proofs.CallLemmas.{value_meant}
-use Rattle.lowering_runs.proofs.FitLemmas.{room_coded, room_first, room_rest}
-use Rattle.lowering_runs.proofs.HeadLemmas.{phased_length, with_computed_value}
-use Rattle.lowering_runs.proofs.ListLemmas.{filled_agrees, meant_length}
+use Rattle.prefix_runs.specs.of_zpl_lowering.Where.{Where, line_of}
+use Rattle.prefix_runs.specs.of_zpl_lowering.Lowered.{behind, joined, phased}
+use Rattle.prefix_runs.specs.of_zpl_lowering.Statement as low
+use Rattle.prefix_runs.specs.of_zpl_lowering.Statement.{Given}
+use Rattle.prefix_runs.specs.of_lowering_runs.Seen.{numbered, seen_place}
+use Rattle.prefix_runs.specs.of_lowering_runs.Run.{does}
+use Rattle.prefix_runs.specs.of_lowering_runs.Agrees.{Agrees}
+use Rattle.prefix_runs.specs.of_lowering_runs.Stands.{HasRoom, IsLike}
+use Rattle.prefix_runs.specs.of_lowering_runs.Goes.{World, Goes, ValuesGo}
+use Rattle.prefix_runs.specs.of_lowering_runs.Values.{AreSet, nodes_of}
+use Rattle.prefix_runs.specs.of_lowering_runs.Frames.{seen_given}
+use Rattle.prefix_runs.specs.of_lowering_runs.Called.{calling_at}
+use Rattle.prefix_runs.proofs.of_lowering_runs.CallLemmas.{value_meant}
+use Rattle.prefix_runs.proofs.of_lowering_runs.FitLemmas.{room_coded, room_first, room_rest}
+use Rattle.prefix_runs.proofs.of_lowering_runs.HeadLemmas.{phased_length, with_computed_value}
+use Rattle.prefix_runs.proofs.of_lowering_runs.ListLemmas.{filled_agrees, meant_length}
 use Rattle.call_runs.specs.Taken.{CallsGo, IsInvoked}
 use Rattle.call_runs.proofs.ActualLemmas.{given_earlier, given_is, handed_is, values_are, values_counted}
 

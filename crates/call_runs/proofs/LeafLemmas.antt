@@ -6,12 +6,12 @@ use Rattle.zpl_names.specs.Counts.{exprs_nodes}
 use Rattle.zpl_meaning.specs.Context.{Place}
 use Rattle.zpl_meaning.specs.Calls.{Called}
 use Rattle.zpl_meaning.specs.Statement as mean
-use Rattle.zpl_lowering.specs.Where.{Where}
-use Rattle.zpl_lowering.specs.Statement as low
-use Rattle.zpl_lowering.specs.Statement.{Given}
-use Rattle.lowering_runs.specs.Seen.{seen_place}
-use Rattle.lowering_runs.specs.Goes.{World, ValuesGo}
-use Rattle.lowering_runs.proofs.SuitLemmas.{LeafGoes, spare_more}
+use Rattle.prefix_runs.specs.of_zpl_lowering.Where.{Where}
+use Rattle.prefix_runs.specs.of_zpl_lowering.Statement as low
+use Rattle.prefix_runs.specs.of_zpl_lowering.Statement.{Given}
+use Rattle.prefix_runs.specs.of_lowering_runs.Seen.{seen_place}
+use Rattle.prefix_runs.specs.of_lowering_runs.Goes.{World, ValuesGo}
+use Rattle.prefix_runs.proofs.of_lowering_runs.SuitLemmas.{LeafGoes, spare_more}
 use Rattle.call_runs.specs.Answered.{CallsAnswer, IsAnswered}
 use Rattle.call_runs.specs.Leaf.{CallLeaf}
 use Rattle.call_runs.specs.Taken.{CallsGo, IsInvoked}

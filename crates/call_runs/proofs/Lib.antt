@@ -4,3 +4,4 @@ pub mod AnswerLemmas
 pub mod EndLemmas
 pub mod CopyLemmas
 pub mod LeafLemmas
+pub use Rattle.prefix_runs.proofs as of_prefix_runs

@@ -12,15 +12,15 @@ use Rattle.zpl_meaning.specs.Statement.{Context}
 use Rattle.zpl_meaning.specs.Variables.{with_new_scalar}
 use Rattle.node_form.specs.declared.tables.Tables.{Tables}
 use Rattle.flat_form.specs.Whole.{Whole}
-use Rattle.zpl_lowering.specs.Where.{Where, Next}
-use Rattle.zpl_lowering.specs.Lowered.{Lowered}
-use Rattle.zpl_lowering.specs.Statement.{Given, Lowering, given_to}
-use Rattle.lowering_runs.specs.Seen.{Sight, Spot, numbered, seen_place}
-use Rattle.lowering_runs.specs.Run.{does}
-use Rattle.lowering_runs.specs.Agrees.{Agrees}
-use Rattle.lowering_runs.specs.Stands.{IsBefore, Stands, HasRoom, IsLike}
-use Rattle.lowering_runs.specs.Called.{calling_at, called_at}
-use Rattle.lowering_runs.specs.Goes.{World, context, lowering}
+use Rattle.prefix_runs.specs.of_zpl_lowering.Where.{Where, Next}
+use Rattle.prefix_runs.specs.of_zpl_lowering.Lowered.{Lowered}
+use Rattle.prefix_runs.specs.of_zpl_lowering.Statement.{Given, Lowering, given_to}
+use Rattle.prefix_runs.specs.of_lowering_runs.Seen.{Sight, Spot, numbered, seen_place}
+use Rattle.prefix_runs.specs.of_lowering_runs.Run.{does}
+use Rattle.prefix_runs.specs.of_lowering_runs.Agrees.{Agrees}
+use Rattle.prefix_runs.specs.of_lowering_runs.Stands.{IsBefore, Stands, HasRoom, IsLike}
+use Rattle.prefix_runs.specs.of_lowering_runs.Called.{calling_at, called_at}
+use Rattle.prefix_runs.specs.of_lowering_runs.Goes.{World, context, lowering}
 use Rattle.call_runs.specs.Taken.{AllGiven, AreCallActuals}
 
 -- ---- behind a `return`

@@ -3,11 +3,11 @@ use Rattle.std.specs.Prelude.{◌≡◌, ◌≢◌, ℕ, length}
 use Rattle.node_form.specs.declared.tables.Tables.{Tables}
 use Rattle.row_runs.specs.Structured.{goes_on}
 use Rattle.flat_form.specs.Whole.{Whole}
-use Rattle.zpl_lowering.specs.Where.{Stored, Next}
-use Rattle.zpl_lowering.specs.Program.{made_copy}
-use Rattle.lowering_runs.specs.Run.{does}
-use Rattle.lowering_runs.specs.Seen.{array_in, slot_in}
-use Rattle.lowering_runs.specs.Stands.{IsSound}
+use Rattle.prefix_runs.specs.of_zpl_lowering.Where.{Stored, Next}
+use Rattle.prefix_runs.specs.of_zpl_lowering.Program.{made_copy}
+use Rattle.prefix_runs.specs.of_lowering_runs.Run.{does}
+use Rattle.prefix_runs.specs.of_lowering_runs.Seen.{array_in, slot_in}
+use Rattle.prefix_runs.specs.of_lowering_runs.Stands.{IsSound}
 
 -- Its code comes to a state in which an array that was free is what another one is; all else is as
 -- it was, but for a slot that was free.

@@ -1,8 +1,8 @@
 -- Bodies that end in a `return`.
 use Rattle.zpl_tree.specs.Syntax.{Expr, Stmt, Prefixed, Stmts, NoStmt, ThenStmt, Form, Assign, Invoke, Block, If, While, Repeat, For, Border, Write, Return}
 use Rattle.zpl_meaning.specs.Context.{Place}
-use Rattle.zpl_lowering.specs.Where.{Where}
-use Rattle.zpl_lowering.specs.Statement.{is_border}
+use Rattle.prefix_runs.specs.of_zpl_lowering.Where.{Where}
+use Rattle.prefix_runs.specs.of_zpl_lowering.Statement.{is_border}
 use Rattle.prefix_runs.specs.Under.{IsUnder}
 
 -- What is asked of the value that is returned.

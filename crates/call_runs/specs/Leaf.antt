@@ -4,8 +4,8 @@ use Rattle.zpl_nums.specs.declared.operators.Op.{Op}
 use Rattle.zpl_tree.specs.Syntax.{Name, Expr, Number, Truth, Coord, Named, Shifted, Around, Remap, Call, Paren, Neg, Not, Abs, Pair, Reduce, Scan, Flood, Form, Assign, Invoke, Block, If, While, Repeat, For, Border, Write, Return}
 use Rattle.zpl_meaning.specs.Context.{Place}
 use Rattle.zpl_meaning.specs.Calls.{Called}
-use Rattle.zpl_lowering.specs.Where.{Where}
-use Rattle.zpl_lowering.specs.Statement.{Given}
+use Rattle.prefix_runs.specs.of_zpl_lowering.Where.{Where}
+use Rattle.prefix_runs.specs.of_zpl_lowering.Statement.{Given}
 use Rattle.call_runs.specs.Answered.{IsAnswered}
 use Rattle.call_runs.specs.Taken.{IsInvoked}
 

@@ -7,14 +7,14 @@ use Rattle.zpl_meaning.specs.Store.{Thing, Scalar, ArrayAt, Fixed, Store}
 use Rattle.zpl_meaning.specs.Context.{Place}
 use Rattle.zpl_meaning.specs.Calls.{Called, formals_in, actual_thing, handed_on, value_exprs}
 use Rattle.flat_form.specs.Whole.{Whole}
-use Rattle.zpl_lowering.specs.Where.{Stored, Where, Next}
-use Rattle.zpl_lowering.specs.Statement.{Given, Valued, Copied, Referring, given_to}
-use Rattle.lowering_runs.specs.Seen.{Spot, numbered}
-use Rattle.lowering_runs.specs.Run.{does}
-use Rattle.lowering_runs.specs.Agrees.{Agrees}
-use Rattle.lowering_runs.specs.Stands.{IsBefore, IsKnown, Stands, HasRoom, IsLike}
-use Rattle.lowering_runs.specs.Called.{calling_at, called_at}
-use Rattle.lowering_runs.specs.Goes.{World}
+use Rattle.prefix_runs.specs.of_zpl_lowering.Where.{Stored, Where, Next}
+use Rattle.prefix_runs.specs.of_zpl_lowering.Statement.{Given, Valued, Copied, Referring, given_to}
+use Rattle.prefix_runs.specs.of_lowering_runs.Seen.{Spot, numbered}
+use Rattle.prefix_runs.specs.of_lowering_runs.Run.{does}
+use Rattle.prefix_runs.specs.of_lowering_runs.Agrees.{Agrees}
+use Rattle.prefix_runs.specs.of_lowering_runs.Stands.{IsBefore, IsKnown, Stands, HasRoom, IsLike}
+use Rattle.prefix_runs.specs.of_lowering_runs.Called.{calling_at, called_at}
+use Rattle.prefix_runs.specs.of_lowering_runs.Goes.{World}
 
 -- an array of the store
 abbrev pub IsAmong : List Stored → Stored → Type 0

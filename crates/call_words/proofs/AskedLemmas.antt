@@ -5,7 +5,7 @@ use Rattle.std.proofs.Math.ListN.{length-map}
 use Rattle.std.proofs.lemmas.List.{append-nil, append_assoc, drop_all, get_or-map, take_all}
 use Rattle.std.specs.List.{flat_map}
 use Rattle.std.specs.Option.{option_map}
-use Rattle.zpl_binding.specs.Settings.{Setting}
+use Rattle.call_claims.specs.of_zpl_binding.Settings.{Setting}
 use Rattle.call_claims.specs.Command.{Asked, Adds, AddAll, asked_more}
 use Rattle.call_claims.specs.Command.AddAll.{no_more, one_more}
 use Rattle.call_claims.specs.Setting.{one_or_none, setting_in, settings_among}

@@ -9,7 +9,7 @@ use Rattle.std.specs.Option.{is_some, option_map}
 use Rattle.zpl_tokens.specs.declared.Kind.TheVariants.{Name}
 use Rattle.zpl_text.specs.Bytes.{is_word_byte}
 use Rattle.zpl_text.specs.Kinds.{IsToken}
-use Rattle.zpl_binding.specs.Settings.{Setting}
+use Rattle.call_claims.specs.of_zpl_binding.Settings.{Setting}
 use Rattle.call_claims.specs.Words.{IsSettingWord}
 use Rattle.call_claims.specs.Setting.{setting_in}
 use Rattle.call_claims.proofs.OneLemmas.{set_word}

@@ -1,7 +1,7 @@
 -- What the code reads, as the claims have it.
 use Rattle.std.specs.Prelude.{◌≡◌, ℕ, List, ◌++◌, codes, map, string_bytes, ⊤}
 use Rattle.std.specs.Option.{option_map}
-use Rattle.zpl_binding.specs.Settings.{Setting}
+use Rattle.call_claims.specs.of_zpl_binding.Settings.{Setting}
 use Rattle.call_claims.specs.Command as claims
 use Rattle.call_claims.specs.Command.{IsExec, IsGen, IsList, IsMean, IsRun, IsTime, ExecTakes}
 use Rattle.call_claims.specs.Command.{GenTakes, ListTakes, MeanTakes, RunTakes, TimeTakes}

@@ -1,7 +1,7 @@
 //! What the words behind a file ask for.
 ghost use Rattle.std.specs.Prelude.{◌≡◌, ◌++◌, List, map, IfSome, MatchOption, option_map};
 ghost use Rattle.std.specs.Prelude.{string_bytes};
-ghost use Rattle.zpl_binding.specs.Settings.{Setting};
+ghost use Rattle.call_claims.specs.of_zpl_binding.Settings.{Setting};
 ghost use Rattle.call_claims.specs.Command.{asked_more, asked_on, grid_told, Adds, AskFor};
 ghost use Rattle.call_claims.specs.Command.{latency_of, limit_of, options_told, Asked as Claimed};
 ghost use Rattle.call_claims.specs.Setting.{one_or_none, setting_in};

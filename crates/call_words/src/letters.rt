@@ -1,6 +1,6 @@
 //! The letters of optimisations.
 ghost use Rattle.std.specs.Prelude.{◌≡◌, MatchOption};
-ghost use Rattle.zpl_claims.specs.declared.options.Options.{Options as Chosen};
+ghost use Rattle.call_claims.specs.of_zpl_claims.declared.options.Options.{Options as Chosen};
 ghost use Rattle.call_claims.specs.Words.{AreLetters, IsLettersWord, with_letter};
 
 use zpl_claims::Options;

@@ -1,7 +1,7 @@
 //! Words that set something.
 ghost use Rattle.std.specs.Prelude.{◌≡◌, ◌↔◌, [], IsTrue, MatchBool, map, option_map, string_bytes};
 ghost use Rattle.std.specs.List.{prefix_len};
-ghost use Rattle.zpl_binding.specs.Settings.{Setting};
+ghost use Rattle.call_claims.specs.of_zpl_binding.Settings.{Setting};
 ghost use Rattle.zpl_text.specs.Bytes.{is_word_byte};
 ghost use Rattle.call_claims.specs.Words.{IsSettingWord};
 ghost use Rattle.call_claims.specs.Setting.{setting_in, settings_among};

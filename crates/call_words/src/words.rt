@@ -1,6 +1,6 @@
 //! The words that may stand behind a file, besides settings.
 ghost use Rattle.std.specs.Prelude.{◌≡◌, ◌≢◌, ◌++◌, ℕ, List, codes, MatchOption};
-ghost use Rattle.zpl_binding.specs.Settings.{Setting};
+ghost use Rattle.call_claims.specs.of_zpl_binding.Settings.{Setting};
 ghost use Rattle.call_claims.specs.Words.{IsCapacityText, IsLinksWord, IsSettingWord};
 ghost use Rattle.call_claims.specs.Words.{IsLatencyText, IsLatencyWord, IsTurnsWord, IsWord};
 ghost use Rattle.call_claims.specs.Words.{Word as Claimed};

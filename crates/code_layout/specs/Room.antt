@@ -2,7 +2,7 @@
 use Rattle.std.specs.Prelude.{◌≤◌}
 use Rattle.grid_layout.specs.Words.{words_of}
 use Rattle.grid_meaning.specs.Stored.{arrangement_of}
-use Rattle.node_form.specs.declared.tables.Tables.{Tables}
+use Rattle.grid_meaning.specs.of_node_form.declared.tables.Tables.{Tables}
 
 -- the boxes that processors hold of the stored arrays have at most 16,777,216 words, on all
 -- processors together

@@ -2,10 +2,10 @@
 ghost use Rattle.std.specs.Prelude.{◌≡◌, ◌∷◌, ◌++◌, [], All, IfOk, OnOk, map, true};
 ghost use Rattle.grid_layout.specs.Layout.{IsArrayBox};
 ghost use Rattle.grid_meaning.specs.Stored.{box_of, stored, width_above, width_below};
-ghost use Rattle.node_form.specs.Fits.{Fits, FitsArray};
+ghost use Rattle.grid_meaning.specs.of_node_form.Fits.{Fits, FitsArray};
 
 use grid_layout::ArrayBox;
-use node_form::{ArrayDim, ArrayRow, Tables, rows_fit, storage_dim};
+use grid_meaning::node_form::{ArrayDim, ArrayRow, Tables, rows_fit, storage_dim};
 use std::alloc::{AllocError, Global};
 use zpl_region::Region;
 

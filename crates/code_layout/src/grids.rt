@@ -1,9 +1,9 @@
 //! A program's grid of processors.
 ghost use Rattle.std.specs.Prelude.{◌≡◌};
-ghost use Rattle.node_form.specs.Grid.{IsGrid, factors_of};
+ghost use Rattle.grid_meaning.specs.of_node_form.Grid.{IsGrid, factors_of};
 
 use grid_layout::Grid;
-use node_form::Grid3;
+use grid_meaning::node_form::Grid3;
 
 /// The factors that aren't absent.
 fn factors_of(grid: &Grid3) -> &[u32]

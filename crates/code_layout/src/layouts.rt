@@ -6,7 +6,7 @@ ghost use Rattle.code_layout.specs.Room.{HasRoom};
 use crate::boxes::boxes_of;
 use crate::grids::grid_of;
 use grid_layout::{Layout, LayoutFault};
-use node_form::NodeProgram;
+use grid_meaning::node_form::NodeProgram;
 use std::alloc::{AllocError, Global};
 
 /// The layout of the program's stored arrays over its grid.

@@ -1,9 +1,9 @@
 -- The definitions, computed on small listings.
 use Rattle.std.proofs.Common.{◌≡◌, ◌≢◌, ◌⊎◌, inl, ℕ, zero, suc, ◌<◌, true, false, List, [], ◌∷◌}
 use Rattle.std.proofs.Common.{ℤ, pos, refl, Some, None, Contains, get_or, arith}
-use Rattle.zpl_nums.specs.declared.operators.Op.TheVariants as op
-use Rattle.zpl_region.specs.declared.dims.Dim.TheVariants as dim
-use Rattle.zpl_region.specs.Region.{padding}
+use Rattle.node_form.specs.of_zpl_nums.declared.operators.Op.TheVariants as op
+use Rattle.node_form.specs.of_zpl_region.declared.dims.Dim.TheVariants as dim
+use Rattle.node_form.specs.of_zpl_region.Region.{padding}
 use Rattle.node_form.specs.declared.arrays.ArrayDim.{ArrayDim}
 use Rattle.node_form.specs.declared.arrays.ArrayDim.TheVariants as axis
 use Rattle.node_form.specs.declared.arrays.ArrayRow.{ArrayRow}

@@ -6,3 +6,4 @@ pub mod MergedLemmas
 pub mod RepeatLemmas
 pub mod UseLemmas
 pub mod WalkLemmas
+pub use Rattle.node_form.proofs.of_zpl_arrays as of_zpl_arrays

@@ -2,8 +2,8 @@
 use Rattle.std.specs.Prelude.{◌≡◌, ℕ, ◌==◌, Bool, true, false, not, ◌||◌, ℤ, Option, Some, None}
 use Rattle.std.specs.Prelude.{List, All, slice_get}
 use Rattle.std.specs.List.{list_all}
-use Rattle.zpl_region.specs.declared.regions.Region.{Region}
-use Rattle.zpl_arrays.specs.Reference.{is_reference}
+use Rattle.node_form.specs.of_zpl_region.declared.regions.Region.{Region}
+use Rattle.node_form.specs.of_zpl_arrays.Reference.{is_reference}
 use Rattle.node_form.specs.declared.arrays.ArrayRow.{ArrayRow}
 use Rattle.node_form.specs.declared.instructions.Instr.{Instr}
 use Rattle.node_form.specs.declared.instructions.Instr.TheVariants as instr

@@ -7,3 +7,4 @@
 mod laws;
 
 pub use laws::{rows_write_what_is_listed, walks_say_what_holds_of_stretches};
+pub use node_form::{zpl_arrays, zpl_region};

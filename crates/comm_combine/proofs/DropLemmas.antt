@@ -4,20 +4,20 @@ use Rattle.std.proofs.Common.{List, [], ◌∷◌, ◌++◌, length}
 use Rattle.std.specs.Prelude.{Some, filter, flat_map, slice_get}
 use Rattle.std.specs.List.{AllByRecursion}
 use Rattle.std.proofs.lemmas.Grind.{flat_map-append}
-use Rattle.node_form.specs.declared.arrays.Item.{Item}
-use Rattle.node_form.specs.declared.instructions.Instr.{Instr}
-use Rattle.node_form.specs.declared.instructions.Instr.TheVariants as instr
-use Rattle.node_form.specs.declared.tables.Tables.{Tables}
-use Rattle.code_parts.specs.Exchanged.{is_among, stales}
-use Rattle.code_parts.specs.Stretch.{ends_stretch, is_goal}
-use Rattle.code_parts.specs.Uses.{items_of}
-use Rattle.row_runs.specs.Straight.{rewritten}
-use Rattle.plan_form.specs.Units.{PlanUnit, Single, unit_rows, units_of}
-use Rattle.plan_form.specs.Rewrite.{rows_by}
-use Rattle.plan_form.specs.Draft.{empty_draft, plan_of, with_number, written}
-use Rattle.plan_form.specs.declared.draft.PlanDraft.{PlanDraft}
-use Rattle.plan_form.proofs.PassLemmas as pass
-use Rattle.plan_form.proofs.PassLemmas.{IsStraightUnit}
+use Rattle.last_writes.specs.of_node_form.declared.arrays.Item.{Item}
+use Rattle.last_writes.specs.of_node_form.declared.instructions.Instr.{Instr}
+use Rattle.last_writes.specs.of_node_form.declared.instructions.Instr.TheVariants as instr
+use Rattle.last_writes.specs.of_node_form.declared.tables.Tables.{Tables}
+use Rattle.last_writes.specs.of_code_parts.Exchanged.{is_among, stales}
+use Rattle.last_writes.specs.of_code_parts.Stretch.{ends_stretch, is_goal}
+use Rattle.last_writes.specs.of_code_parts.Uses.{items_of}
+use Rattle.last_writes.specs.of_row_runs.Straight.{rewritten}
+use Rattle.last_writes.specs.of_plan_form.Units.{PlanUnit, Single, unit_rows, units_of}
+use Rattle.last_writes.specs.of_plan_form.Rewrite.{rows_by}
+use Rattle.last_writes.specs.of_plan_form.Draft.{empty_draft, plan_of, with_number, written}
+use Rattle.last_writes.specs.of_plan_form.declared.draft.PlanDraft.{PlanDraft}
+use Rattle.last_writes.proofs.of_plan_form.PassLemmas as pass
+use Rattle.last_writes.proofs.of_plan_form.PassLemmas.{IsStraightUnit}
 use Rattle.comm_combine.specs.Fresh.{AreExchanged, IsAt, IsBehind, IsNew, is_fresh, units_by}
 use Rattle.comm_combine.specs.Repeats.{exchange_if_any, fresh_after, repeats_dropped, stale_items}
 use Rattle.comm_combine.specs.Repeats.{without_fresh}

@@ -6,12 +6,12 @@ use Rattle.std.proofs.Math.Path.{fun_ext}
 use Rattle.std.proofs.lemmas.Bool.{le-ltb, lt-ltb}
 use Rattle.std.proofs.lemmas.List.Folds.{list_any-append}
 use Rattle.std.proofs.lemmas.Map.Views.{any-filter_same}
-use Rattle.node_form.specs.declared.arrays.Item.{Item}
-use Rattle.node_form.specs.declared.instructions.Instr.{Instr}
-use Rattle.node_form.specs.declared.tables.Tables.{Tables}
-use Rattle.code_parts.specs.Exchanged.{is_among}
-use Rattle.code_parts.specs.Uses.{changes, is_item, written_arrays, written_slots}
-use Rattle.plan_form.proofs.ItemLemmas.{is_item-Decides}
+use Rattle.last_writes.specs.of_node_form.declared.arrays.Item.{Item}
+use Rattle.last_writes.specs.of_node_form.declared.instructions.Instr.{Instr}
+use Rattle.last_writes.specs.of_node_form.declared.tables.Tables.{Tables}
+use Rattle.last_writes.specs.of_code_parts.Exchanged.{is_among}
+use Rattle.last_writes.specs.of_code_parts.Uses.{changes, is_item, written_arrays, written_slots}
+use Rattle.last_writes.proofs.of_plan_form.ItemLemmas.{is_item-Decides}
 use Rattle.last_writes.specs.Last.{is_listed, last_change, noted}
 use Rattle.comm_combine.specs.Fresh.{AreExchanged, IsNew, IsWrittenBy, is_fresh, last_exchange}
 use Rattle.comm_combine.specs.Fresh.{stale_by}

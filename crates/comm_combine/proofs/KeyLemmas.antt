@@ -4,10 +4,10 @@ use Rattle.std.specs.Prelude.{◌&&◌, ◌||◌, cond, if◌then◌else◌, Som
 use Rattle.std.specs.HashMap.{get_by}
 use Rattle.std.specs.Cmp.Lexicographic.{pointwise}
 use Rattle.std.specs.Ordering.{int_eq}
-use Rattle.node_form.specs.declared.arrays.Item.{Item}
-use Rattle.code_parts.specs.Exchanged.{is_among}
-use Rattle.code_parts.specs.Uses.{is_item}
-use Rattle.plan_form.proofs.ItemLemmas.{is_item-Decides}
+use Rattle.last_writes.specs.of_node_form.declared.arrays.Item.{Item}
+use Rattle.last_writes.specs.of_code_parts.Exchanged.{is_among}
+use Rattle.last_writes.specs.of_code_parts.Uses.{is_item}
+use Rattle.last_writes.proofs.of_plan_form.ItemLemmas.{is_item-Decides}
 use Rattle.comm_combine.specs.Fresh.{is_key, last_exchange}
 use Rattle.comm_combine.specs.declared.fresh.Fresh.{Fresh}
 use Rattle.comm_combine.specs.declared.fresh.ItemKey.{ItemKey}

@@ -6,20 +6,20 @@ use Rattle.std.specs.List.{AllByRecursion}
 use Rattle.std.proofs.lemmas.Grind.{flat_map-append}
 use Rattle.std.proofs.lemmas.List.Sums.{fold-append}
 use Rattle.std.proofs.lemmas.List.Folds.{list_any-append}
-use Rattle.node_form.specs.declared.arrays.Item.{Item}
-use Rattle.node_form.specs.declared.instructions.Instr.{Instr}
-use Rattle.node_form.specs.declared.instructions.Instr.TheVariants as instr
-use Rattle.node_form.specs.declared.tables.Tables.{Tables}
-use Rattle.code_parts.specs.Exchanged.{is_among}
-use Rattle.code_parts.specs.Stretch.{ends_stretch, is_goal}
-use Rattle.code_parts.specs.Uses.{is_item, items_of}
-use Rattle.plan_form.proofs.ItemLemmas.{is_item-Decides}
-use Rattle.flat_passes.proofs.StretchLemmas.{every_append}
-use Rattle.plan_form.specs.Units.{PlanUnit, Exchange, Single, unit_rows, units_of, with_item}
-use Rattle.plan_form.specs.Draft.{empty_draft, plan_of, with_number, written}
-use Rattle.plan_form.specs.declared.draft.PlanDraft.{PlanDraft}
-use Rattle.plan_form.proofs.PassLemmas as pass
-use Rattle.plan_form.proofs.PassLemmas.{IsStraightUnit}
+use Rattle.last_writes.specs.of_node_form.declared.arrays.Item.{Item}
+use Rattle.last_writes.specs.of_node_form.declared.instructions.Instr.{Instr}
+use Rattle.last_writes.specs.of_node_form.declared.instructions.Instr.TheVariants as instr
+use Rattle.last_writes.specs.of_node_form.declared.tables.Tables.{Tables}
+use Rattle.last_writes.specs.of_code_parts.Exchanged.{is_among}
+use Rattle.last_writes.specs.of_code_parts.Stretch.{ends_stretch, is_goal}
+use Rattle.last_writes.specs.of_code_parts.Uses.{is_item, items_of}
+use Rattle.last_writes.proofs.of_plan_form.ItemLemmas.{is_item-Decides}
+use Rattle.last_writes.proofs.of_flat_passes.StretchLemmas.{every_append}
+use Rattle.last_writes.specs.of_plan_form.Units.{PlanUnit, Exchange, Single, unit_rows, units_of, with_item}
+use Rattle.last_writes.specs.of_plan_form.Draft.{empty_draft, plan_of, with_number, written}
+use Rattle.last_writes.specs.of_plan_form.declared.draft.PlanDraft.{PlanDraft}
+use Rattle.last_writes.proofs.of_plan_form.PassLemmas as pass
+use Rattle.last_writes.proofs.of_plan_form.PassLemmas.{IsStraightUnit}
 use Rattle.comm_combine.specs.Merge.{front_pending, front_units, joined_to, neighbours_merged}
 use Rattle.comm_combine.specs.Merge.{pending_behind}
 use Rattle.comm_combine.specs.Merge.{pending_units, pending_with, row_units, units_merged}

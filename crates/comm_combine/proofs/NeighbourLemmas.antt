@@ -4,19 +4,19 @@ use Rattle.std.proofs.Common.{not, true≢false, List, [], ◌∷◌, ◌++◌}
 use Rattle.std.specs.Prelude.{◌&&◌, ◌||◌, filter, fold, if◌then◌else◌, Option, Some, None}
 use Rattle.std.specs.List.{list_any}
 use Rattle.std.proofs.lemmas.List.Folds.{list_any-append}
-use Rattle.node_form.specs.declared.arrays.Item.{Item}
-use Rattle.node_form.specs.declared.instructions.Instr.{Instr}
-use Rattle.node_form.specs.declared.instructions.Instr.TheVariants as instr
-use Rattle.node_form.specs.declared.tables.Tables.{Tables}
-use Rattle.code_parts.specs.Exchanged.{HasNoRepeats, IsMerged, fresh_behind, is_among, is_apart}
-use Rattle.code_parts.specs.Exchanged.{is_behind_finish, is_exchange_row, stales, starts_new}
-use Rattle.code_parts.specs.Stretch.{ends_stretch, right_from}
-use Rattle.code_parts.specs.Uses.{is_item, items_of}
-use Rattle.code_parts.proofs.ListLemmas.{one_passes, some_passes}
-use Rattle.code_parts.proofs.MergedLemmas.{merged_either_way}
-use Rattle.code_parts.proofs.RepeatLemmas.{repeats_either_way}
-use Rattle.plan_form.specs.Units.{with_item}
-use Rattle.plan_form.proofs.ItemLemmas.{is_item-Decides}
+use Rattle.last_writes.specs.of_node_form.declared.arrays.Item.{Item}
+use Rattle.last_writes.specs.of_node_form.declared.instructions.Instr.{Instr}
+use Rattle.last_writes.specs.of_node_form.declared.instructions.Instr.TheVariants as instr
+use Rattle.last_writes.specs.of_node_form.declared.tables.Tables.{Tables}
+use Rattle.last_writes.specs.of_code_parts.Exchanged.{HasNoRepeats, IsMerged, fresh_behind, is_among, is_apart}
+use Rattle.last_writes.specs.of_code_parts.Exchanged.{is_behind_finish, is_exchange_row, stales, starts_new}
+use Rattle.last_writes.specs.of_code_parts.Stretch.{ends_stretch, right_from}
+use Rattle.last_writes.specs.of_code_parts.Uses.{is_item, items_of}
+use Rattle.last_writes.proofs.of_code_parts.ListLemmas.{one_passes, some_passes}
+use Rattle.last_writes.proofs.of_code_parts.MergedLemmas.{merged_either_way}
+use Rattle.last_writes.proofs.of_code_parts.RepeatLemmas.{repeats_either_way}
+use Rattle.last_writes.specs.of_plan_form.Units.{with_item}
+use Rattle.last_writes.proofs.of_plan_form.ItemLemmas.{is_item-Decides}
 use Rattle.comm_combine.specs.Merge.{neighbours_merged, pending_items, pending_with}
 use Rattle.comm_combine.proofs.NewLemmas.{Within, all_fresh, within_left, within_none}
 use Rattle.comm_combine.proofs.PendingLemmas.{merged_is, merged_right, plan_merged}

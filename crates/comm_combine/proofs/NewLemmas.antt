@@ -1,26 +1,26 @@
 -- No repeat is left.
 use Rattle.std.proofs.Common.{◌≡◌, refl, sym, ap, ◌∙◌, subst, arith, ℕ, ◌+◌}
 use Rattle.std.proofs.Common.{Bool, true, false, not, true≢false, List, [], ◌∷◌, ◌++◌, length}
-use Rattle.plan_form.specs.Rewrite.{ended_by}
+use Rattle.last_writes.specs.of_plan_form.Rewrite.{ended_by}
 use Rattle.std.specs.Prelude.{◌&&◌, ◌||◌, cond, filter, flat_map, if◌then◌else◌}
 use Rattle.std.specs.List.{list_any}
 use Rattle.std.proofs.lemmas.List.{append_assoc, length-append}
 use Rattle.std.proofs.lemmas.List.Folds.{list_any-append}
 use Rattle.std.proofs.lemmas.Map.Views.{any-filter_same}
-use Rattle.node_form.specs.declared.arrays.Item.{Item}
-use Rattle.node_form.specs.declared.instructions.Instr.{Instr}
-use Rattle.node_form.specs.declared.instructions.Instr.TheVariants as instr
-use Rattle.node_form.specs.declared.tables.Tables.{Tables}
-use Rattle.code_parts.specs.Exchanged.{HasNoRepeats, fresh_behind, is_among, stales}
-use Rattle.code_parts.specs.Exchanged.{is_exchange_row, starts_new}
-use Rattle.code_parts.specs.Stretch.{ends_stretch, is_goal, right_from}
-use Rattle.code_parts.specs.Uses.{is_item, items_of}
-use Rattle.code_parts.proofs.RepeatLemmas.{repeats_either_way}
-use Rattle.plan_form.proofs.ItemLemmas.{is_item-Decides}
-use Rattle.plan_form.specs.Units.{PlanRow, exchanges_in, laid_out}
-use Rattle.plan_form.specs.Units.{numbered_from, unit_rows}
-use Rattle.plan_form.proofs.PassLemmas as pass
-use Rattle.plan_form.proofs.WalkLemmas as walks
+use Rattle.last_writes.specs.of_node_form.declared.arrays.Item.{Item}
+use Rattle.last_writes.specs.of_node_form.declared.instructions.Instr.{Instr}
+use Rattle.last_writes.specs.of_node_form.declared.instructions.Instr.TheVariants as instr
+use Rattle.last_writes.specs.of_node_form.declared.tables.Tables.{Tables}
+use Rattle.last_writes.specs.of_code_parts.Exchanged.{HasNoRepeats, fresh_behind, is_among, stales}
+use Rattle.last_writes.specs.of_code_parts.Exchanged.{is_exchange_row, starts_new}
+use Rattle.last_writes.specs.of_code_parts.Stretch.{ends_stretch, is_goal, right_from}
+use Rattle.last_writes.specs.of_code_parts.Uses.{is_item, items_of}
+use Rattle.last_writes.proofs.of_code_parts.RepeatLemmas.{repeats_either_way}
+use Rattle.last_writes.proofs.of_plan_form.ItemLemmas.{is_item-Decides}
+use Rattle.last_writes.specs.of_plan_form.Units.{PlanRow, exchanges_in, laid_out}
+use Rattle.last_writes.specs.of_plan_form.Units.{numbered_from, unit_rows}
+use Rattle.last_writes.proofs.of_plan_form.PassLemmas as pass
+use Rattle.last_writes.proofs.of_plan_form.WalkLemmas as walks
 use Rattle.comm_combine.specs.Repeats.{exchange_if_any, repeats_dropped, stale_items}
 use Rattle.comm_combine.proofs.DropLemmas.{all_rows, close, learn, rewriting, step}
 use Rattle.comm_combine.proofs.ReachLemmas.{GoalsMoved, all_moved, items_there, moved, new, numbers}

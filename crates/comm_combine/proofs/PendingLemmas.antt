@@ -4,18 +4,18 @@ use Rattle.std.proofs.Common.{true≢false, List, [], ◌∷◌, ◌++◌, lengt
 use Rattle.std.specs.Prelude.{◌&&◌, ◌||◌, flat_map, if◌then◌else◌, Option, Some, None}
 use Rattle.std.proofs.lemmas.Grind.{flat_map-append}
 use Rattle.std.proofs.lemmas.List.{append_assoc, append-nil, length-append}
-use Rattle.node_form.specs.declared.arrays.Item.{Item}
-use Rattle.node_form.specs.declared.instructions.Instr.{Instr}
-use Rattle.node_form.specs.declared.instructions.Instr.TheVariants as instr
-use Rattle.node_form.specs.declared.tables.Tables.{Tables}
-use Rattle.code_parts.specs.Exchanged.{is_exchange_row}
-use Rattle.code_parts.specs.Stretch.{ends_stretch, is_goal, is_right_throughout, right_from}
-use Rattle.code_parts.specs.Uses.{items_of}
-use Rattle.plan_form.specs.Units.{PlanRow, Other, Single, exchanges_in, laid_out, numbered_from}
-use Rattle.plan_form.specs.Units.{unit_rows}
-use Rattle.plan_form.specs.Rewrite.{ended_by}
-use Rattle.plan_form.proofs.PassLemmas as pass
-use Rattle.plan_form.proofs.WalkLemmas as walks
+use Rattle.last_writes.specs.of_node_form.declared.arrays.Item.{Item}
+use Rattle.last_writes.specs.of_node_form.declared.instructions.Instr.{Instr}
+use Rattle.last_writes.specs.of_node_form.declared.instructions.Instr.TheVariants as instr
+use Rattle.last_writes.specs.of_node_form.declared.tables.Tables.{Tables}
+use Rattle.last_writes.specs.of_code_parts.Exchanged.{is_exchange_row}
+use Rattle.last_writes.specs.of_code_parts.Stretch.{ends_stretch, is_goal, is_right_throughout, right_from}
+use Rattle.last_writes.specs.of_code_parts.Uses.{items_of}
+use Rattle.last_writes.specs.of_plan_form.Units.{PlanRow, Other, Single, exchanges_in, laid_out, numbered_from}
+use Rattle.last_writes.specs.of_plan_form.Units.{unit_rows}
+use Rattle.last_writes.specs.of_plan_form.Rewrite.{ended_by}
+use Rattle.last_writes.proofs.of_plan_form.PassLemmas as pass
+use Rattle.last_writes.proofs.of_plan_form.WalkLemmas as walks
 use Rattle.comm_combine.specs.Merge.{neighbours_merged, pending_behind, pending_units, pending_with}
 use Rattle.comm_combine.specs.Merge.{row_units, units_merged}
 use Rattle.comm_combine.proofs.MergeLemmas.{closed_rows_are}

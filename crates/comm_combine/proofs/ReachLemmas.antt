@@ -6,20 +6,20 @@ use Rattle.std.specs.List.{list_any}
 use Rattle.std.proofs.Math.Path.{fun_ext}
 use Rattle.std.proofs.lemmas.Bool.Decides.{Decides-eqb}
 use Rattle.std.proofs.lemmas.List.Folds.{list_any-append}
-use Rattle.node_form.specs.declared.arrays.Item.{Item}
-use Rattle.node_form.specs.declared.instructions.Instr.{Instr}
-use Rattle.node_form.specs.declared.instructions.Instr.TheVariants as instr
-use Rattle.node_form.specs.declared.tables.Tables.{Tables}
-use Rattle.row_runs.specs.Cut.{moved_by, passed}
-use Rattle.code_parts.specs.Stretch.{ends_stretch, is_goal, leads_to}
-use Rattle.code_parts.specs.Uses.{items_of, rows_or_none}
-use Rattle.flat_passes.specs.Rewritten.{stretches_of, with_moved_goal}
-use Rattle.plan_form.specs.Units.{PlanUnit, PlanRow, Other, exchanges_in, laid_out, numbered_from}
-use Rattle.plan_form.specs.Units.{unit_rows}
-use Rattle.plan_form.specs.Rewrite.{ended_by, rows_by, with_units}
-use Rattle.plan_form.proofs.PassLemmas as pass
-use Rattle.plan_form.proofs.PassLemmas.{numbered_both}
-use Rattle.plan_form.proofs.WalkLemmas as walks
+use Rattle.last_writes.specs.of_node_form.declared.arrays.Item.{Item}
+use Rattle.last_writes.specs.of_node_form.declared.instructions.Instr.{Instr}
+use Rattle.last_writes.specs.of_node_form.declared.instructions.Instr.TheVariants as instr
+use Rattle.last_writes.specs.of_node_form.declared.tables.Tables.{Tables}
+use Rattle.last_writes.specs.of_row_runs.Cut.{moved_by, passed}
+use Rattle.last_writes.specs.of_code_parts.Stretch.{ends_stretch, is_goal, leads_to}
+use Rattle.last_writes.specs.of_code_parts.Uses.{items_of, rows_or_none}
+use Rattle.last_writes.specs.of_flat_passes.Rewritten.{stretches_of, with_moved_goal}
+use Rattle.last_writes.specs.of_plan_form.Units.{PlanUnit, PlanRow, Other, exchanges_in, laid_out, numbered_from}
+use Rattle.last_writes.specs.of_plan_form.Units.{unit_rows}
+use Rattle.last_writes.specs.of_plan_form.Rewrite.{ended_by, rows_by, with_units}
+use Rattle.last_writes.proofs.of_plan_form.PassLemmas as pass
+use Rattle.last_writes.proofs.of_plan_form.PassLemmas.{numbered_both}
+use Rattle.last_writes.proofs.of_plan_form.WalkLemmas as walks
 
 either_left : (a b : Bool) → a ≡ true → (a || b) ≡ true
 either_left true b e = refl

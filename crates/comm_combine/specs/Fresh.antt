@@ -4,14 +4,14 @@ use Rattle.std.specs.Prelude.{true, false, List, [], ◌∷◌, filter, unwrap_o
 use Rattle.std.specs.HashMap.{get_by}
 use Rattle.std.specs.Cmp.Lexicographic.{pointwise}
 use Rattle.std.specs.Ordering.{int_eq}
-use Rattle.node_form.specs.declared.arrays.Item.{Item}
-use Rattle.node_form.specs.declared.instructions.Instr.{Instr}
-use Rattle.node_form.specs.declared.instructions.Instr.TheVariants as instr
-use Rattle.node_form.specs.declared.tables.Tables.{Tables}
-use Rattle.code_parts.specs.Exchanged.{is_among}
-use Rattle.code_parts.specs.Uses.{items_of, written_arrays, written_slots}
+use Rattle.last_writes.specs.of_node_form.declared.arrays.Item.{Item}
+use Rattle.last_writes.specs.of_node_form.declared.instructions.Instr.{Instr}
+use Rattle.last_writes.specs.of_node_form.declared.instructions.Instr.TheVariants as instr
+use Rattle.last_writes.specs.of_node_form.declared.tables.Tables.{Tables}
+use Rattle.last_writes.specs.of_code_parts.Exchanged.{is_among}
+use Rattle.last_writes.specs.of_code_parts.Uses.{items_of, written_arrays, written_slots}
 use Rattle.last_writes.specs.Last.{AreNoted, last_change, noted}
-use Rattle.plan_form.specs.Units.{PlanUnit, Single}
+use Rattle.last_writes.specs.of_plan_form.Units.{PlanUnit, Single}
 use Rattle.comm_combine.specs.Repeats.{exchange_if_any}
 use Rattle.comm_combine.specs.declared.fresh.Fresh.{Fresh}
 use Rattle.comm_combine.specs.declared.fresh.ItemKey.{ItemKey}

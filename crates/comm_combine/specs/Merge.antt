@@ -2,13 +2,13 @@
 --
 -- Code keeps a map of the items of the exchange at hand: each item is looked at once.
 use Rattle.std.specs.Prelude.{Bool, true, false, List, [], ◌∷◌, ◌++◌, fold, Option, Some, None}
-use Rattle.node_form.specs.declared.arrays.Item.{Item}
-use Rattle.node_form.specs.declared.instructions.Instr.{Instr}
-use Rattle.node_form.specs.declared.instructions.Instr.TheVariants as instr
-use Rattle.node_form.specs.declared.tables.Tables.{Tables}
-use Rattle.code_parts.specs.Uses.{items_of}
-use Rattle.plan_form.specs.Units.{PlanUnit, Exchange, Single, with_item}
-use Rattle.plan_form.specs.Rewrite.{with_units}
+use Rattle.last_writes.specs.of_node_form.declared.arrays.Item.{Item}
+use Rattle.last_writes.specs.of_node_form.declared.instructions.Instr.{Instr}
+use Rattle.last_writes.specs.of_node_form.declared.instructions.Instr.TheVariants as instr
+use Rattle.last_writes.specs.of_node_form.declared.tables.Tables.{Tables}
+use Rattle.last_writes.specs.of_code_parts.Uses.{items_of}
+use Rattle.last_writes.specs.of_plan_form.Units.{PlanUnit, Exchange, Single, with_item}
+use Rattle.last_writes.specs.of_plan_form.Rewrite.{with_units}
 
 -- an exchange in front of others: all items of a neighbour, equal ones once
 abbrev pub joined_to : List Item → List PlanUnit → List PlanUnit

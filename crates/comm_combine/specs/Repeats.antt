@@ -4,12 +4,12 @@
 -- array and each slot last: an item is fresh where the first is the greatest. So a row is noted
 -- without a look at the items that are fresh.
 use Rattle.std.specs.Prelude.{not, List, [], ◌∷◌, ◌++◌, filter}
-use Rattle.node_form.specs.declared.arrays.Item.{Item}
-use Rattle.node_form.specs.declared.tables.Tables.{Tables}
-use Rattle.row_runs.specs.Straight.{rewritten}
-use Rattle.code_parts.specs.Exchanged.{is_among, stales}
-use Rattle.plan_form.specs.Units.{PlanUnit, Exchange, Single}
-use Rattle.plan_form.specs.Rewrite.{with_units}
+use Rattle.last_writes.specs.of_node_form.declared.arrays.Item.{Item}
+use Rattle.last_writes.specs.of_node_form.declared.tables.Tables.{Tables}
+use Rattle.last_writes.specs.of_row_runs.Straight.{rewritten}
+use Rattle.last_writes.specs.of_code_parts.Exchanged.{is_among, stales}
+use Rattle.last_writes.specs.of_plan_form.Units.{PlanUnit, Exchange, Single}
+use Rattle.last_writes.specs.of_plan_form.Rewrite.{with_units}
 
 -- those that aren't fresh
 abbrev pub stale_items : List Item → List Item → List Item

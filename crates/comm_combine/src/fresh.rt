@@ -3,7 +3,7 @@ ghost use Rattle.std.specs.Prelude.{◌≡◌, ◌∷◌, [], IfOk, OnOk, filter
 ghost use Rattle.comm_combine.specs.Fresh.{AreExchanged, IsNew, IsWrittenBy, is_fresh, stale_by};
 
 use last_writes::LastWrites;
-use node_form::{Instr, Item, Tables};
+use last_writes::node_form::{Instr, Item, Tables};
 use std::alloc::{AllocError, Global};
 use std::collections::HashMap;
 use zpl_region::Vec3;

@@ -1,6 +1,6 @@
 //! The laws of what is left.
-ghost use Rattle.node_form.specs.declared.tables.Tables.{Tables as Code};
-ghost use Rattle.code_parts.specs.Exchanged.{HasNoRepeats, IsMerged};
+ghost use Rattle.last_writes.specs.of_node_form.declared.tables.Tables.{Tables as Code};
+ghost use Rattle.last_writes.specs.of_code_parts.Exchanged.{HasNoRepeats, IsMerged};
 ghost use Rattle.comm_combine.specs.Merge.{neighbours_merged};
 ghost use Rattle.comm_combine.specs.Repeats.{repeats_dropped};
 

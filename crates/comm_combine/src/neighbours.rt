@@ -1,6 +1,6 @@
 //! Exchanges that stand directly one behind the other are one.
 ghost use Rattle.std.specs.Prelude.{◌≡◌, None, Some, IfOk, OnOk};
-ghost use Rattle.plan_form.specs.Draft.{written};
+ghost use Rattle.last_writes.specs.of_plan_form.Draft.{written};
 ghost use Rattle.comm_combine.specs.Merge.{
   front_pending,
   front_units,
@@ -12,8 +12,8 @@ ghost use Rattle.comm_combine.specs.Merge.{
 };
 
 use crate::marks::is_marked;
-use node_form::{Instr, Item, Tables};
-use plan_form::{ItemSet, PlanDraft, goals_of, items_of};
+use last_writes::node_form::{Instr, Item, Tables};
+use last_writes::plan_form::{ItemSet, PlanDraft, goals_of, items_of};
 use std::alloc::{AllocError, Global};
 
 /// The plan in which exchanges that stand directly one behind the other are one: the first, with

@@ -1,6 +1,6 @@
 //! Exchanges without the items that are fresh.
 ghost use Rattle.std.specs.Prelude.{◌≡◌, IfOk, OnOk, true};
-ghost use Rattle.plan_form.specs.Draft.{written};
+ghost use Rattle.last_writes.specs.of_plan_form.Draft.{written};
 ghost use Rattle.comm_combine.specs.Fresh.{
   AreExchanged,
   IsAt,
@@ -13,8 +13,8 @@ ghost use Rattle.comm_combine.specs.Repeats.{exchange_if_any, repeats_dropped};
 
 use crate::fresh::Fresh;
 use crate::marks::is_marked;
-use node_form::{ExchangeRow, Instr, Item, Tables};
-use plan_form::{PlanDraft, goals_of, items_of};
+use last_writes::node_form::{ExchangeRow, Instr, Item, Tables};
+use last_writes::plan_form::{PlanDraft, goals_of, items_of};
 use std::alloc::{AllocError, Global};
 
 /// The plan in which exchanges have lost the items that are fresh: those that were exchanged in the

@@ -6,12 +6,12 @@ use Rattle.std.specs.Prelude.{slice_get}
 use Rattle.std.specs.List.{list_any}
 use Rattle.std.proofs.lemmas.List.{append-nil, append_assoc, reverse-append}
 use Rattle.std.proofs.lemmas.Bool.Decides.{Decides-eqb}
-use Rattle.node_form.specs.declared.arrays.Item.{Item}
-use Rattle.node_form.specs.declared.instructions.Instr.{Instr}
-use Rattle.node_form.specs.declared.instructions.Instr.TheVariants as instr
-use Rattle.node_form.specs.declared.tables.Tables.{Tables}
-use Rattle.code_parts.specs.Early.{is_roomy, may_cross}
-use Rattle.code_parts.specs.Uses.{changes, items_of, may_divide}
+use Rattle.last_writes.specs.of_node_form.declared.arrays.Item.{Item}
+use Rattle.last_writes.specs.of_node_form.declared.instructions.Instr.{Instr}
+use Rattle.last_writes.specs.of_node_form.declared.instructions.Instr.TheVariants as instr
+use Rattle.last_writes.specs.of_node_form.declared.tables.Tables.{Tables}
+use Rattle.last_writes.specs.of_code_parts.Early.{is_roomy, may_cross}
+use Rattle.last_writes.specs.of_code_parts.Uses.{changes, items_of, may_divide}
 use Rattle.last_writes.specs.Last.{is_listed}
 use Rattle.comm_early.specs.Place.{finished_by, stops_all}
 use Rattle.comm_early.specs.Send.{open_behind_all, put_early}

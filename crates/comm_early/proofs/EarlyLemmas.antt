@@ -5,21 +5,21 @@ use Rattle.std.specs.Prelude.{◌&&◌, ◌||◌, cond, filter, if◌then◌else
 use Rattle.std.specs.List.{AllByRecursion, list_any}
 use Rattle.std.proofs.lemmas.List.Elements.{filter-append}
 use Rattle.std.proofs.lemmas.Map.Views.{any-filter_same}
-use Rattle.node_form.specs.declared.arrays.Item.{Item}
-use Rattle.node_form.specs.declared.instructions.Instr.{Instr}
-use Rattle.node_form.specs.declared.instructions.Instr.TheVariants as instr
-use Rattle.node_form.specs.declared.tables.Tables.{Tables}
-use Rattle.code_parts.specs.Early.{IsEarly, Passed, is_in_time}
-use Rattle.code_parts.specs.Early.{may_cross, none_passed, open_behind, passed_by}
-use Rattle.code_parts.specs.Exchanged.{HasNoRepeats, IsMerged, fresh_behind, is_among, is_apart}
-use Rattle.code_parts.specs.Exchanged.{is_behind_finish, stales, starts_new}
-use Rattle.code_parts.specs.Stretch.{ends_stretch, right_from}
-use Rattle.code_parts.specs.Uses.{changes, is_item, items_of}
-use Rattle.code_parts.proofs.EarlyLemmas.{early_either_way}
-use Rattle.code_parts.proofs.MergedLemmas.{merged_either_way}
-use Rattle.code_parts.proofs.RepeatLemmas.{repeats_either_way}
-use Rattle.plan_form.proofs.ItemLemmas.{is_item-Decides}
-use Rattle.code_parts.proofs.WalkLemmas.{both_right}
+use Rattle.last_writes.specs.of_node_form.declared.arrays.Item.{Item}
+use Rattle.last_writes.specs.of_node_form.declared.instructions.Instr.{Instr}
+use Rattle.last_writes.specs.of_node_form.declared.instructions.Instr.TheVariants as instr
+use Rattle.last_writes.specs.of_node_form.declared.tables.Tables.{Tables}
+use Rattle.last_writes.specs.of_code_parts.Early.{IsEarly, Passed, is_in_time}
+use Rattle.last_writes.specs.of_code_parts.Early.{may_cross, none_passed, open_behind, passed_by}
+use Rattle.last_writes.specs.of_code_parts.Exchanged.{HasNoRepeats, IsMerged, fresh_behind, is_among, is_apart}
+use Rattle.last_writes.specs.of_code_parts.Exchanged.{is_behind_finish, stales, starts_new}
+use Rattle.last_writes.specs.of_code_parts.Stretch.{ends_stretch, right_from}
+use Rattle.last_writes.specs.of_code_parts.Uses.{changes, is_item, items_of}
+use Rattle.last_writes.proofs.of_code_parts.EarlyLemmas.{early_either_way}
+use Rattle.last_writes.proofs.of_code_parts.MergedLemmas.{merged_either_way}
+use Rattle.last_writes.proofs.of_code_parts.RepeatLemmas.{repeats_either_way}
+use Rattle.last_writes.proofs.of_plan_form.ItemLemmas.{is_item-Decides}
+use Rattle.last_writes.proofs.of_code_parts.WalkLemmas.{both_right}
 use Rattle.comm_early.specs.Send.{open_behind_all, put_early, put_row, sent_early}
 use Rattle.comm_early.proofs.PassedLemmas.{facts_back, right_back, stays_right}
 

@@ -4,11 +4,11 @@ use Rattle.std.proofs.Common.{◌+◌, ◌-◌, ◌≤◌, ◌<◌, Bool, true, 
 use Rattle.std.proofs.Common.{List, [], ◌∷◌, ◌++◌, length}
 use Rattle.std.specs.Prelude.{◌&&◌, ◌||◌, max, Option, Some, slice_get}
 use Rattle.std.specs.List.{list_any}
-use Rattle.node_form.specs.declared.instructions.Instr.{Instr}
-use Rattle.node_form.specs.declared.instructions.Instr.TheVariants as instr
-use Rattle.node_form.specs.declared.tables.Tables.{Tables}
-use Rattle.code_parts.specs.Early.{is_roomy}
-use Rattle.code_parts.specs.Uses.{changes, items_of, written_arrays, written_slots}
+use Rattle.last_writes.specs.of_node_form.declared.instructions.Instr.{Instr}
+use Rattle.last_writes.specs.of_node_form.declared.instructions.Instr.TheVariants as instr
+use Rattle.last_writes.specs.of_node_form.declared.tables.Tables.{Tables}
+use Rattle.last_writes.specs.of_code_parts.Early.{is_roomy}
+use Rattle.last_writes.specs.of_code_parts.Uses.{changes, items_of, written_arrays, written_slots}
 use Rattle.last_writes.specs.Last.{is_listed, last_change, noted}
 use Rattle.comm_early.specs.Place.{IsNewStretch, IsNotedRow, finished_by, place_by, stops_all}
 use Rattle.comm_early.specs.Send.{put_early}

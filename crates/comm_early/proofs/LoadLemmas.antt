@@ -8,9 +8,9 @@ use Rattle.std.proofs.lemmas.Bool.{ltb-false, ltb-true, lt-ltb, le-ltb}
 use Rattle.std.proofs.lemmas.Bool.Decides.{Decides-eqb, leb_tells}
 use Rattle.std.proofs.lemmas.List.Sums.{length-filter, sum_by-cons}
 use Rattle.std.proofs.lemmas.List.Filters.{length-filter_both}
-use Rattle.node_form.specs.declared.instructions.Instr.{Instr}
-use Rattle.node_form.specs.declared.instructions.Instr.TheVariants as instr
-use Rattle.code_parts.specs.Early.{is_roomy, open_behind}
+use Rattle.last_writes.specs.of_node_form.declared.instructions.Instr.{Instr}
+use Rattle.last_writes.specs.of_node_form.declared.instructions.Instr.TheVariants as instr
+use Rattle.last_writes.specs.of_code_parts.Early.{is_roomy, open_behind}
 use Rattle.last_writes.specs.Last.{is_listed, noted}
 use Rattle.comm_early.specs.Place.{IsFinished, IsLoaded, IsNewLoad, IsStarted, finished_by}
 use Rattle.comm_early.specs.Place.{full_with, later_starts}

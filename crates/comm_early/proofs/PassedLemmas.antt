@@ -7,12 +7,12 @@ use Rattle.std.specs.List.{AllByRecursion, list_any}
 use Rattle.std.proofs.lemmas.Bool.{lt-ltb}
 use Rattle.std.proofs.lemmas.List.{append_assoc, reverse-append}
 use Rattle.std.proofs.lemmas.List.Sums.{sum_by-cons}
-use Rattle.node_form.specs.declared.instructions.Instr.{Instr}
-use Rattle.node_form.specs.declared.instructions.Instr.TheVariants as instr
-use Rattle.node_form.specs.declared.tables.Tables.{Tables}
-use Rattle.code_parts.specs.Stretch.{ends_stretch, is_goal, is_right_throughout, known_at, known_behind}
-use Rattle.code_parts.specs.Stretch.{leads_to, right_from}
-use Rattle.code_parts.proofs.WalkLemmas.{both_left, both_right}
+use Rattle.last_writes.specs.of_node_form.declared.instructions.Instr.{Instr}
+use Rattle.last_writes.specs.of_node_form.declared.instructions.Instr.TheVariants as instr
+use Rattle.last_writes.specs.of_node_form.declared.tables.Tables.{Tables}
+use Rattle.last_writes.specs.of_code_parts.Stretch.{ends_stretch, is_goal, is_right_throughout, known_at, known_behind}
+use Rattle.last_writes.specs.of_code_parts.Stretch.{leads_to, right_from}
+use Rattle.last_writes.proofs.of_code_parts.WalkLemmas.{both_left, both_right}
 use Rattle.comm_early.specs.Send.{put_early, put_row, sent_early}
 use Rattle.comm_early.proofs.SendLemmas.{all_sent, in_front, known, learnt, moved, put, walk}
 use Rattle.comm_early.proofs.SumLemmas.{rows_stay}

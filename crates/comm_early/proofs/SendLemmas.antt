@@ -5,15 +5,15 @@ use Rattle.std.specs.Prelude.{fold, reverse, Option, Some, slice_get}
 use Rattle.std.proofs.Math.Path.{fun_ext}
 use Rattle.std.proofs.lemmas.List.Sums.{count_by-le-length}
 use Rattle.std.proofs.lemmas.List.{append-nil, append_assoc, reverse-append}
-use Rattle.node_form.specs.declared.instructions.Instr.{Instr}
-use Rattle.node_form.specs.declared.instructions.Instr.TheVariants as instr
-use Rattle.node_form.specs.declared.tables.Tables.{Tables}
-use Rattle.row_runs.specs.Cut.{moved_by, passed}
-use Rattle.code_parts.specs.Stretch.{ends_stretch, is_goal}
-use Rattle.code_parts.specs.Uses.{items_of}
-use Rattle.flat_passes.specs.Rewritten.{stretches_of}
-use Rattle.plan_form.proofs.PassLemmas.{dropped, dropped_all}
-use Rattle.plan_form.proofs.WalkLemmas as walks
+use Rattle.last_writes.specs.of_node_form.declared.instructions.Instr.{Instr}
+use Rattle.last_writes.specs.of_node_form.declared.instructions.Instr.TheVariants as instr
+use Rattle.last_writes.specs.of_node_form.declared.tables.Tables.{Tables}
+use Rattle.last_writes.specs.of_row_runs.Cut.{moved_by, passed}
+use Rattle.last_writes.specs.of_code_parts.Stretch.{ends_stretch, is_goal}
+use Rattle.last_writes.specs.of_code_parts.Uses.{items_of}
+use Rattle.last_writes.specs.of_flat_passes.Rewritten.{stretches_of}
+use Rattle.last_writes.proofs.of_plan_form.PassLemmas.{dropped, dropped_all}
+use Rattle.last_writes.proofs.of_plan_form.WalkLemmas as walks
 use Rattle.last_writes.specs.Last.{noted}
 use Rattle.comm_early.specs.Place.{IsNewStretch, IsNotedRow, place_by}
 use Rattle.comm_early.specs.Send.{put_early, put_row, sent_early}

@@ -5,16 +5,16 @@ use Rattle.std.specs.Prelude.{count_by, fold, if◌then◌else◌, reverse, Opti
 use Rattle.std.specs.Option.{option_map}
 use Rattle.std.proofs.lemmas.List.{reverse-append}
 use Rattle.std.specs.List.{AllByRecursion}
-use Rattle.row_runs.specs.Cut.{Stretch, as_list, moved_by}
-use Rattle.row_runs.proofs.CutLemmas.{cut_rows}
-use Rattle.node_form.specs.declared.instructions.Instr.{Instr}
-use Rattle.node_form.specs.declared.instructions.Instr.TheVariants as instr
-use Rattle.node_form.specs.declared.tables.Tables.{Tables}
-use Rattle.code_parts.specs.Counts.{code_size, count_of}
-use Rattle.code_parts.specs.Early.{may_cross}
-use Rattle.code_parts.specs.Stretch.{ends_stretch, is_goal}
-use Rattle.flat_passes.specs.Rewritten.{stretches_of}
-use Rattle.flat_passes.proofs.StretchLemmas.{AsMuch, as_much, count_append}
+use Rattle.last_writes.specs.of_row_runs.Cut.{Stretch, as_list, moved_by}
+use Rattle.last_writes.proofs.of_row_runs.CutLemmas.{cut_rows}
+use Rattle.last_writes.specs.of_node_form.declared.instructions.Instr.{Instr}
+use Rattle.last_writes.specs.of_node_form.declared.instructions.Instr.TheVariants as instr
+use Rattle.last_writes.specs.of_node_form.declared.tables.Tables.{Tables}
+use Rattle.last_writes.specs.of_code_parts.Counts.{code_size, count_of}
+use Rattle.last_writes.specs.of_code_parts.Early.{may_cross}
+use Rattle.last_writes.specs.of_code_parts.Stretch.{ends_stretch, is_goal}
+use Rattle.last_writes.specs.of_flat_passes.Rewritten.{stretches_of}
+use Rattle.last_writes.proofs.of_flat_passes.StretchLemmas.{AsMuch, as_much, count_append}
 use Rattle.comm_early.specs.Send.{open_behind_all, put_early, put_row, rows_early, sent_early}
 
 -- ---- what adds up over rows

@@ -4,8 +4,8 @@ use Rattle.std.proofs.Common.{Bool, true, false, true≢false, List, [], ◌∷�
 use Rattle.std.specs.Prelude.{◌||◌, if◌then◌else◌, nat_lt, Some, fold, max, slice_get}
 use Rattle.std.specs.List.{list_any}
 use Rattle.std.proofs.lemmas.Bool.{ltb-false, ltb-true}
-use Rattle.node_form.specs.declared.arrays.Item.{Item}
-use Rattle.node_form.specs.declared.instructions.Instr.{Instr}
+use Rattle.last_writes.specs.of_node_form.declared.arrays.Item.{Item}
+use Rattle.last_writes.specs.of_node_form.declared.instructions.Instr.{Instr}
 
 pub less_or : (j n : ℕ) → (j < n) ⊎ (n ≤ j)
 less_or j n = by (nat_lt j n) refl

@@ -8,11 +8,11 @@
 -- one merge of the starts with the other rows, both in order, then gives the stretch.
 use Rattle.std.specs.Prelude.{ℕ, if◌then◌else◌, List, [], ◌∷◌, fold, length, Option}
 use Rattle.std.specs.Prelude.{reverse}
-use Rattle.node_form.specs.declared.instructions.Instr.{Instr}
-use Rattle.node_form.specs.declared.instructions.Instr.TheVariants as instr
-use Rattle.node_form.specs.declared.tables.Tables.{Tables}
-use Rattle.code_parts.specs.Early.{may_cross, open_behind}
-use Rattle.plan_form.specs.Rewrite.{with_fronts}
+use Rattle.last_writes.specs.of_node_form.declared.instructions.Instr.{Instr}
+use Rattle.last_writes.specs.of_node_form.declared.instructions.Instr.TheVariants as instr
+use Rattle.last_writes.specs.of_node_form.declared.tables.Tables.{Tables}
+use Rattle.last_writes.specs.of_code_parts.Early.{may_cross, open_behind}
+use Rattle.last_writes.specs.of_plan_form.Rewrite.{with_fronts}
 
 -- the exchanges that are open behind rows which stand reversed, the last of them first
 abbrev pub open_behind_all : List Instr → List ℕ

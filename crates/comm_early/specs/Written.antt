@@ -5,10 +5,10 @@
 --   IsSentRow     what is written with a row, and noted of its stretch
 use Rattle.std.specs.Prelude.{◌≡◌, ℕ, ◌+◌, ◌-◌, zero, suc, Bool, true, false, Option, Some, None}
 use Rattle.std.specs.Prelude.{List, [], ◌∷◌, ◌++◌, max, slice_get}
-use Rattle.node_form.specs.declared.instructions.Instr.{Instr}
-use Rattle.node_form.specs.declared.instructions.Instr.TheVariants as instr
-use Rattle.node_form.specs.declared.tables.Tables.{Tables}
-use Rattle.code_parts.specs.Uses.{items_of}
+use Rattle.last_writes.specs.of_node_form.declared.instructions.Instr.{Instr}
+use Rattle.last_writes.specs.of_node_form.declared.instructions.Instr.TheVariants as instr
+use Rattle.last_writes.specs.of_node_form.declared.tables.Tables.{Tables}
+use Rattle.last_writes.specs.of_code_parts.Uses.{items_of}
 use Rattle.comm_early.specs.Place.{IsNewStretch, IsNotedRow, place_by}
 use Rattle.comm_early.specs.declared.sent.Sent.{Sent}
 use Rattle.comm_early.specs.declared.stretch.Stretch.{Stretch}

@@ -6,9 +6,9 @@ ghost use Rattle.comm_early.specs.Written.{IsAt, IsFlushed, IsSentRow, IsStartSe
 
 use crate::sent::Sent;
 use crate::stretch::Stretch;
-use flat_passes::number_of;
-use node_form::{Code, Instr, Tables};
-use plan_form::{goals_of, items_of};
+use last_writes::flat_passes::number_of;
+use last_writes::node_form::{Code, Instr, Tables};
+use last_writes::plan_form::{goals_of, items_of};
 use std::alloc::{AllocError, Global};
 
 /// The plan in which the starts of each stretch, in their order, have moved up over the rows that

@@ -10,11 +10,11 @@ mod sent;
 mod stretch;
 
 ghost use Rattle.std.specs.Prelude.{◌≡◌, ℕ, Bool, Option};
-ghost use Rattle.node_form.specs.declared.instructions.Instr.{Instr as Row};
-ghost use Rattle.node_form.specs.declared.tables.Tables.{Tables as Code};
-ghost use Rattle.code_parts.specs.Counts.{code_size, count_of};
-ghost use Rattle.code_parts.specs.Early.{IsEarly};
-ghost use Rattle.code_parts.specs.Exchanged.{HasNoRepeats, IsMerged};
+ghost use Rattle.last_writes.specs.of_node_form.declared.instructions.Instr.{Instr as Row};
+ghost use Rattle.last_writes.specs.of_node_form.declared.tables.Tables.{Tables as Code};
+ghost use Rattle.last_writes.specs.of_code_parts.Counts.{code_size, count_of};
+ghost use Rattle.last_writes.specs.of_code_parts.Early.{IsEarly};
+ghost use Rattle.last_writes.specs.of_code_parts.Exchanged.{HasNoRepeats, IsMerged};
 ghost use Rattle.comm_early.specs.Send.{sent_early};
 
 pub use early::send_early;

@@ -4,7 +4,7 @@ ghost use Rattle.last_writes.specs.Last.{noted};
 ghost use Rattle.comm_early.specs.Place.{IsFilled, IsFinished, IsLoaded, IsNewLoad, IsStarted};
 
 use last_writes::Noted;
-use node_form::Instr;
+use last_writes::node_form::Instr;
 use std::alloc::{AllocError, Global};
 
 /// The exchanges that are open behind the rows of a stretch, and the finishes that starts don't

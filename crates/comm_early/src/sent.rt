@@ -2,7 +2,7 @@
 ghost use Rattle.std.specs.Prelude.{◌≡◌, ◌++◌, [], OnOk};
 ghost use Rattle.comm_early.specs.Written.{IsWrittenTo, other_at};
 
-use node_form::{Code, Instr, Rows};
+use last_writes::node_form::{Code, Instr, Rows};
 use std::alloc::{AllocError, Global};
 
 /// The rows that are written, and how many rows of the plan they are made of, starts behind these

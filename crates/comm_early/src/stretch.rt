@@ -1,6 +1,6 @@
 //! What the rows of a stretch stop.
 ghost use Rattle.std.specs.Prelude.{◌≡◌, ◌<◌, ◌^◌, ℕ, OnOk};
-ghost use Rattle.code_parts.specs.Uses.{divides_in, may_divide};
+ghost use Rattle.last_writes.specs.of_code_parts.Uses.{divides_in, may_divide};
 ghost use Rattle.last_writes.specs.Last.{AreNoted, noted};
 ghost use Rattle.comm_early.specs.Place.{
   IsNewStretch,
@@ -11,9 +11,9 @@ ghost use Rattle.comm_early.specs.Place.{
 };
 
 use crate::load::Load;
+use last_writes::node_form::{ExprOp, Instr, Item, Tables};
+use last_writes::plan_form::words_of;
 use last_writes::{LastWrites, Noted};
-use node_form::{ExprOp, Instr, Item, Tables};
-use plan_form::words_of;
 use std::alloc::{AllocError, Global};
 use zpl_nums::Op;
 

@@ -7,11 +7,11 @@ use Rattle.std.proofs.lemmas.Grind.{flat_map-append}
 use Rattle.std.proofs.lemmas.List.{append-nil, map-append}
 use Rattle.std.proofs.lemmas.List.Sums.{fold-append}
 use Rattle.std.proofs.lemmas.List.Folds.{list_any-append}
-use Rattle.node_form.specs.declared.arrays.Item.{Item}
-use Rattle.node_form.specs.declared.words.ExprOp.{ExprOp}
-use Rattle.node_form.specs.declared.members.Member.{Member}
-use Rattle.node_form.specs.declared.tables.Tables.{Tables}
-use Rattle.code_parts.specs.Uses.{as_list, divides_in, exprs_of, member_words, words_of}
+use Rattle.plan_form.specs.of_node_form.declared.arrays.Item.{Item}
+use Rattle.plan_form.specs.of_node_form.declared.words.ExprOp.{ExprOp}
+use Rattle.plan_form.specs.of_node_form.declared.members.Member.{Member}
+use Rattle.plan_form.specs.of_node_form.declared.tables.Tables.{Tables}
+use Rattle.plan_form.specs.of_code_parts.Uses.{as_list, divides_in, exprs_of, member_words, words_of}
 use Rattle.plan_form.specs.Draft.{with_unit, written}
 use Rattle.plan_form.specs.Units.{PlanUnit, with_item}
 use Rattle.plan_form.specs.declared.draft.PlanDraft.{PlanDraft}

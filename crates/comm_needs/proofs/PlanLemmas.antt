@@ -5,12 +5,12 @@ use Rattle.std.proofs.Common.{List, [], ◌∷◌, ◌++◌, length, map}
 use Rattle.std.specs.Prelude.{Some, None, Option, flat_map, slice_get}
 use Rattle.std.specs.List.{AllByRecursion}
 use Rattle.std.proofs.lemmas.Grind.{flat_map-append}
-use Rattle.node_form.specs.declared.arrays.Item.{Item}
-use Rattle.node_form.specs.declared.instructions.Instr.{Instr}
-use Rattle.node_form.specs.declared.instructions.Instr.TheVariants as instr
-use Rattle.node_form.specs.declared.tables.Tables.{Tables}
-use Rattle.code_parts.specs.Stretch.{ends_stretch, is_goal}
-use Rattle.flat_passes.proofs.StretchLemmas.{every_append}
+use Rattle.plan_form.specs.of_node_form.declared.arrays.Item.{Item}
+use Rattle.plan_form.specs.of_node_form.declared.instructions.Instr.{Instr}
+use Rattle.plan_form.specs.of_node_form.declared.instructions.Instr.TheVariants as instr
+use Rattle.plan_form.specs.of_node_form.declared.tables.Tables.{Tables}
+use Rattle.plan_form.specs.of_code_parts.Stretch.{ends_stretch, is_goal}
+use Rattle.plan_form.proofs.of_flat_passes.StretchLemmas.{every_append}
 use Rattle.plan_form.specs.Units.{PlanUnit, Exchange, Single, unit_of, unit_rows, units_of}
 use Rattle.plan_form.specs.Rewrite.{rows_by, with_units}
 use Rattle.plan_form.specs.Draft.{empty_draft, plan_of, with_number, written}

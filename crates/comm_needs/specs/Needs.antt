@@ -4,13 +4,13 @@
 -- looked at once.
 use Rattle.std.specs.Prelude.{ℕ, Bool, true, false, ◌||◌, List, [], ◌∷◌, ◌++◌, flat_map, fold, map}
 use Rattle.std.specs.List.{list_any}
-use Rattle.node_form.specs.declared.arrays.Item.{Item}
-use Rattle.node_form.specs.declared.instructions.Instr.{Instr}
-use Rattle.node_form.specs.declared.instructions.Instr.TheVariants as instr
-use Rattle.node_form.specs.declared.tables.Tables.{Tables}
-use Rattle.node_form.specs.declared.words.ExprOp.{ExprOp}
-use Rattle.node_form.specs.declared.words.ExprOp.TheVariants as word
-use Rattle.code_parts.specs.Uses.{divides_in, group_words, has_loops}
+use Rattle.plan_form.specs.of_node_form.declared.arrays.Item.{Item}
+use Rattle.plan_form.specs.of_node_form.declared.instructions.Instr.{Instr}
+use Rattle.plan_form.specs.of_node_form.declared.instructions.Instr.TheVariants as instr
+use Rattle.plan_form.specs.of_node_form.declared.tables.Tables.{Tables}
+use Rattle.plan_form.specs.of_node_form.declared.words.ExprOp.{ExprOp}
+use Rattle.plan_form.specs.of_node_form.declared.words.ExprOp.TheVariants as word
+use Rattle.plan_form.specs.of_code_parts.Uses.{divides_in, group_words, has_loops}
 use Rattle.plan_form.specs.Units.{PlanUnit, Exchange, Single, unit_of, with_item}
 use Rattle.plan_form.specs.Rewrite.{with_units}
 

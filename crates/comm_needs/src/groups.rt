@@ -1,7 +1,7 @@
 //! What groups need, and whether they are voted on.
 ghost use Rattle.std.specs.Prelude.{◌≡◌, ◌++◌, ◌∷◌, [], IfOk, OnOk, flat_map};
 ghost use Rattle.std.specs.List.{list_any};
-ghost use Rattle.code_parts.specs.Uses.{
+ghost use Rattle.plan_form.specs.of_code_parts.Uses.{
   as_list,
   divides_in,
   exprs_of,
@@ -13,7 +13,7 @@ ghost use Rattle.code_parts.specs.Uses.{
 };
 ghost use Rattle.comm_needs.specs.Needs.{is_voted_on, needs_of, with_needed};
 
-use node_form::{ExprOp, Item, Member, Tables};
+use plan_form::node_form::{ExprOp, Item, Member, Tables};
 use plan_form::{ItemSet, members_of, words_of};
 use std::alloc::{AllocError, Global};
 use zpl_nums::Op;

@@ -1,12 +1,12 @@
 //! The plan of a flat program.
 ghost use Rattle.std.specs.Prelude.{◌≡◌, IfOk, OnOk, map};
-ghost use Rattle.node_form.specs.declared.instructions.Instr.{Instr as Row};
+ghost use Rattle.plan_form.specs.of_node_form.declared.instructions.Instr.{Instr as Row};
 ghost use Rattle.plan_form.specs.Draft.{written};
 ghost use Rattle.plan_form.specs.Units.{PlanUnit};
 ghost use Rattle.comm_needs.specs.Needs.{needed_alone, loop_with_needs, planned, row_with_needs};
 
 use crate::groups::{is_voted_on, needs_of};
-use node_form::{ExchangeRow, Grid3, Instr, Tables};
+use plan_form::node_form::{ExchangeRow, Grid3, Instr, Tables};
 use plan_form::{ItemSet, PlanDraft, items_of};
 use std::alloc::{AllocError, Global};
 

@@ -5,7 +5,7 @@ use Rattle.std.specs.Prelude.{nat_lt, Option, Some, None}
 use Rattle.node_form.specs.declared.tables.Tables.{Tables}
 use Rattle.code_parts.specs.Early.{is_roomy}
 use Rattle.grid_meaning.specs.Grid.{IsCapacity}
-use Rattle.needs_runs.specs.Sharable.{IsSharable}
+use Rattle.planned_runs.specs.of_needs_runs.Sharable.{IsSharable}
 use Rattle.arranged_runs.specs.Plannable.{IsPlannable}
 
 pub plannable : (code : Tables) → IsSharable code → IsPlannable code

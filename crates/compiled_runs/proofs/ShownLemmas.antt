@@ -8,9 +8,9 @@ use Rattle.row_runs.proofs.RowLemmas.{keeps_through}
 use Rattle.flat_form.specs.Act.{flat_run}
 use Rattle.plan_meaning.specs.Act.{plan_run}
 use Rattle.comm_needs.specs.Needs.{planned}
-use Rattle.needs_runs.specs.Sharable.{IsSharable, PlansKeepRuns}
+use Rattle.planned_runs.specs.of_needs_runs.Sharable.{IsSharable, PlansKeepRuns}
 use Rattle.zpl_claims.specs.Build.{Build, IsBuiltFor}
-use Rattle.zpl_compile.specs.Compile.{emitted_for, plan_of, settled}
+use Rattle.settled_runs.specs.of_zpl_compile.Compile.{emitted_for, plan_of, settled}
 use Rattle.compiled_runs.proofs.SharableLemmas.{has_room}
 
 module _ (keep : PlansKeepRuns) (build : Build) (flat : Tables) (is : IsGrid build.grid)

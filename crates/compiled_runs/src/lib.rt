@@ -12,17 +12,20 @@ ghost use Rattle.node_form.specs.Fits.{Fits};
 ghost use Rattle.node_form.specs.Grid.{IsGrid};
 ghost use Rattle.grid_meaning.specs.State.{HasThree};
 ghost use Rattle.flat_form.specs.Flat.{IsFlat};
-ghost use Rattle.fused_runs.specs.Typed.{IsTyped};
-ghost use Rattle.needs_runs.specs.Sharable.{IsSharable};
+ghost use Rattle.settled_runs.specs.of_fused_runs.Typed.{IsTyped};
+ghost use Rattle.planned_runs.specs.of_needs_runs.Sharable.{IsSharable};
 ghost use Rattle.arranged_runs.specs.Plannable.{IsPlannable};
 ghost use Rattle.lock_steps.specs.Meant.{IsPlanOf};
 ghost use Rattle.zpl_claims.specs.Build.{Build, OverAllLinks};
 ghost use Rattle.zpl_lowering.specs.Tables.{flat_tables};
-ghost use Rattle.zpl_compile.specs.Compile.{compiled, emitted_for, plan_of, settled};
+ghost use Rattle.settled_runs.specs.of_zpl_compile.Compile.{compiled, emitted_for, plan_of, settled};
 
+pub use arranged_runs;
 use arranged_runs::plan_passes_keep_runs;
-use emitted_orders::node_code_runs_as_its_plan;
+pub use lock_steps;
+use lock_steps::emitted_orders::node_code_runs_as_its_plan;
 use planned_runs::plans_keep_runs;
+pub use settled_runs;
 use settled_runs::flat_passes_keep_runs;
 
 /// The plan behind all passes that a build asks for shows what the flat program shows in front of

@@ -24,9 +24,9 @@ use Rattle.flat_form.specs.Row.{mask_words, member_coded, member_inlined, member
 use Rattle.flat_form.specs.Row.{row_words, with_row, with_rows, words_at}
 use Rattle.flat_form.proofs.ReadLemmas.{read_again}
 use Rattle.flat_passes.specs.Grouped.{grouped, loop_members, members_run}
-use Rattle.pass_sizes.specs.Sizes.{expr_shifts, group_shifts, is_unflat, loop_shifts, member_shifts}
-use Rattle.pass_sizes.specs.Sizes.{run_by}
-use Rattle.pass_sizes.proofs.SumLemmas.{flat_sum, map_sum, same_sum}
+use Rattle.lowering_checks.specs.of_pass_sizes.Sizes.{expr_shifts, group_shifts, is_unflat, loop_shifts, member_shifts}
+use Rattle.lowering_checks.specs.of_pass_sizes.Sizes.{run_by}
+use Rattle.lowering_checks.proofs.of_pass_sizes.SumLemmas.{flat_sum, map_sum, same_sum}
 use Rattle.text_sharing.proofs.RowLemmas.{shared-inline}
 use Rattle.lowering_checks.proofs.InlineLemmas.{rows_inline}
 use Rattle.zpl_tree.specs.Syntax.{Program}

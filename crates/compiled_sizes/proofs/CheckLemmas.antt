@@ -14,19 +14,19 @@ use Rattle.flat_passes.specs.Rewritten.{with_moved_goal}
 use Rattle.temp_norm.specs.Normalised.{normalised}
 use Rattle.bound_check.specs.Checked.{checked}
 use Rattle.bound_check.proofs.UndecidedLemmas.{undecided}
-use Rattle.fuse_contract.specs.Contracting.{contracted}
-use Rattle.fuse_contract.specs.Fusing.{fused}
+use Rattle.zpl_compile.specs.of_fuse_contract.Contracting.{contracted}
+use Rattle.zpl_compile.specs.of_fuse_contract.Fusing.{fused}
 use Rattle.comm_needs.specs.Needs.{planned}
 use Rattle.comm_combine.specs.Merge.{neighbours_merged}
 use Rattle.comm_combine.specs.Repeats.{repeats_dropped}
 use Rattle.comm_early.specs.Send.{sent_early}
 use Rattle.comm_early.proofs.SumLemmas.{rows_stay}
 use Rattle.node_emit.specs.Emit.{along_tree, emitted}
-use Rattle.pass_sizes.specs.Sizes.{IsBlind, PassesNoExchange}
-use Rattle.pass_sizes.proofs.SumLemmas.{same_sum}
-use Rattle.pass_sizes.proofs.CombineLemmas.{dropped_count, merged_count}
-use Rattle.pass_sizes.proofs.NeedLemmas.{planned_count}
-use Rattle.pass_sizes.proofs.SettledLemmas.{fused_count}
+use Rattle.lowering_checks.specs.of_pass_sizes.Sizes.{IsBlind, PassesNoExchange}
+use Rattle.lowering_checks.proofs.of_pass_sizes.SumLemmas.{same_sum}
+use Rattle.lowering_checks.proofs.of_pass_sizes.CombineLemmas.{dropped_count, merged_count}
+use Rattle.lowering_checks.proofs.of_pass_sizes.NeedLemmas.{planned_count}
+use Rattle.lowering_checks.proofs.of_pass_sizes.SettledLemmas.{fused_count}
 use Rattle.zpl_tree.specs.Syntax.{Program}
 use Rattle.zpl_lowering.specs.Tables.{flat_tables}
 use Rattle.zpl_claims.specs.Build.{Build}

@@ -10,8 +10,8 @@ use Rattle.code_parts.specs.Counts.{GoesByTrees}
 use Rattle.temp_norm.specs.Normalised.{is_like, normalised, rows_through, temporaries}
 use Rattle.temp_norm.specs.Normalised.{temporary_like, with_one_like}
 use Rattle.bound_check.specs.Checked.{checked}
-use Rattle.fuse_contract.specs.Contracting.{contracted}
-use Rattle.fuse_contract.specs.Fusing.{fused}
+use Rattle.zpl_compile.specs.of_fuse_contract.Contracting.{contracted}
+use Rattle.zpl_compile.specs.of_fuse_contract.Fusing.{fused}
 use Rattle.comm_needs.specs.Needs.{planned}
 use Rattle.comm_combine.specs.Merge.{neighbours_merged}
 use Rattle.comm_combine.specs.Repeats.{repeats_dropped}

@@ -12,28 +12,28 @@ use Rattle.temp_norm.specs.Normalised.{loops_on_themselves, normalised, temporar
 use Rattle.temp_norm.proofs.SizeLemmas.{size_of_normalised}
 use Rattle.bound_check.specs.Checked.{checked}
 use Rattle.bound_check.proofs.SizeLemmas.{no_larger}
-use Rattle.fuse_contract.specs.Contracting.{contracted}
-use Rattle.fuse_contract.specs.Fusing.{fused}
-use Rattle.fuse_contract.proofs.CellLemmas.{size_with_cells}
-use Rattle.fuse_contract.proofs.JoinLemmas.{size_of_fused}
+use Rattle.zpl_compile.specs.of_fuse_contract.Contracting.{contracted}
+use Rattle.zpl_compile.specs.of_fuse_contract.Fusing.{fused}
+use Rattle.zpl_compile.proofs.of_fuse_contract.CellLemmas.{size_with_cells}
+use Rattle.zpl_compile.proofs.of_fuse_contract.JoinLemmas.{size_of_fused}
 use Rattle.comm_needs.specs.Needs.{planned}
 use Rattle.comm_combine.specs.Merge.{neighbours_merged}
 use Rattle.comm_combine.specs.Repeats.{repeats_dropped}
 use Rattle.comm_early.specs.Send.{sent_early}
 use Rattle.comm_early.proofs.SumLemmas.{rows_stay, size_stays}
 use Rattle.node_emit.proofs.TreeLemmas as tree
-use Rattle.pass_sizes.specs.Sizes.{RunsOnce, is_unflat, loop_shifts, pair_size, plan_size}
-use Rattle.pass_sizes.proofs.CombineLemmas.{dropped_count, dropped_pairs, dropped_size}
-use Rattle.pass_sizes.proofs.CombineLemmas.{merged_count, merged_pairs, merged_size}
-use Rattle.pass_sizes.proofs.NeedLemmas.{planned_count, planned_pairs, planned_size, planned_votes}
-use Rattle.pass_sizes.proofs.NormalLemmas.{few_temporaries, normal_count, normal_once}
-use Rattle.pass_sizes.proofs.NormalLemmas.{normal_shifts, splits_are_loops}
-use Rattle.pass_sizes.proofs.SettledLemmas.{checked_count, checked_once, checked_shifts}
-use Rattle.pass_sizes.proofs.SettledLemmas.{contracted_shifts, fused_count, fused_fewer}
-use Rattle.pass_sizes.proofs.SettledLemmas.{fused_shifts}
-use Rattle.pass_sizes.proofs.TestLemmas.{counted_blind, counted_pass, loop_blind, loop_pass}
-use Rattle.pass_sizes.proofs.TestLemmas.{no_loop_blind, uncounted_blind, unflat_blind, vote_blind}
-use Rattle.pass_sizes.proofs.TestLemmas.{vote_pass}
+use Rattle.lowering_checks.specs.of_pass_sizes.Sizes.{RunsOnce, is_unflat, loop_shifts, pair_size, plan_size}
+use Rattle.lowering_checks.proofs.of_pass_sizes.CombineLemmas.{dropped_count, dropped_pairs, dropped_size}
+use Rattle.lowering_checks.proofs.of_pass_sizes.CombineLemmas.{merged_count, merged_pairs, merged_size}
+use Rattle.lowering_checks.proofs.of_pass_sizes.NeedLemmas.{planned_count, planned_pairs, planned_size, planned_votes}
+use Rattle.lowering_checks.proofs.of_pass_sizes.NormalLemmas.{few_temporaries, normal_count, normal_once}
+use Rattle.lowering_checks.proofs.of_pass_sizes.NormalLemmas.{normal_shifts, splits_are_loops}
+use Rattle.lowering_checks.proofs.of_pass_sizes.SettledLemmas.{checked_count, checked_once, checked_shifts}
+use Rattle.lowering_checks.proofs.of_pass_sizes.SettledLemmas.{contracted_shifts, fused_count, fused_fewer}
+use Rattle.lowering_checks.proofs.of_pass_sizes.SettledLemmas.{fused_shifts}
+use Rattle.lowering_checks.proofs.of_pass_sizes.TestLemmas.{counted_blind, counted_pass, loop_blind, loop_pass}
+use Rattle.lowering_checks.proofs.of_pass_sizes.TestLemmas.{no_loop_blind, uncounted_blind, unflat_blind, vote_blind}
+use Rattle.lowering_checks.proofs.of_pass_sizes.TestLemmas.{vote_pass}
 use Rattle.zpl_claims.specs.Build.{Build}
 use Rattle.zpl_compile.specs.Compile.{emitted_for, if_asked, plan_of, settled}
 

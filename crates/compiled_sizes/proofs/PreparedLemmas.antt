@@ -15,8 +15,8 @@ use Rattle.flat_form.specs.Flat.{IsFlat}
 use Rattle.flat_form.specs.Row.{inlined, member_inlined}
 use Rattle.flat_passes.specs.Grouped.{grouped}
 use Rattle.temp_norm.specs.Normalised.{loops_on_itself, loops_on_themselves, normalised, reads_itself}
-use Rattle.pass_sizes.specs.Sizes.{is_preparing}
-use Rattle.pass_sizes.proofs.FactorLemmas.{normal_factor}
+use Rattle.lowering_checks.specs.of_pass_sizes.Sizes.{is_preparing}
+use Rattle.lowering_checks.proofs.of_pass_sizes.FactorLemmas.{normal_factor}
 use Rattle.zpl_tree.specs.Syntax.{Program}
 use Rattle.zpl_binding.specs.Settings.{Setting}
 use Rattle.zpl_lowering.specs.Tables.{flat_tables}

@@ -7,3 +7,5 @@
 mod laws;
 
 pub use laws::{compiled_code_is_laid_out, compiled_code_is_small};
+pub use lowering_checks;
+pub use lowering_sizes;

@@ -18,15 +18,15 @@ use Rattle.zpl_claims.specs.Boxes.{boxes_of}
 use Rattle.node_form.specs.declared.tables.Tables.{Tables}
 use Rattle.flat_form.specs.Flat.{IsFlat}
 use Rattle.flat_form.specs.Row.{Row, all_inlined}
-use Rattle.pass_parts.specs.Checks.{ChecksWhatFollows}
+use Rattle.compiled_sizes.specs.of_pass_parts.Checks.{ChecksWhatFollows}
 use Rattle.zpl_lowering.specs.Program.{lowered_program}
 use Rattle.zpl_lowering.specs.Tables.{flat_tables, rows_of}
-use Rattle.lowered_flat.specs.Apart.{NamesStandApart}
-use Rattle.lowering_fits.specs.Declarations.{FitsProgram}
-use Rattle.lowering_checks.specs.Stands.{PutsAlike, ReadsApart}
-use Rattle.lowering_checks.specs.Totals.{AreApart, FirstPuts, NoneAccumulates}
-use Rattle.lowering_checks.specs.Walked.{AreChecked}
-use Rattle.lowering_sizes.specs.Sizes.{HasTokens, HoldsItsWords}
+use Rattle.program_boxes.specs.of_lowered_flat.Apart.{NamesStandApart}
+use Rattle.program_boxes.specs.of_lowering_fits.Declarations.{FitsProgram}
+use Rattle.compiled_sizes.specs.of_lowering_checks.Stands.{PutsAlike, ReadsApart}
+use Rattle.compiled_sizes.specs.of_lowering_checks.Totals.{AreApart, FirstPuts, NoneAccumulates}
+use Rattle.compiled_sizes.specs.of_lowering_checks.Walked.{AreChecked}
+use Rattle.compiled_sizes.specs.of_lowering_sizes.Sizes.{HasTokens, HoldsItsWords}
 use Rattle.zpl_claims.specs.Build.{Build}
 use Rattle.zpl_claims.specs.Origin.{origin_of}
 use Rattle.compiled_sizes.specs.Lowered.{IsLowered}

@@ -10,8 +10,8 @@ use Rattle.std.specs.Int.{int_wrap}
 use Rattle.zpl_names.specs.Reached.{longest_chain}
 use Rattle.code_parts.specs.Fused.{is_fused}
 use Rattle.zpl_claims.specs.Build.{Build, no_options, one_processor}
-use Rattle.zpl_compile.specs.Compile.{compiled}
-use Rattle.lowering_checks.proofs.Examples.{example}
+use Rattle.compiled_sizes.specs.of_zpl_compile.Compile.{compiled}
+use Rattle.compiled_sizes.proofs.of_lowering_checks.Examples.{example}
 
 abbrev build : Build
 build = record {

@@ -15,18 +15,18 @@ use Rattle.temp_norm.specs.Normalised.{normalised}
 use Rattle.temp_norm.proofs.FitLemmas.{normalised_fits}
 use Rattle.bound_check.specs.Checked.{checked}
 use Rattle.bound_check.proofs.FitLemmas.{checked_fits}
-use Rattle.fuse_contract.specs.Fusing.{fused}
-use Rattle.fuse_contract.proofs.FitLemmas.{fused_fits}
-use Rattle.pass_sizes.specs.Sizes.{is_unflat}
-use Rattle.pass_sizes.proofs.NormalLemmas.{normal_count}
-use Rattle.pass_sizes.proofs.SettledLemmas.{checked_count}
-use Rattle.pass_sizes.proofs.TestLemmas.{unflat_blind}
-use Rattle.pass_parts.specs.Checks.{ChecksWhatFollows, StandsWithWhatFollows}
-use Rattle.pass_parts.specs.Parts.{CanBeFused}
-use Rattle.pass_parts.proofs.CheckedLoops.{checked_knows, checked_stands}
-use Rattle.pass_parts.proofs.NameLemmas.{none_counted, none_first}
-use Rattle.pass_parts.proofs.NormalLoops.{normal_checks, normal_stands}
-use Rattle.zpl_compile.specs.Compile.{if_asked}
+use Rattle.compiled_sizes.specs.of_fuse_contract.Fusing.{fused}
+use Rattle.compiled_sizes.proofs.of_fuse_contract.FitLemmas.{fused_fits}
+use Rattle.compiled_sizes.specs.of_pass_sizes.Sizes.{is_unflat}
+use Rattle.compiled_sizes.proofs.of_pass_sizes.NormalLemmas.{normal_count}
+use Rattle.compiled_sizes.proofs.of_pass_sizes.SettledLemmas.{checked_count}
+use Rattle.compiled_sizes.proofs.of_pass_sizes.TestLemmas.{unflat_blind}
+use Rattle.compiled_sizes.specs.of_pass_parts.Checks.{ChecksWhatFollows, StandsWithWhatFollows}
+use Rattle.compiled_sizes.specs.of_pass_parts.Parts.{CanBeFused}
+use Rattle.compiled_sizes.proofs.of_pass_parts.CheckedLoops.{checked_knows, checked_stands}
+use Rattle.compiled_sizes.proofs.of_pass_parts.NameLemmas.{none_counted, none_first}
+use Rattle.compiled_sizes.proofs.of_pass_parts.NormalLoops.{normal_checks, normal_stands}
+use Rattle.compiled_sizes.specs.of_zpl_compile.Compile.{if_asked}
 
 -- ---- rows of flat programs
 flat_row : (row : Instr) → IsFlatRow row → is_unflat row ≡ false

@@ -8,8 +8,8 @@ use Rattle.code_parts.specs.Exchanged.{HasNoRepeats, IsMerged}
 use Rattle.code_parts.specs.Fused.{IsFused}
 use Rattle.temp_norm.specs.Normalised.{normalised}
 use Rattle.bound_check.specs.Checked.{checked}
-use Rattle.fuse_contract.specs.Contracting.{contracted}
-use Rattle.fuse_contract.specs.Fusing.{fused}
+use Rattle.compiled_sizes.specs.of_fuse_contract.Contracting.{contracted}
+use Rattle.compiled_sizes.specs.of_fuse_contract.Fusing.{fused}
 use Rattle.comm_needs.specs.Needs.{planned}
 use Rattle.comm_combine.specs.Merge.{neighbours_merged}
 use Rattle.comm_combine.specs.Repeats.{repeats_dropped}
@@ -19,16 +19,16 @@ use Rattle.comm_early.specs.Send.{sent_early}
 use Rattle.comm_early.proofs.EarlyLemmas as starts
 use Rattle.node_emit.specs.Emit.{emitted}
 use Rattle.node_emit.proofs.TreeLemmas.{early_stay, fused_stay, merged_stay, repeats_stay}
-use Rattle.pass_parts.specs.Parts.{CanBeFused, HasNoCellLeft}
-use Rattle.pass_parts.proofs.ContractedLemmas.{none_left}
-use Rattle.pass_parts.proofs.FusedCells.{contracted_fused}
-use Rattle.pass_parts.proofs.FusedEarly.{still_fused}
-use Rattle.pass_parts.proofs.FusedLoops.{all_joined}
-use Rattle.pass_parts.proofs.FusedPasses.{dropped_fused, merged_fused, planned_fused}
-use Rattle.pass_parts.proofs.LeftLemmas.{dropped_left, early_left, emitted_left, merged_left}
-use Rattle.pass_parts.proofs.LeftLemmas.{none_could, planned_left}
+use Rattle.compiled_sizes.specs.of_pass_parts.Parts.{CanBeFused, HasNoCellLeft}
+use Rattle.compiled_sizes.proofs.of_pass_parts.ContractedLemmas.{none_left}
+use Rattle.compiled_sizes.proofs.of_pass_parts.FusedCells.{contracted_fused}
+use Rattle.compiled_sizes.proofs.of_pass_parts.FusedEarly.{still_fused}
+use Rattle.compiled_sizes.proofs.of_pass_parts.FusedLoops.{all_joined}
+use Rattle.compiled_sizes.proofs.of_pass_parts.FusedPasses.{dropped_fused, merged_fused, planned_fused}
+use Rattle.compiled_sizes.proofs.of_pass_parts.LeftLemmas.{dropped_left, early_left, emitted_left, merged_left}
+use Rattle.compiled_sizes.proofs.of_pass_parts.LeftLemmas.{none_could, planned_left}
 use Rattle.zpl_claims.specs.Build.{Build}
-use Rattle.zpl_compile.specs.Compile.{emitted_for, if_asked, plan_of, settled}
+use Rattle.compiled_sizes.specs.of_zpl_compile.Compile.{emitted_for, if_asked, plan_of, settled}
 
 -- ---- a pass that is run where it is asked for
 reached : (P : Tables → Type 0) (pass : Tables → Tables) (b : Bool) (code : Tables) → b ≡ true

@@ -5,20 +5,20 @@ use Rattle.zpl_names.specs.Expansion.{source_size}
 use Rattle.code_parts.specs.Counts.{code_size, count_of, is_counted, is_loop, is_vote}
 use Rattle.grid_layout.specs.Layout.{Arrangement}
 use Rattle.temp_norm.specs.Normalised.{loops_on_themselves}
-use Rattle.lowering_sizes.specs.Sizes.{HasTokens}
-use Rattle.lowering_sizes.proofs.CountedProgram.{count_law}
-use Rattle.lowering_sizes.proofs.TextLemmas.{size_law}
+use Rattle.compiled_sizes.specs.of_lowering_sizes.Sizes.{HasTokens}
+use Rattle.compiled_sizes.proofs.of_lowering_sizes.CountedProgram.{count_law}
+use Rattle.compiled_sizes.proofs.of_lowering_sizes.TextLemmas.{size_law}
 use Rattle.zpl_claims.specs.Build.{Build}
 use Rattle.zpl_claims.specs.Origin.{Origin}
 use Rattle.zpl_claims.specs.Tidy.{IsLean, IsTidy}
-use Rattle.zpl_compile.specs.Compile.{compiled}
+use Rattle.compiled_sizes.specs.of_zpl_compile.Compile.{compiled}
 use Rattle.compiled_sizes.specs.Lowered.{IsLowered}
 use Rattle.compiled_sizes.proofs.BaseLemmas.{members_once, none_unflat, shifts_once}
 use Rattle.compiled_sizes.proofs.CheckLemmas.{still_undecided}
 use Rattle.compiled_sizes.proofs.LayoutLemmas.{laid_out, trees}
 use Rattle.compiled_sizes.proofs.PassLemmas.{IsEnded, all_compiled}
 use Rattle.compiled_sizes.proofs.ThemselvesLemmas.{themselves_read}
-use Rattle.lowering_checks.proofs.StandLemmas.{stands_from}
+use Rattle.compiled_sizes.proofs.of_lowering_checks.StandLemmas.{stands_from}
 use Rattle.compiled_tidy.specs.Lowered.{IsLoweredTidily, lowered_for}
 use Rattle.compiled_tidy.proofs.FlatLemmas.{can_be_fused, first_fits}
 use Rattle.compiled_tidy.proofs.LetterLemmas.{all_contracted, all_early, all_fused, all_merged, all_new}

@@ -4,10 +4,10 @@ use Rattle.zpl_tree.specs.Syntax.{Program}
 use Rattle.node_form.specs.declared.tables.Tables.{Tables}
 use Rattle.grid_meaning.specs.Stored.{arrangement_of}
 use Rattle.zpl_lowering.specs.Tables.{flat_tables}
-use Rattle.lowering_sizes.specs.Sizes.{HasTokens}
-use Rattle.pass_parts.specs.Checks.{ChecksWhatFollows}
-use Rattle.lowering_checks.specs.Stands.{PutsAlike, ReadsApart}
-use Rattle.lowering_checks.specs.Totals.{FirstPuts, NoneAccumulates}
+use Rattle.compiled_sizes.specs.of_lowering_sizes.Sizes.{HasTokens}
+use Rattle.compiled_sizes.specs.of_pass_parts.Checks.{ChecksWhatFollows}
+use Rattle.compiled_sizes.specs.of_lowering_checks.Stands.{PutsAlike, ReadsApart}
+use Rattle.compiled_sizes.specs.of_lowering_checks.Totals.{FirstPuts, NoneAccumulates}
 use Rattle.zpl_claims.specs.Build.{Build}
 use Rattle.zpl_claims.specs.Origin.{Origin}
 use Rattle.compiled_sizes.specs.Lowered.{IsLowered}

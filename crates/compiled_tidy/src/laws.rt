@@ -7,21 +7,23 @@ ghost use Rattle.code_parts.specs.Contracted.{IsContracted};
 ghost use Rattle.code_parts.specs.Early.{IsEarly};
 ghost use Rattle.code_parts.specs.Exchanged.{HasNoRepeats, IsMerged};
 ghost use Rattle.code_parts.specs.Fused.{IsFused};
-ghost use Rattle.pass_parts.specs.Checks.{ChecksWhatFollows, StandsWithWhatFollows};
+ghost use Rattle.compiled_sizes.specs.of_pass_parts.Checks.{ChecksWhatFollows, StandsWithWhatFollows};
 ghost use Rattle.zpl_claims.specs.Build.{Build};
 ghost use Rattle.zpl_claims.specs.Origin.{Origin, origin_of};
 ghost use Rattle.zpl_claims.specs.Tidy.{IsLean, IsTidy};
-ghost use Rattle.zpl_compile.specs.Compile.{compiled};
+ghost use Rattle.compiled_sizes.specs.of_zpl_compile.Compile.{compiled};
 ghost use Rattle.compiled_tidy.specs.Accepted.{IsAcceptedText};
 ghost use Rattle.compiled_tidy.specs.Lowered.{IsLoweredTidily, lowered_for};
 
-use lowered_flat::{declarations_fit, lowered_programs_are_flat, parsed_names_stand_apart};
-use lowering_checks::{
+use compiled_sizes::lowering_checks::{
     checks_say_what_follows, loops_are_checked, loops_read_apart, puts_are_alike,
     totals_stand_apart,
 };
-use lowering_sizes::texts_hold_their_words;
+use compiled_sizes::lowering_sizes::texts_hold_their_words;
 use program_boxes::boxes_of_texts_are_stored;
+use program_boxes::lowered_flat::{
+    declarations_fit, lowered_programs_are_flat, parsed_names_stand_apart,
+};
 
 /// The code of a program is free of what each optimisation leaves out that is asked for, whichever
 /// others are: of repeated exchanges, of exchanges that could be one, and of starts that could be

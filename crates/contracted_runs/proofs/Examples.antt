@@ -16,8 +16,8 @@ use Rattle.node_form.specs.declared.instructions.Instr.TheVariants as instr
 use Rattle.node_form.specs.declared.tables.Tables.{Tables}
 use Rattle.node_form.specs.declared.words.ExprOp.TheVariants.{Const, Coord, Here, Pair}
 use Rattle.row_runs.specs.Run.{Ends, Result, Stop}
-use Rattle.flat_form.specs.Act.{flat_run}
-use Rattle.flat_form.specs.Row.{CloseWhile, Loop, Member, OpenWhile, Plain, Put, Words, with_rows}
+use Rattle.normal_runs.specs.of_flat_form.Act.{flat_run}
+use Rattle.normal_runs.specs.of_flat_form.Row.{CloseWhile, Loop, Member, OpenWhile, Plain, Put, Words, with_rows}
 use Rattle.fuse_contract.specs.Contracting.{contracted, contracted_arrays}
 
 abbrev line : ℤ → ℤ → Region

@@ -18,10 +18,10 @@ use Rattle.node_form.specs.Nest.{Looping, Repeating, members_of}
 use Rattle.nest_meaning.specs.Units.{units_of}
 use Rattle.code_parts.specs.Uses.{arrays_in, as_list, exprs_of, member_words, named_by, put_by}
 use Rattle.code_parts.specs.Uses.{rows_or_none, words_of}
-use Rattle.flat_form.specs.Laws.{AreRenumbered, BothChoose, BothElse, BothJoin, BothKeep, BothLoop}
-use Rattle.flat_form.specs.Laws.{BothMasks, BothNothing, BothPut, BothRepeat, HaveMasks, HaveWords}
-use Rattle.flat_form.specs.Laws.{NoMasks}
-use Rattle.flat_form.specs.Row.{Words}
+use Rattle.normal_runs.specs.of_flat_form.Laws.{AreRenumbered, BothChoose, BothElse, BothJoin, BothKeep, BothLoop}
+use Rattle.normal_runs.specs.of_flat_form.Laws.{BothMasks, BothNothing, BothPut, BothRepeat, HaveMasks, HaveWords}
+use Rattle.normal_runs.specs.of_flat_form.Laws.{NoMasks}
+use Rattle.normal_runs.specs.of_flat_form.Row.{Words}
 use Rattle.fuse_contract.specs.Contracting.{begins_it, is_among, is_begun, is_named_in}
 use Rattle.contracted_runs.proofs.PointLemmas.{WordFine, same_number}
 use Rattle.contracted_runs.proofs.UnitLemmas.{BeginFine, ExprIsFine, MaskIsFine, NestIsFine}

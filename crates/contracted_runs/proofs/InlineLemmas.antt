@@ -19,13 +19,13 @@ use Rattle.node_form.specs.Value.{unmoved}
 use Rattle.nest_meaning.specs.Tree.{nest_of}
 use Rattle.nest_meaning.proofs.TreeLemmas.{reads_again, reads_only}
 use Rattle.zpl_region.proofs.ListLemmas.{Among}
-use Rattle.flat_form.specs.Names.{Read, Total, each_word, group_cells, group_puts}
-use Rattle.flat_form.specs.Names.{group_totals, group_words, member_cells, member_puts}
-use Rattle.flat_form.specs.Names.{member_totals}
-use Rattle.flat_form.specs.Names.{row_scalars, word_cells, word_reads, word_scalars}
-use Rattle.flat_form.specs.Row.{Acc, Cell, CloseIf, CloseWhile, Loop, Member, OpenIf, OpenRepeat}
-use Rattle.flat_form.specs.Row.{OpenWhile, Otherwise, Put, Until, Words, group_coded, mask_words}
-use Rattle.flat_form.specs.Row.{member_coded, member_inlined, member_words, numbered, words_at}
+use Rattle.normal_runs.specs.of_flat_form.Names.{Read, Total, each_word, group_cells, group_puts}
+use Rattle.normal_runs.specs.of_flat_form.Names.{group_totals, group_words, member_cells, member_puts}
+use Rattle.normal_runs.specs.of_flat_form.Names.{member_totals}
+use Rattle.normal_runs.specs.of_flat_form.Names.{row_scalars, word_cells, word_reads, word_scalars}
+use Rattle.normal_runs.specs.of_flat_form.Row.{Acc, Cell, CloseIf, CloseWhile, Loop, Member, OpenIf, OpenRepeat}
+use Rattle.normal_runs.specs.of_flat_form.Row.{OpenWhile, Otherwise, Put, Until, Words, group_coded, mask_words}
+use Rattle.normal_runs.specs.of_flat_form.Row.{member_coded, member_inlined, member_words, numbered, words_at}
 use Rattle.fuse_contract.specs.Contracting.{here_or_cell, member_contracted, put_or_cell}
 use Rattle.fuse_contract.specs.Contracting.{word_contracted}
 use Rattle.contracted_runs.proofs.UnitLemmas.{nest_contracted, put_or_keep}

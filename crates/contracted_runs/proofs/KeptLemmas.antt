@@ -42,19 +42,19 @@ use Rattle.node_form.specs.Touch.{IsNamed, IsWritten}
 use Rattle.grid_meaning.specs.Room.{zeros_at}
 use Rattle.grid_meaning.specs.Stored.{no_places}
 use Rattle.grid_meaning.proofs.RegionLemmas.{no_steps}
-use Rattle.flat_form.specs.Act.{act, controlled, flat_run}
-use Rattle.flat_form.specs.Moves.{found, provided, roomed}
-use Rattle.flat_form.specs.Right.{each_matches, matches}
-use Rattle.flat_form.specs.Row.{Loop}
-use Rattle.flat_form.specs.Row.{inlined, member_inlined}
-use Rattle.flat_form.specs.Touches.{DoSame}
-use Rattle.flat_form.specs.Touches as same
-use Rattle.flat_form.specs.Whole.{Whole, registers_of, start_places, start_whole, with_store}
-use Rattle.flat_form.proofs.AgreeLemmas.{Agree, set_alike, set_store}
-use Rattle.flat_form.proofs.ChangeLemmas.{change_written}
-use Rattle.flat_form.proofs.TouchLemmas.{acts_same}
-use Rattle.flat_form.proofs.WholeLemmas.{begin_whole, stay_whole}
-use Rattle.flat_passes.proofs.SeenLemmas.{runs_seen}
+use Rattle.normal_runs.specs.of_flat_form.Act.{act, controlled, flat_run}
+use Rattle.normal_runs.specs.of_flat_form.Moves.{found, provided, roomed}
+use Rattle.normal_runs.specs.of_flat_form.Right.{each_matches, matches}
+use Rattle.normal_runs.specs.of_flat_form.Row.{Loop}
+use Rattle.normal_runs.specs.of_flat_form.Row.{inlined, member_inlined}
+use Rattle.normal_runs.specs.of_flat_form.Touches.{DoSame}
+use Rattle.normal_runs.specs.of_flat_form.Touches as same
+use Rattle.normal_runs.specs.of_flat_form.Whole.{Whole, registers_of, start_places, start_whole, with_store}
+use Rattle.normal_runs.proofs.of_flat_form.AgreeLemmas.{Agree, set_alike, set_store}
+use Rattle.normal_runs.proofs.of_flat_form.ChangeLemmas.{change_written}
+use Rattle.normal_runs.proofs.of_flat_form.TouchLemmas.{acts_same}
+use Rattle.normal_runs.proofs.of_flat_form.WholeLemmas.{begin_whole, stay_whole}
+use Rattle.fuse_contract.proofs.of_flat_passes.SeenLemmas.{runs_seen}
 use Rattle.fuse_contract.specs.Contracting.{arrays_of_row, becomes_cell, cell_among, contracted}
 use Rattle.fuse_contract.specs.Contracting.{contracted_arrays, contracted_from, fits_a_cell}
 use Rattle.fuse_contract.specs.Contracting.{is_among, is_begun, is_named_in}

@@ -10,3 +10,4 @@ pub mod StorageLemmas
 pub mod ThreeLemmas
 pub mod UnitLemmas
 pub mod WriteLemmas
+pub use Rattle.fuse_contract.proofs as of_fuse_contract

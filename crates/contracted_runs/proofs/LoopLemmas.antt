@@ -37,23 +37,23 @@ use Rattle.nest_meaning.specs.Units.{units_of}
 use Rattle.nest_meaning.proofs.TreeLemmas.{reads_again}
 use Rattle.code_parts.specs.Uses.{as_list, exprs_of, member_words as number_words, shifted_in}
 use Rattle.code_parts.specs.Uses.{arrays_in, named_by, put_by, words_of}
-use Rattle.flat_form.specs.Act.{act}
-use Rattle.flat_form.specs.Laws.{AreRenumbered, AreTrees, BothTrees}
-use Rattle.flat_form.specs.Loop.{Column, all_awaiting, awaiting, loop_stands, looped}
-use Rattle.flat_form.specs.Loop.{start_columns, tree_does, units_do}
-use Rattle.flat_form.specs.Names.{Total, each_word, group_cells, group_puts, group_reads}
-use Rattle.flat_form.specs.Names.{group_totals, group_words, member_cells, member_puts}
-use Rattle.flat_form.specs.Names.{row_scalars, word_cells, word_reads, word_scalars}
-use Rattle.flat_form.specs.Right.{all_begin, are_settled, can_read, can_write, each_matches}
-use Rattle.flat_form.specs.Right.{has_places, is_settled, matches, total_begins, totals_begin}
-use Rattle.flat_form.specs.Right.{are_distinct, is_among, is_value, no_flood, writes_well}
-use Rattle.flat_form.specs.Row.{Loop, Member, Words, group_coded, member_inlined}
-use Rattle.flat_form.specs.Row.{mask_words, member_words, words_at}
-use Rattle.flat_form.specs.States.{IsStoreOf, IsWhole}
-use Rattle.flat_form.specs.Whole.{Whole}
-use Rattle.flat_form.proofs.AgreeLemmas.{Agree, list_all_same, set_awaited}
-use Rattle.flat_form.proofs.LoopLemmas.{read_same, write_same}
-use Rattle.flat_form.proofs.TreeLemmas.{groups_inline}
+use Rattle.normal_runs.specs.of_flat_form.Act.{act}
+use Rattle.normal_runs.specs.of_flat_form.Laws.{AreRenumbered, AreTrees, BothTrees}
+use Rattle.normal_runs.specs.of_flat_form.Loop.{Column, all_awaiting, awaiting, loop_stands, looped}
+use Rattle.normal_runs.specs.of_flat_form.Loop.{start_columns, tree_does, units_do}
+use Rattle.normal_runs.specs.of_flat_form.Names.{Total, each_word, group_cells, group_puts, group_reads}
+use Rattle.normal_runs.specs.of_flat_form.Names.{group_totals, group_words, member_cells, member_puts}
+use Rattle.normal_runs.specs.of_flat_form.Names.{row_scalars, word_cells, word_reads, word_scalars}
+use Rattle.normal_runs.specs.of_flat_form.Right.{all_begin, are_settled, can_read, can_write, each_matches}
+use Rattle.normal_runs.specs.of_flat_form.Right.{has_places, is_settled, matches, total_begins, totals_begin}
+use Rattle.normal_runs.specs.of_flat_form.Right.{are_distinct, is_among, is_value, no_flood, writes_well}
+use Rattle.normal_runs.specs.of_flat_form.Row.{Loop, Member, Words, group_coded, member_inlined}
+use Rattle.normal_runs.specs.of_flat_form.Row.{mask_words, member_words, words_at}
+use Rattle.normal_runs.specs.of_flat_form.States.{IsStoreOf, IsWhole}
+use Rattle.normal_runs.specs.of_flat_form.Whole.{Whole}
+use Rattle.normal_runs.proofs.of_flat_form.AgreeLemmas.{Agree, list_all_same, set_awaited}
+use Rattle.normal_runs.proofs.of_flat_form.LoopLemmas.{read_same, write_same}
+use Rattle.normal_runs.proofs.of_flat_form.TreeLemmas.{groups_inline}
 use Rattle.fuse_contract.specs.Contracting.{cell_among, is_begun, is_named_in, is_shifted_in}
 use Rattle.fuse_contract.specs.Contracting.{with_cells, word_contracted}
 use Rattle.normal_runs.proofs.PlaceLemmas.{are_members, members_apart, moved_none}

@@ -19,12 +19,12 @@ use Rattle.nest_meaning.specs.Alike.{AreLeaves, AreMasks, AreValues}
 use Rattle.nest_meaning.specs.Alike.{Both}
 use Rattle.nest_meaning.specs.Alike.{JoinLeaf, KeepLeaf, Masks, NoMasks, PutLeaf}
 use Rattle.nest_meaning.specs.Nested.{Ways}
-use Rattle.flat_form.specs.Loop.{Joins, Log, Point, Puts, Write, log_ways, logged}
-use Rattle.flat_form.specs.Loop.{operands_at}
-use Rattle.flat_form.specs.Right.{is_unmoved}
-use Rattle.flat_form.specs.Row.{Words}
-use Rattle.flat_form.specs.Whole.{Whole}
-use Rattle.flat_form.proofs.AgreeLemmas.{Agree, set_alike}
+use Rattle.normal_runs.specs.of_flat_form.Loop.{Joins, Log, Point, Puts, Write, log_ways, logged}
+use Rattle.normal_runs.specs.of_flat_form.Loop.{operands_at}
+use Rattle.normal_runs.specs.of_flat_form.Right.{is_unmoved}
+use Rattle.normal_runs.specs.of_flat_form.Row.{Words}
+use Rattle.normal_runs.specs.of_flat_form.Whole.{Whole}
+use Rattle.normal_runs.proofs.of_flat_form.AgreeLemmas.{Agree, set_alike}
 use Rattle.fuse_contract.specs.Contracting.{here_or_cell, word_contracted}
 use Rattle.normal_runs.proofs.PlaceLemmas.{set_apart, set_length}
 

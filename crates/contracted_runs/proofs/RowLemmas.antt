@@ -17,9 +17,9 @@ use Rattle.node_form.specs.declared.words.ExprOp.TheVariants as word
 use Rattle.node_form.specs.Fits.{FitsAt, FitsPart, HasScalarExpr, IsScalarWord}
 use Rattle.node_form.specs.Touch.{IsNamed, IsNamedByExpr, IsNamedByPart, IsNamedByWord, IsWritten}
 use Rattle.code_parts.specs.Uses.{as_list}
-use Rattle.flat_form.specs.Row.{Dims, Number, Set, Span, Truth, Unless, Words, inlined}
-use Rattle.flat_form.specs.Row.{part_inlined}
-use Rattle.flat_form.specs.Row.{words_at}
+use Rattle.normal_runs.specs.of_flat_form.Row.{Dims, Number, Set, Span, Truth, Unless, Words, inlined}
+use Rattle.normal_runs.specs.of_flat_form.Row.{part_inlined}
+use Rattle.normal_runs.specs.of_flat_form.Row.{words_at}
 use Rattle.fuse_contract.specs.Contracting.{arrays_of_row, with_cells, word_contracted, cell_among}
 use Rattle.normal_runs.proofs.NameLemmas.{any_all, some_all}
 

@@ -34,12 +34,12 @@ use Rattle.node_form.specs.Touch.{IsWritten, IsWrittenByMember}
 use Rattle.node_form.specs.Value.{Computed, Divides, Gives, Lacks, and_then, mapped}
 use Rattle.grid_meaning.specs.Stored.{no_places}
 use Rattle.grid_meaning.proofs.RegionLemmas.{length-each}
-use Rattle.flat_form.specs.Act.{act, control_of, controlled}
-use Rattle.flat_form.specs.Right.{are_settled}
-use Rattle.flat_form.specs.Row.{inlined}
-use Rattle.flat_form.specs.Whole.{Whole, registers_of, start_whole}
-use Rattle.flat_form.proofs.ChangeLemmas.{change_written}
-use Rattle.flat_form.proofs.InlineLemmas.{control_inline}
+use Rattle.normal_runs.specs.of_flat_form.Act.{act, control_of, controlled}
+use Rattle.normal_runs.specs.of_flat_form.Right.{are_settled}
+use Rattle.normal_runs.specs.of_flat_form.Row.{inlined}
+use Rattle.normal_runs.specs.of_flat_form.Whole.{Whole, registers_of, start_whole}
+use Rattle.normal_runs.proofs.of_flat_form.ChangeLemmas.{change_written}
+use Rattle.normal_runs.proofs.of_flat_form.InlineLemmas.{control_inline}
 
 abbrev pub ShortIn : List Region → Type 0
 ShortIn slots =

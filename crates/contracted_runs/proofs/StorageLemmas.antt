@@ -13,16 +13,16 @@ use Rattle.node_form.specs.Nest.{Nest}
 use Rattle.grid_meaning.specs.Place.{held_with, where_held}
 use Rattle.nest_meaning.specs.Tree.{nest_of}
 use Rattle.nest_meaning.specs.Units.{units_of}
-use Rattle.flat_form.specs.Act.{act}
-use Rattle.flat_form.specs.Loop.{AllFine, AllTold, Column, Joins, Log, Point, Puts, SomeLost}
-use Rattle.flat_form.specs.Loop.{SomeWant, SomeZero, Write, all_awaiting, all_told, all_written}
-use Rattle.flat_form.specs.Loop.{awaiting, columns_behind, from_written, log_written, loop_stands}
-use Rattle.flat_form.specs.Loop.{looped, start_columns, tree_does, unit_at, unit_does, unit_line}
-use Rattle.flat_form.specs.Loop.{units_do, written}
-use Rattle.flat_form.specs.Names.{Total, group_totals, group_words}
-use Rattle.flat_form.specs.Right.{are_settled}
-use Rattle.flat_form.specs.Row.{Loop, Member, Words, group_coded}
-use Rattle.flat_form.specs.Whole.{Whole}
+use Rattle.normal_runs.specs.of_flat_form.Act.{act}
+use Rattle.normal_runs.specs.of_flat_form.Loop.{AllFine, AllTold, Column, Joins, Log, Point, Puts, SomeLost}
+use Rattle.normal_runs.specs.of_flat_form.Loop.{SomeWant, SomeZero, Write, all_awaiting, all_told, all_written}
+use Rattle.normal_runs.specs.of_flat_form.Loop.{awaiting, columns_behind, from_written, log_written, loop_stands}
+use Rattle.normal_runs.specs.of_flat_form.Loop.{looped, start_columns, tree_does, unit_at, unit_does, unit_line}
+use Rattle.normal_runs.specs.of_flat_form.Loop.{units_do, written}
+use Rattle.normal_runs.specs.of_flat_form.Names.{Total, group_totals, group_words}
+use Rattle.normal_runs.specs.of_flat_form.Right.{are_settled}
+use Rattle.normal_runs.specs.of_flat_form.Row.{Loop, Member, Words, group_coded}
+use Rattle.normal_runs.specs.of_flat_form.Whole.{Whole}
 
 abbrev pub storage_of_array : List Array → ℕ → Option Region
 storage_of_array stores array = option_map (λ (store : Array). store.storage)

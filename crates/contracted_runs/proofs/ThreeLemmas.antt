@@ -12,13 +12,13 @@ use Rattle.node_form.specs.declared.members.Member.{Member}
 use Rattle.node_form.specs.declared.members.Member.TheVariants as member
 use Rattle.node_form.specs.declared.tables.Tables.{Tables}
 use Rattle.code_parts.specs.Uses.{members_of}
-use Rattle.flat_passes.proofs.StretchLemmas.{every_append}
-use Rattle.temp_norm.specs.Normalised.{is_like, normalised, temporaries, temporary_like}
-use Rattle.temp_norm.specs.Normalised.{with_one_like, without_storage}
-use Rattle.temp_norm.specs.Pieces.{kind_put, kind_through, mask_reads, reads_shifted, self_put}
-use Rattle.temp_norm.specs.Pieces.{with_kind}
-use Rattle.temp_norm.proofs.PieceLemmas.{temporaries_are, with_all}
-use Rattle.bound_check.specs.Checked.{checked}
+use Rattle.fuse_contract.proofs.of_flat_passes.StretchLemmas.{every_append}
+use Rattle.fuse_contract.specs.of_temp_norm.Normalised.{is_like, normalised, temporaries, temporary_like}
+use Rattle.fuse_contract.specs.of_temp_norm.Normalised.{with_one_like, without_storage}
+use Rattle.fuse_contract.specs.of_temp_norm.Pieces.{kind_put, kind_through, mask_reads, reads_shifted, self_put}
+use Rattle.fuse_contract.specs.of_temp_norm.Pieces.{with_kind}
+use Rattle.fuse_contract.proofs.of_temp_norm.PieceLemmas.{temporaries_are, with_all}
+use Rattle.fuse_contract.specs.of_bound_check.Checked.{checked}
 use Rattle.fuse_contract.specs.Contracting.{contracted}
 use Rattle.fuse_contract.specs.Fusing.{fused}
 use Rattle.contracted_runs.specs.Three.{HaveThreeDims}

@@ -17,14 +17,14 @@ use Rattle.nest_meaning.specs.Nested.{Fine, Lost, Told, Wants, Zero, nested, the
 use Rattle.nest_meaning.specs.Nested.{with_value}
 use Rattle.nest_meaning.specs.Units.{units_of}
 use Rattle.nest_meaning.proofs.AlikeLemmas.{do_as_pairs}
-use Rattle.flat_form.specs.Loop.{AllFine, AllTold, Column, Point, Puts, SomeLost, SomeWant}
-use Rattle.flat_form.specs.Loop.{SomeZero}
-use Rattle.flat_form.specs.Loop.{all_told, all_written, both_told}
-use Rattle.flat_form.specs.Loop.{columns_behind, from_written, log_ways, logged, logging, unit_at}
-use Rattle.flat_form.specs.Loop.{unit_does, unit_line, units_do}
-use Rattle.flat_form.specs.Row.{Words}
-use Rattle.flat_form.specs.Whole.{Whole}
-use Rattle.flat_form.proofs.AgreeLemmas.{Agree}
+use Rattle.normal_runs.specs.of_flat_form.Loop.{AllFine, AllTold, Column, Point, Puts, SomeLost, SomeWant}
+use Rattle.normal_runs.specs.of_flat_form.Loop.{SomeZero}
+use Rattle.normal_runs.specs.of_flat_form.Loop.{all_told, all_written, both_told}
+use Rattle.normal_runs.specs.of_flat_form.Loop.{columns_behind, from_written, log_ways, logged, logging, unit_at}
+use Rattle.normal_runs.specs.of_flat_form.Loop.{unit_does, unit_line, units_do}
+use Rattle.normal_runs.specs.of_flat_form.Row.{Words}
+use Rattle.normal_runs.specs.of_flat_form.Whole.{Whole}
+use Rattle.normal_runs.proofs.of_flat_form.AgreeLemmas.{Agree}
 use Rattle.fuse_contract.specs.Contracting.{word_contracted}
 use Rattle.normal_runs.proofs.PlaceLemmas.{Apart, set_apart, set_length}
 use Rattle.contracted_runs.proofs.PointLemmas.{ArePoints, IsOther, MaskFine, WordFine}

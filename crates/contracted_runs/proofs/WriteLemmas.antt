@@ -17,11 +17,11 @@ use Rattle.node_form.specs.declared.touches.Thing.{Thing}
 use Rattle.node_form.specs.declared.touches.Thing.TheVariants as thing
 use Rattle.node_form.specs.Value.{unmoved}
 use Rattle.grid_meaning.specs.Place.{held_value, held_with, moved_by, value_at, where_held}
-use Rattle.flat_form.specs.Loop.{Column, Joins, Log, Point, Puts, Write, all_written, log_written}
-use Rattle.flat_form.specs.Loop.{logged, written}
-use Rattle.flat_form.specs.Whole.{Whole}
-use Rattle.flat_form.proofs.AgreeLemmas.{Agree}
-use Rattle.flat_form.proofs.AgreeLemmas.{set_scalar, set_store}
+use Rattle.normal_runs.specs.of_flat_form.Loop.{Column, Joins, Log, Point, Puts, Write, all_written, log_written}
+use Rattle.normal_runs.specs.of_flat_form.Loop.{logged, written}
+use Rattle.normal_runs.specs.of_flat_form.Whole.{Whole}
+use Rattle.normal_runs.proofs.of_flat_form.AgreeLemmas.{Agree}
+use Rattle.normal_runs.proofs.of_flat_form.AgreeLemmas.{set_scalar, set_store}
 use Rattle.normal_runs.proofs.PlaceLemmas.{Apart, moved_none, set_apart, set_there}
 use Rattle.contracted_runs.proofs.PointLemmas.{IsOther, differ, drop_if, other_array, same_number}
 use Rattle.contracted_runs.proofs.PointLemmas.{without}

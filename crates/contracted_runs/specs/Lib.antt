@@ -1,1 +1,2 @@
 pub mod Three
+pub use Rattle.fuse_contract.specs as of_fuse_contract

@@ -4,9 +4,9 @@ use Rattle.std.specs.Prelude.{Option, Some, None, option_and_then}
 use Rattle.std.specs.Option.{option_map}
 use Rattle.zpl_arrays.specs.Array.{Array}
 use Rattle.node_form.specs.declared.tables.Tables.{Tables}
-use Rattle.grid_meaning.specs.Delivery.{Delivery, combined_into, delivered, each_word, with_combined, with_words}
-use Rattle.grid_meaning.specs.Local.{Local}
-use Rattle.grid_meaning.specs.Place.{with_values}
+use Rattle.node_messages.specs.of_grid_meaning.Delivery.{Delivery, combined_into, delivered, each_word, with_combined, with_words}
+use Rattle.node_messages.specs.of_grid_meaning.Local.{Local}
+use Rattle.node_messages.specs.of_grid_meaning.Place.{with_values}
 
 module _ (code : Tables) (p : ℕ) (d : Delivery) (local : Local) where
   mapped : (put : Option (List Array)) (b : Bool) (stores : List Array) (next : Local) → put ≡ cond b (Some stores) None

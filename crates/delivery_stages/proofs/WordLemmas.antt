@@ -2,7 +2,7 @@
 use Rattle.std.proofs.Common.{◌≡◌, suc, List, [], ◌∷◌, ◌++◌, length, refl, sym, ap, ◌∙◌, ℤ, append-nil, append_assoc}
 use Rattle.std.specs.Prelude.{Bool, true, false, Option, Some, None, option_and_then}
 use Rattle.std.specs.Option.{option_map}
-use Rattle.grid_meaning.specs.Delivery.{each_word}
+use Rattle.node_messages.specs.of_grid_meaning.Delivery.{each_word}
 use Rattle.node_messages.specs.Reading.{IsAppended, IsRead}
 
 joined_map : (front : List ℤ) (value : ℤ) (rest : Option (List ℤ))

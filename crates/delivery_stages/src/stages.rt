@@ -1,10 +1,10 @@
 //! A stage by the turns that were made.
 ghost use Rattle.std.specs.Prelude.{◌≡◌, ◌<◌, ◌≤◌, length, slice_get, Some};
-ghost use Rattle.node_stages.specs.Partners.{exchanging, flagged};
-ghost use Rattle.node_stages.specs.Stage.{staged};
+ghost use Rattle.node_messages.specs.of_node_stages.Partners.{exchanging, flagged};
+ghost use Rattle.node_messages.specs.of_node_stages.Stage.{staged};
 ghost use Rattle.delivery_stages.specs.Delivering.{delivering};
 
-use node_stages::{MOST, Place, Stage, nth, taking_stage};
+use node_messages::node_stages::{MOST, Place, Stage, nth, taking_stage};
 
 /// The stage at a place of a row that first sends, and then takes.
 fn exchanging_stage(sends: &[bool; MOST], takes: &[bool; MOST], count: u32, place: u64) -> Stage

@@ -12,7 +12,7 @@ use Rattle.grid_meaning.specs.Local.{Local}
 use Rattle.grid_meaning.specs.Owner.{region_in}
 use Rattle.grid_meaning.specs.Place.{value_at, with_values}
 use Rattle.grid_meaning.specs.Stored.{no_places}
-use Rattle.node_messages.specs.Reading.{IsRead}
+use Rattle.exchange_messages.specs.of_node_messages.Reading.{IsRead}
 use Rattle.edge_messages.proofs.SourceLemmas.{put_replaced}
 
 module _ (code : Tables) (p : ℕ) (kind : Border) (array slot : ℕ) (shift : List ℤ) (local : Local) (region : Region)

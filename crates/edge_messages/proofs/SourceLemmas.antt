@@ -12,8 +12,8 @@ use Rattle.zpl_arrays.proofs.ArrayLemmas.{only_place}
 use Rattle.grid_meaning.specs.Delivery.{Delivery, combined_into, each_word, replaced}
 use Rattle.grid_meaning.specs.Local.{Local}
 use Rattle.grid_meaning.specs.Place.{held_value, held_with, value_at, where_held, with_value, with_values}
-use Rattle.node_messages.proofs.ReadLemmas.{left}
-use Rattle.node_messages.specs.Reading.{IsAppended}
+use Rattle.exchange_messages.proofs.of_node_messages.ReadLemmas.{left}
+use Rattle.exchange_messages.specs.of_node_messages.Reading.{IsAppended}
 
 drop_at : (ts : List (List ℤ)) (i : ℕ) (t : List ℤ) → slice_get ts i ≡ Some t → drop i ts ≡ t ∷ drop (i + 1) ts
 drop_at [] i t is = cc

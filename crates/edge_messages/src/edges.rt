@@ -11,12 +11,12 @@ ghost use Rattle.grid_meaning.specs.Stored.{arrangement_of};
 ghost use Rattle.zpl_region.specs.Dim.{IsUpTo};
 
 use crate::sources::push_sources;
+use exchange_messages::node_stages::edge_piece;
 use exchange_messages::put_values;
 use grid_layout::Layout;
 use grid_links::Words;
 use node_form::NodeProgram;
 use node_local::Local;
-use node_stages::edge_piece;
 use std::alloc::{AllocError, Global};
 use zpl_nums::Border;
 use zpl_region::{Region, Vec3};

@@ -6,3 +6,5 @@ mod edges;
 mod sources;
 
 pub use edges::{edge_alone, edge_taken, edge_words};
+pub use exchange_messages;
+pub use exchange_messages::node_stages;

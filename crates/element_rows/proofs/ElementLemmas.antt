@@ -1,7 +1,7 @@
 -- Lemmas on arrays that aren't there.
 use Rattle.std.proofs.Common.{◌≡◌, Bool, true, false, if◌then◌else◌, List, [], ◌∷◌, map, get_or, ℤ, pos, refl, sym, ◌∙◌, ap}
 use Rattle.zpl_arrays.specs.Array.{Array, element, has_place, place_among}
-use Rattle.zpl_meaning.specs.Store.{no_array}
+use Rattle.plain_rows.specs.of_zpl_meaning.Store.{no_array}
 use Rattle.zpl_region.proofs.ListLemmas.{cons_same}
 
 nothing_there : (t : List ℤ) → element no_array t ≡ pos 0

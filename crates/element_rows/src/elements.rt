@@ -5,7 +5,7 @@ ghost use Rattle.zpl_region.specs.Ends.{tuple_count};
 ghost use Rattle.zpl_region.specs.Region.{IsRegion, members, tuple_moved};
 ghost use Rattle.zpl_arrays.specs.Around.{around_source};
 ghost use Rattle.zpl_arrays.specs.Array.{element};
-ghost use Rattle.zpl_meaning.specs.Store.{array_at};
+ghost use Rattle.plain_rows.specs.of_zpl_meaning.Store.{array_at};
 
 use crate::around::push_each_around;
 use array_store::Store;

@@ -5,3 +5,4 @@ mod around;
 mod elements;
 
 pub use elements::{push_element, push_shifted, push_wrapped};
+pub use plain_rows;

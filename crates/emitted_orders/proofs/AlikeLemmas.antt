@@ -11,10 +11,10 @@ use Rattle.node_form.specs.declared.instructions.Instr.TheVariants as instr
 use Rattle.node_form.specs.declared.tables.Tables.{Tables}
 use Rattle.row_runs.specs.Run.{Does, Effect, Ends, Result, runs, stopped, walked, went}
 use Rattle.row_runs.specs.Growth.{effect_stops, rows_stop, stops_itself}
-use Rattle.plan_meaning.specs.Abreast.{Abreast, start_abreast}
-use Rattle.plan_meaning.specs.Act.{Followed, all_followed, found, is_vote_of, plan_act}
-use Rattle.plan_meaning.specs.Act.{plan_rows, plan_run, row_does}
-use Rattle.plan_meaning.specs.Loops.{looped}
+use Rattle.plan_orders.specs.of_plan_meaning.Abreast.{Abreast, start_abreast}
+use Rattle.plan_orders.specs.of_plan_meaning.Act.{Followed, all_followed, found, is_vote_of, plan_act}
+use Rattle.plan_orders.specs.of_plan_meaning.Act.{plan_rows, plan_run, row_does}
+use Rattle.plan_orders.specs.of_plan_meaning.Loops.{looped}
 use Rattle.node_emit.specs.Emit.{along_tree, emitted}
 use Rattle.plan_orders.specs.InStep.{stops_within}
 

@@ -8,7 +8,7 @@ use Rattle.node_form.specs.declared.instructions.Instr.TheVariants as instr
 use Rattle.node_form.specs.declared.tables.Tables.{Tables}
 use Rattle.node_form.specs.declared.words.ExprOp.TheVariants as word
 use Rattle.row_runs.specs.Run.{Ends, Result}
-use Rattle.plan_meaning.specs.Act.{plan_run}
+use Rattle.plan_orders.specs.of_plan_meaning.Act.{plan_run}
 use Rattle.node_emit.specs.Emit.{emitted}
 use Rattle.plan_orders.specs.InStep.{stops_within}
 

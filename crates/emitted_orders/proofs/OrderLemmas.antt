@@ -6,7 +6,7 @@ use Rattle.std.proofs.Math.Nat.{le-max_left}
 use Rattle.std.proofs.lemmas.List.{length-map}
 use Rattle.node_form.specs.declared.tables.Tables.{Tables}
 use Rattle.row_runs.specs.Run.{Result}
-use Rattle.plan_meaning.specs.Act.{plan_run}
+use Rattle.plan_orders.specs.of_plan_meaning.Act.{plan_run}
 use Rattle.node_emit.specs.Emit.{along_tree, emitted}
 use Rattle.plan_orders.specs.Brings.{row_most}
 use Rattle.plan_orders.specs.InStep.{ComesInStep, IsInStep, least_moves, run_most, some_turns, stops_within}

@@ -4,7 +4,7 @@ use Rattle.grid_links.specs.Laws.{HoldsAtMost}
 use Rattle.node_form.specs.declared.tables.Tables.{Tables}
 use Rattle.grid_meaning.specs.Grid.{system_over}
 use Rattle.row_runs.specs.Run.{Wrong}
-use Rattle.plan_meaning.specs.Act.{plan_run}
+use Rattle.plan_orders.specs.of_plan_meaning.Act.{plan_run}
 use Rattle.plan_orders.specs.InStep.{IsInStep, least_moves, run_most, some_turns, stops_within}
 
 -- For each run of the plan of at most a jumps and tests, and n turns of each loop within a group,

@@ -9,7 +9,7 @@ ghost use Rattle.node_form.specs.declared.tables.Tables.{Tables as Code};
 ghost use Rattle.node_form.specs.Fits.{Fits};
 ghost use Rattle.grid_meaning.specs.Grid.{IsCapacity};
 ghost use Rattle.grid_meaning.specs.State.{HasThree};
-ghost use Rattle.plan_meaning.specs.Act.{plan_run};
+ghost use Rattle.plan_orders.specs.of_plan_meaning.Act.{plan_run};
 ghost use Rattle.node_emit.specs.Emit.{emitted};
 ghost use Rattle.plan_orders.specs.Brings.{HaveOrders};
 ghost use Rattle.plan_orders.specs.Open.{HoldsOpen};

@@ -16,7 +16,7 @@ use Rattle.zpl_meaning.specs.Calls.{formals_in}
 use Rattle.zpl_meaning.proofs.DepthLemmas.{Each, each_left, each_right}
 use Rattle.zpl_meaning.proofs.ProperLemmas.{not_false, taken}
 use Rattle.row_runs.specs.Straight.{Every}
-use Rattle.shown_programs.specs.Text.{behind_prefixes}
+use Rattle.shown_texts.specs.of_shown_programs.Text.{behind_prefixes}
 use Rattle.shown_texts.specs.Forms.{HasOperatedForm, HasPartForm, IsShatteredOr, HasAssignForm, HasStmtForm, HaveForms, HasForm, HaveArmForms, HasArmForm, HasElseForm, HasReturnForm, HaveAnswerForms, HasAnswerForm}
 use Rattle.every_form.proofs.ExprLemmas.{whole_operated, step_operated, actuals_operated, items_operated}
 use Rattle.every_form.proofs.ShatteredLemmas.{form_parted}

@@ -8,6 +8,8 @@ ghost use Rattle.zpl_tree.specs.Syntax.{Program};
 ghost use Rattle.zpl_names.specs.Accepted.{IsFaultless};
 ghost use Rattle.shown_texts.specs.Forms.{HasShownForms};
 
+pub use shown_texts;
+pub use shown_texts::shown_programs;
 use zpl_names::{faultless_programs_leave_nothing_open, procedures_are_there};
 
 /// All that the procedures of a program without faults do, down the chains of its calls, is of the

@@ -6,11 +6,11 @@ use Rattle.std.specs.Option.{option_map}
 use Rattle.std.proofs.lemmas.List.Sums.{sum_by-cons}
 use Rattle.zpl_region.specs.declared.regions.Region.{Region}
 use Rattle.zpl_arrays.specs.Array.{Array, element, has_place, updated}
-use Rattle.node_form.specs.declared.arrays.Item.{Item}
-use Rattle.node_form.specs.declared.tables.Tables.{Tables}
-use Rattle.grid_meaning.specs.Exchange.{places_of, word_count, words_written}
-use Rattle.grid_meaning.specs.Local.{Local}
-use Rattle.grid_meaning.specs.Place.{held_with, value_at, values_at, where_held, with_value, with_values}
+use Rattle.node_messages.specs.of_node_form.declared.arrays.Item.{Item}
+use Rattle.node_messages.specs.of_node_form.declared.tables.Tables.{Tables}
+use Rattle.node_messages.specs.of_grid_meaning.Exchange.{places_of, word_count, words_written}
+use Rattle.node_messages.specs.of_grid_meaning.Local.{Local}
+use Rattle.node_messages.specs.of_grid_meaning.Place.{held_with, value_at, values_at, where_held, with_value, with_values}
 use Rattle.exchange_messages.specs.Held.{are_held, items_held}
 use Rattle.exchange_messages.specs.Writing.{AreWritten}
 use Rattle.zpl_region.specs.Region.{is_before, members}

@@ -3,10 +3,10 @@ use Rattle.std.proofs.Common.{◌≡◌, ℕ, suc, ◌+◌, ◌-◌, ◌<◌, Li
 use Rattle.std.specs.Prelude.{Option}
 use Rattle.std.specs.Option.{option_map}
 use Rattle.std.proofs.lemmas.List.{take_all}
-use Rattle.node_form.specs.declared.arrays.Item.{Item}
-use Rattle.node_form.specs.declared.tables.Tables.{Tables}
-use Rattle.grid_meaning.specs.Exchange.{words_between}
-use Rattle.grid_meaning.specs.Local.{Local}
+use Rattle.node_messages.specs.of_node_form.declared.arrays.Item.{Item}
+use Rattle.node_messages.specs.of_node_form.declared.tables.Tables.{Tables}
+use Rattle.node_messages.specs.of_grid_meaning.Exchange.{words_between}
+use Rattle.node_messages.specs.of_grid_meaning.Local.{Local}
 
 -- the words that were read, and behind them those of the items that are left
 abbrev pub words_onward : Tables → Local → ℕ → ℕ → List ℤ → List Item → Option (List ℤ)

@@ -8,12 +8,12 @@ use Rattle.zpl_region.specs.declared.regions.Region.{Region}
 use Rattle.zpl_region.specs.Region.{is_before, members}
 use Rattle.zpl_region.proofs.LawLemmas.{next_member}
 use Rattle.zpl_arrays.specs.Array.{Array}
-use Rattle.node_form.specs.declared.arrays.Item.{Item}
-use Rattle.node_form.specs.declared.tables.Tables.{Tables}
-use Rattle.grid_meaning.specs.Exchange.{places_of, words_written}
-use Rattle.grid_meaning.specs.Local.{Local}
-use Rattle.grid_meaning.specs.Place.{with_value, with_values}
-use Rattle.node_stages.specs.Slots.{at_slots}
+use Rattle.node_messages.specs.of_node_form.declared.arrays.Item.{Item}
+use Rattle.node_messages.specs.of_node_form.declared.tables.Tables.{Tables}
+use Rattle.node_messages.specs.of_grid_meaning.Exchange.{places_of, words_written}
+use Rattle.node_messages.specs.of_grid_meaning.Local.{Local}
+use Rattle.node_messages.specs.of_grid_meaning.Place.{with_value, with_values}
+use Rattle.node_messages.specs.of_node_stages.Slots.{at_slots}
 use Rattle.exchange_messages.specs.Writing.{IsWritten}
 
 drop_at : {X : Type 0} (xs : List X) (i : ℕ) (x : X) → slice_get xs i ≡ Some x → drop i xs ≡ x ∷ drop (i + 1) xs

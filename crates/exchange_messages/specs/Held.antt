@@ -2,11 +2,11 @@
 use Rattle.std.specs.Prelude.{ℕ, Bool, ℤ, List, is_some}
 use Rattle.std.specs.List.{list_all}
 use Rattle.zpl_arrays.specs.Array.{Array}
-use Rattle.node_form.specs.declared.arrays.Item.{Item}
-use Rattle.node_form.specs.declared.tables.Tables.{Tables}
-use Rattle.grid_meaning.specs.Exchange.{places_of}
-use Rattle.grid_meaning.specs.Local.{Local}
-use Rattle.grid_meaning.specs.Place.{values_at}
+use Rattle.node_messages.specs.of_node_form.declared.arrays.Item.{Item}
+use Rattle.node_messages.specs.of_node_form.declared.tables.Tables.{Tables}
+use Rattle.node_messages.specs.of_grid_meaning.Exchange.{places_of}
+use Rattle.node_messages.specs.of_grid_meaning.Local.{Local}
+use Rattle.node_messages.specs.of_grid_meaning.Place.{values_at}
 
 -- all these places of an array
 abbrev pub are_held : List Array → ℕ → List (List ℤ) → Bool

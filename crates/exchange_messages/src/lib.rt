@@ -6,5 +6,6 @@ mod held;
 mod starts;
 mod writes;
 
+pub use node_messages::{node_local, node_stages};
 pub use starts::start_words;
 pub use writes::{finish_taken, put_values};

@@ -1,18 +1,18 @@
 //! The words that `start` sends.
 ghost use Rattle.std.specs.Prelude.{◌≡◌, ◌<◌, All, IfOk};
 ghost use Rattle.std.specs.List.{AllZip};
-ghost use Rattle.grid_meaning.specs.Exchange.{started};
-ghost use Rattle.grid_meaning.specs.Local.{processors};
-ghost use Rattle.grid_meaning.specs.State.{IsSlot};
-ghost use Rattle.grid_meaning.specs.Stored.{arrangement_of};
-ghost use Rattle.node_form.specs.Fits.{FitsItem};
+ghost use Rattle.node_messages.specs.of_grid_meaning.Exchange.{started};
+ghost use Rattle.node_messages.specs.of_grid_meaning.Local.{processors};
+ghost use Rattle.node_messages.specs.of_grid_meaning.State.{IsSlot};
+ghost use Rattle.node_messages.specs.of_grid_meaning.Stored.{arrangement_of};
+ghost use Rattle.node_messages.specs.of_node_form.Fits.{FitsItem};
 
 use grid_layout::Layout;
 use grid_links::Words;
-use node_form::{Item, NodeProgram};
-use node_local::Local;
+use node_messages::node_form::{Item, NodeProgram};
+use node_messages::node_local::Local;
+use node_messages::node_stages::item_piece;
 use node_messages::push_values;
-use node_stages::item_piece;
 use std::alloc::{AllocError, Global};
 
 /// The words of the message from processor p in `start`, with these items: one item after another

@@ -2,20 +2,20 @@
 ghost use Rattle.std.specs.Prelude.{◌≡◌, ◌<◌, All, length, drop, Some, None, false, if◌then◌else◌};
 ghost use Rattle.std.specs.List.{AllZip};
 ghost use Rattle.exchange_messages.specs.Writing.{AreWritten};
-ghost use Rattle.grid_meaning.specs.Exchange.{finished, word_count, words_written};
-ghost use Rattle.grid_meaning.specs.Local.{processors};
-ghost use Rattle.grid_meaning.specs.Place.{with_values};
-ghost use Rattle.grid_meaning.specs.State.{IsSlot};
-ghost use Rattle.grid_meaning.specs.Stored.{arrangement_of};
-ghost use Rattle.node_form.specs.Fits.{FitsItem};
+ghost use Rattle.node_messages.specs.of_grid_meaning.Exchange.{finished, word_count, words_written};
+ghost use Rattle.node_messages.specs.of_grid_meaning.Local.{processors};
+ghost use Rattle.node_messages.specs.of_grid_meaning.Place.{with_values};
+ghost use Rattle.node_messages.specs.of_grid_meaning.State.{IsSlot};
+ghost use Rattle.node_messages.specs.of_grid_meaning.Stored.{arrangement_of};
+ghost use Rattle.node_messages.specs.of_node_form.Fits.{FitsItem};
 ghost use Rattle.zpl_region.specs.Region.{IsRegion, members};
 
 use crate::held::{are_held, items_held};
 use grid_layout::Layout;
-use node_form::{Item, NodeProgram};
-use node_local::Local;
-use node_stages::item_piece;
-use region_places::{least, next_after};
+use node_messages::node_form::{Item, NodeProgram};
+use node_messages::node_local::Local;
+use node_messages::node_stages::item_piece;
+use node_messages::region_places::{least, next_after};
 use zpl_region::Region;
 
 /// Puts words at the tuples of a region, one after another, until there are no more of either.

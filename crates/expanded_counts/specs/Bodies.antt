@@ -1,10 +1,10 @@
 -- Procedures as they are counted, and what their numbers add up to over calls.
 use Rattle.std.specs.Prelude.{ℕ, zero, suc, List, [], map, fold, Option, Some, None, slice_get}
-use Rattle.zpl_names.specs.Counts.{body_count, stmt_nodes}
-use Rattle.zpl_names.specs.Declared.{Routine}
-use Rattle.zpl_names.specs.Expansion.{expanded}
-use Rattle.zpl_names.specs.Shapes.{unknown_shapes}
-use Rattle.zpl_names.specs.Sites.{calls_under}
+use Rattle.routine_walks.specs.of_zpl_names.Counts.{body_count, stmt_nodes}
+use Rattle.routine_walks.specs.of_zpl_names.Declared.{Routine}
+use Rattle.routine_walks.specs.of_zpl_names.Expansion.{expanded}
+use Rattle.routine_walks.specs.of_zpl_names.Shapes.{unknown_shapes}
+use Rattle.routine_walks.specs.of_zpl_names.Sites.{calls_under}
 use Rattle.zpl_tree.specs.Syntax.{Program}
 use Rattle.routine_walks.specs.Numbers.{node_of}
 use Rattle.expanded_counts.specs.declared.bodies.Body.{Body}

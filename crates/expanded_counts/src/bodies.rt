@@ -1,9 +1,9 @@
 //! Procedures as they are counted.
 ghost use Rattle.std.specs.Prelude.{◌≡◌, IfOk, map};
 ghost use Rattle.zpl_tree.specs.View.{stmt_of, syntax_of};
-ghost use Rattle.zpl_names.specs.Counts.{body_count, stmt_nodes};
-ghost use Rattle.zpl_names.specs.Declared.{routines_of};
-ghost use Rattle.site_faults.specs.Reach.{call_site_of};
+ghost use Rattle.routine_walks.specs.of_zpl_names.Counts.{body_count, stmt_nodes};
+ghost use Rattle.routine_walks.specs.of_zpl_names.Declared.{routines_of};
+ghost use Rattle.routine_walks.specs.of_site_faults.Reach.{call_site_of};
 ghost use Rattle.routine_walks.specs.Numbers.{node_of};
 ghost use Rattle.routine_walks.specs.Texts.{IsText, names_in, routine_of};
 ghost use Rattle.expanded_counts.specs.Bodies.{body_in, called_numbers, counted, counted_body};
@@ -11,8 +11,8 @@ ghost use Rattle.expanded_counts.specs.Bodies.{body_in, called_numbers, counted,
 use crate::sizes::Sizes;
 use crate::statements::{count_body, count_nodes};
 use name_kinds::{Current, Shapes};
+use routine_walks::site_faults::{Called, Findings};
 use routine_walks::{Routine, Text, walk_under};
-use site_faults::{Called, Findings};
 use std::alloc::{AllocError, Global};
 use zpl_tree::Stmt;
 

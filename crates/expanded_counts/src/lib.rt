@@ -10,3 +10,5 @@ mod sums;
 
 pub use bodies::calls_of;
 pub use excess::{Excess, excess_of};
+pub use routine_walks;
+pub use routine_walks::{zpl_names, zpl_tree};

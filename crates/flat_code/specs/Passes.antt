@@ -5,8 +5,8 @@ use Rattle.code_layout.specs.Room.{HasRoom}
 use Rattle.zpl_claims.specs.declared.options.Options.{Options}
 use Rattle.temp_norm.specs.Normalised.{normalised}
 use Rattle.bound_check.specs.Checked.{checked}
-use Rattle.fuse_contract.specs.Fusing.{fused}
-use Rattle.fuse_contract.specs.Contracting.{contracted}
+use Rattle.pass_fits.specs.of_fuse_contract.Fusing.{fused}
+use Rattle.pass_fits.specs.of_fuse_contract.Contracting.{contracted}
 use Rattle.comm_needs.specs.Needs.{planned}
 use Rattle.comm_combine.specs.Repeats.{repeats_dropped}
 use Rattle.comm_combine.specs.Merge.{neighbours_merged}

@@ -1,8 +1,8 @@
 //! Passes that are run where they are asked for.
 ghost use Rattle.std.specs.Prelude.{◌≡◌, IfOk};
 ghost use Rattle.node_form.specs.Fits.{Fits};
-ghost use Rattle.fuse_contract.specs.Contracting.{contracted};
-ghost use Rattle.fuse_contract.specs.Fusing.{fused};
+ghost use Rattle.pass_fits.specs.of_fuse_contract.Contracting.{contracted};
+ghost use Rattle.pass_fits.specs.of_fuse_contract.Fusing.{fused};
 ghost use Rattle.comm_combine.specs.Merge.{neighbours_merged};
 ghost use Rattle.comm_combine.specs.Repeats.{repeats_dropped};
 ghost use Rattle.comm_early.specs.Send.{sent_early};
@@ -10,8 +10,8 @@ ghost use Rattle.flat_code.specs.Passes.{if_asked, improved, settled};
 
 use comm_combine::{drop_repeats, merge_neighbours};
 use comm_early::send_early;
-use fuse_contract::{contract, fuse};
 use node_form::Tables;
+use pass_fits::fuse_contract::{contract, fuse};
 use std::alloc::{AllocError, Global};
 use zpl_claims::Options;
 

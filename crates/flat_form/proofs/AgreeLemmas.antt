@@ -4,16 +4,16 @@ use Rattle.std.proofs.Common.{true, false, List, [], ◌∷◌, map, Option, Som
 use Rattle.std.specs.Prelude.{slice_get, slice_set, option_and_then, ◌&&◌}
 use Rattle.std.specs.List.{list_all}
 use Rattle.std.specs.Option.{option_map}
-use Rattle.zpl_nums.specs.declared.folds.Fold.{Fold}
-use Rattle.zpl_region.specs.declared.regions.Region.{Region}
-use Rattle.zpl_region.specs.Region.{members}
-use Rattle.zpl_arrays.specs.Array.{Array}
-use Rattle.node_form.specs.declared.tables.Tables.{Tables}
-use Rattle.node_form.specs.declared.touches.Thing.{Thing}
-use Rattle.node_form.specs.declared.touches.Thing.TheVariants as thing
+use Rattle.code_parts.specs.of_zpl_nums.declared.folds.Fold.{Fold}
+use Rattle.code_parts.specs.of_zpl_region.declared.regions.Region.{Region}
+use Rattle.code_parts.specs.of_zpl_region.Region.{members}
+use Rattle.code_parts.specs.of_zpl_arrays.Array.{Array}
+use Rattle.grid_meaning.specs.of_node_form.declared.tables.Tables.{Tables}
+use Rattle.grid_meaning.specs.of_node_form.declared.touches.Thing.{Thing}
+use Rattle.grid_meaning.specs.of_node_form.declared.touches.Thing.TheVariants as thing
 use Rattle.grid_meaning.specs.Place.{held_with, with_value, with_values}
-use Rattle.row_runs.specs.Run.{Step, Does}
-use Rattle.row_runs.specs.Straight.{Every}
+use Rattle.nest_meaning.specs.of_row_runs.Run.{Step, Does}
+use Rattle.nest_meaning.specs.of_row_runs.Straight.{Every}
 use Rattle.flat_form.specs.Moves.{found, moved_in, provided, with_stores}
 use Rattle.flat_form.specs.Touches.{HaveSame, DoSame, BothGo, BothStop}
 use Rattle.flat_form.specs.Whole.{Whole, with_store}

@@ -2,13 +2,13 @@
 use Rattle.std.proofs.Common.{◌≡◌, refl, sym, ◌∙◌, ap, subst, ℕ, zero, suc, List, [], ◌∷◌, Option}
 use Rattle.std.proofs.Common.{ℤ}
 use Rattle.std.specs.Prelude.{slice_get, slice_set}
-use Rattle.zpl_nums.specs.declared.folds.Fold.{Fold}
-use Rattle.zpl_region.specs.declared.regions.Region.{Region}
-use Rattle.zpl_arrays.specs.Array.{Array, updated}
-use Rattle.node_form.specs.declared.tables.Tables.{Tables}
-use Rattle.node_form.specs.declared.touches.Thing.{Thing}
-use Rattle.node_form.specs.declared.touches.Thing.TheVariants as thing
-use Rattle.node_form.specs.Touch.{IsWritten}
+use Rattle.code_parts.specs.of_zpl_nums.declared.folds.Fold.{Fold}
+use Rattle.code_parts.specs.of_zpl_region.declared.regions.Region.{Region}
+use Rattle.code_parts.specs.of_zpl_arrays.Array.{Array, updated}
+use Rattle.grid_meaning.specs.of_node_form.declared.tables.Tables.{Tables}
+use Rattle.grid_meaning.specs.of_node_form.declared.touches.Thing.{Thing}
+use Rattle.grid_meaning.specs.of_node_form.declared.touches.Thing.TheVariants as thing
+use Rattle.grid_meaning.specs.of_node_form.Touch.{IsWritten}
 use Rattle.grid_meaning.specs.Room.{zeros_at}
 use Rattle.flat_form.specs.Touches.{HaveSame, ChangeWritten}
 use Rattle.flat_form.specs.Whole.{Whole, with_store}

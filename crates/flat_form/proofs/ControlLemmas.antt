@@ -2,28 +2,28 @@
 use Rattle.std.proofs.Common.{◌≡◌, refl, ◌∙◌, ap, subst, ℕ, zero, suc, ◌+◌, Bool, true, false}
 use Rattle.std.proofs.Common.{List, [], ◌∷◌, length, take, Option, Some, None, ℤ, pos}
 use Rattle.std.specs.Prelude.{slice_get, option_and_then}
-use Rattle.zpl_nums.specs.declared.ends.TrapKind.{TrapKind}
-use Rattle.zpl_nums.specs.Integer.{is_true}
-use Rattle.zpl_region.specs.declared.dims.Dim.TheVariants as dim
-use Rattle.zpl_region.specs.declared.regions.Region.{Region}
-use Rattle.zpl_region.specs.Tests.{is_within_limit}
-use Rattle.zpl_arrays.specs.Border.{border_conforms}
-use Rattle.zpl_arrays.specs.Reference.{is_reference}
-use Rattle.node_form.specs.declared.instructions.RegionForm.{RegionForm}
-use Rattle.node_form.specs.declared.instructions.SameKind.{SameKind}
-use Rattle.node_form.specs.declared.instructions.Instr.TheVariants as instr
-use Rattle.node_form.specs.declared.tables.Tables.{Tables}
-use Rattle.node_form.specs.declared.touches.Thing.{Thing}
-use Rattle.node_form.specs.declared.touches.Thing.TheVariants as thing
-use Rattle.node_form.specs.declared.words.ExprOp.{ExprOp}
-use Rattle.node_form.specs.declared.words.ExprOp.TheVariants as word
-use Rattle.node_form.specs.Control.{Control, branched, checked, conforms, formed_by}
-use Rattle.node_form.specs.Control.{limited, part_dim, part_dims, region_of, register_value}
-use Rattle.node_form.specs.Control.{with_computed, with_row, with_scalar}
-use Rattle.node_form.specs.Fits.{storage_of}
-use Rattle.node_form.specs.Value.{Computed, Gives, Divides, Lacks, and_then, mapped, read}
-use Rattle.node_form.specs.Value.{scalar_operands, value_of}
-use Rattle.row_runs.specs.Straight.{Every}
+use Rattle.code_parts.specs.of_zpl_nums.declared.ends.TrapKind.{TrapKind}
+use Rattle.code_parts.specs.of_zpl_nums.Integer.{is_true}
+use Rattle.code_parts.specs.of_zpl_region.declared.dims.Dim.TheVariants as dim
+use Rattle.code_parts.specs.of_zpl_region.declared.regions.Region.{Region}
+use Rattle.code_parts.specs.of_zpl_region.Tests.{is_within_limit}
+use Rattle.code_parts.specs.of_zpl_arrays.Border.{border_conforms}
+use Rattle.code_parts.specs.of_zpl_arrays.Reference.{is_reference}
+use Rattle.grid_meaning.specs.of_node_form.declared.instructions.RegionForm.{RegionForm}
+use Rattle.grid_meaning.specs.of_node_form.declared.instructions.SameKind.{SameKind}
+use Rattle.grid_meaning.specs.of_node_form.declared.instructions.Instr.TheVariants as instr
+use Rattle.grid_meaning.specs.of_node_form.declared.tables.Tables.{Tables}
+use Rattle.grid_meaning.specs.of_node_form.declared.touches.Thing.{Thing}
+use Rattle.grid_meaning.specs.of_node_form.declared.touches.Thing.TheVariants as thing
+use Rattle.grid_meaning.specs.of_node_form.declared.words.ExprOp.{ExprOp}
+use Rattle.grid_meaning.specs.of_node_form.declared.words.ExprOp.TheVariants as word
+use Rattle.grid_meaning.specs.of_node_form.Control.{Control, branched, checked, conforms, formed_by}
+use Rattle.grid_meaning.specs.of_node_form.Control.{limited, part_dim, part_dims, region_of, register_value}
+use Rattle.grid_meaning.specs.of_node_form.Control.{with_computed, with_row, with_scalar}
+use Rattle.grid_meaning.specs.of_node_form.Fits.{storage_of}
+use Rattle.grid_meaning.specs.of_node_form.Value.{Computed, Gives, Divides, Lacks, and_then, mapped, read}
+use Rattle.grid_meaning.specs.of_node_form.Value.{scalar_operands, value_of}
+use Rattle.nest_meaning.specs.of_row_runs.Straight.{Every}
 use Rattle.flat_form.specs.Act.{controlled, row_does, tested, without_rows}
 use Rattle.flat_form.specs.Row as row
 use Rattle.flat_form.specs.Row.{Words, Part, Span, Star, Copied, Row, Set, Dims, Unless, Plain}

@@ -3,22 +3,22 @@ use Rattle.std.proofs.Common.{◌≡◌, ℕ, List, [], ◌∷◌, Some, None, t
 use Rattle.std.proofs.Common.{pos, negsuc, codes, refl}
 use Rattle.std.specs.Fmt.{digits}
 use Rattle.std.specs.Int.{int_wrap}
-use Rattle.zpl_nums.specs.declared.ends.End.TheVariants.{Done, Trap, More}
-use Rattle.zpl_nums.specs.declared.ends.TrapKind.TheVariants.{DivideByZero, OutsideStorage}
-use Rattle.zpl_nums.specs.declared.ends.Border.TheVariants.{Wrap}
-use Rattle.zpl_nums.specs.declared.folds.Fold.TheVariants as fold
-use Rattle.zpl_nums.specs.declared.operators.Op.TheVariants as op
-use Rattle.zpl_region.specs.declared.regions.Region.{Region}
-use Rattle.zpl_region.specs.Hull.{all_from}
-use Rattle.zpl_region.specs.Region.{padding}
-use Rattle.node_form.specs.declared.arrays.ArrayDim.TheVariants.{Range}
-use Rattle.node_form.specs.declared.arrays.ArrayRow.{ArrayRow}
-use Rattle.node_form.specs.declared.instructions.RegionForm.TheVariants.{Of, Inside}
-use Rattle.node_form.specs.declared.instructions.Instr.TheVariants as instr
-use Rattle.node_form.specs.declared.tables.Tables.{Tables}
-use Rattle.node_form.specs.declared.words.ExprOp.TheVariants.{Const, Scalar, Here, Shifted}
-use Rattle.node_form.specs.declared.words.ExprOp.TheVariants.{Cell as CellWord, Coord, Pair}
-use Rattle.row_runs.specs.Run.{Result, Stop, Ends, Wrong}
+use Rattle.code_parts.specs.of_zpl_nums.declared.ends.End.TheVariants.{Done, Trap, More}
+use Rattle.code_parts.specs.of_zpl_nums.declared.ends.TrapKind.TheVariants.{DivideByZero, OutsideStorage}
+use Rattle.code_parts.specs.of_zpl_nums.declared.ends.Border.TheVariants.{Wrap}
+use Rattle.code_parts.specs.of_zpl_nums.declared.folds.Fold.TheVariants as fold
+use Rattle.code_parts.specs.of_zpl_nums.declared.operators.Op.TheVariants as op
+use Rattle.code_parts.specs.of_zpl_region.declared.regions.Region.{Region}
+use Rattle.code_parts.specs.of_zpl_region.Hull.{all_from}
+use Rattle.code_parts.specs.of_zpl_region.Region.{padding}
+use Rattle.grid_meaning.specs.of_node_form.declared.arrays.ArrayDim.TheVariants.{Range}
+use Rattle.grid_meaning.specs.of_node_form.declared.arrays.ArrayRow.{ArrayRow}
+use Rattle.grid_meaning.specs.of_node_form.declared.instructions.RegionForm.TheVariants.{Of, Inside}
+use Rattle.grid_meaning.specs.of_node_form.declared.instructions.Instr.TheVariants as instr
+use Rattle.grid_meaning.specs.of_node_form.declared.tables.Tables.{Tables}
+use Rattle.grid_meaning.specs.of_node_form.declared.words.ExprOp.TheVariants.{Const, Scalar, Here, Shifted}
+use Rattle.grid_meaning.specs.of_node_form.declared.words.ExprOp.TheVariants.{Cell as CellWord, Coord, Pair}
+use Rattle.nest_meaning.specs.of_row_runs.Run.{Result, Stop, Ends, Wrong}
 use Rattle.flat_form.specs.Act.{flat_run}
 use Rattle.flat_form.specs.Row.{Words, Put, Cell, Acc}
 use Rattle.flat_form.specs.Row.{OpenWhile, CloseWhile, Row, Set, Loop, Number, Truth}

@@ -2,18 +2,18 @@
 use Rattle.std.proofs.Common.{ℕ, ◌≤◌, Bool, true, false, List, [], ◌∷◌, Option, Some}
 use Rattle.std.proofs.Common.{None}
 use Rattle.std.specs.Prelude.{if◌then◌else◌, slice_get}
-use Rattle.zpl_nums.specs.declared.ends.End.TheVariants.{More}
-use Rattle.zpl_region.specs.declared.regions.Region.{Region}
-use Rattle.node_form.specs.declared.tables.Tables.{Tables}
-use Rattle.node_form.specs.Nest.{Nest}
+use Rattle.code_parts.specs.of_zpl_nums.declared.ends.End.TheVariants.{More}
+use Rattle.code_parts.specs.of_zpl_region.declared.regions.Region.{Region}
+use Rattle.grid_meaning.specs.of_node_form.declared.tables.Tables.{Tables}
+use Rattle.grid_meaning.specs.of_node_form.Nest.{Nest}
 use Rattle.nest_meaning.specs.Laws.{IsUpTo, TheSame, Beyond}
 use Rattle.nest_meaning.specs.Nested.{Told, Fine, Zero, Wants, Lost}
 use Rattle.nest_meaning.specs.Tree.{nest_of}
 use Rattle.nest_meaning.specs.Units.{units_of}
 use Rattle.nest_meaning.proofs.GrowthLemmas.{grow as nest_grow}
-use Rattle.row_runs.specs.Growth.{AreFurther, IsFurther, SameEffect, WantedMore}
-use Rattle.row_runs.specs.Run.{Step, Stops, Ends, Wrong, Effect, Does}
-use Rattle.row_runs.proofs.RunLemmas.{grow as runs_grow}
+use Rattle.nest_meaning.specs.of_row_runs.Growth.{AreFurther, IsFurther, SameEffect, WantedMore}
+use Rattle.nest_meaning.specs.of_row_runs.Run.{Step, Stops, Ends, Wrong, Effect, Does}
+use Rattle.nest_meaning.proofs.of_row_runs.RunLemmas.{grow as runs_grow}
 use Rattle.flat_form.specs.Act.{act, row_does}
 use Rattle.flat_form.specs.Laws.{Grow}
 use Rattle.flat_form.specs.Loop.{AllTold, AllFine, SomeZero, SomeWant, SomeLost, Column, Point}

@@ -3,16 +3,16 @@ use Rattle.std.proofs.Common.{◌≡◌, refl, sym, ◌∙◌, ap, ℕ, zero, su
 use Rattle.std.proofs.Common.{take, drop, length, Option, Some, None, pos, append_assoc}
 use Rattle.std.proofs.Common.{append-nil}
 use Rattle.std.specs.Prelude.{flat_map, slice_get, slice_index_or}
-use Rattle.zpl_nums.specs.Integer.{is_true}
-use Rattle.zpl_region.specs.declared.dims.Dim.TheVariants as dim
-use Rattle.node_form.specs.declared.instructions.DimRow.{DimRow}
-use Rattle.node_form.specs.declared.instructions.DimRow.TheVariants as part
-use Rattle.node_form.specs.declared.instructions.Instr.TheVariants as instr
-use Rattle.node_form.specs.declared.tables.Tables.{Tables}
-use Rattle.node_form.specs.Control.{Registers, branched, part_dim, part_dims, region_of}
-use Rattle.node_form.specs.Control.{register_value, with_computed, with_row, with_scalar, with_slot}
-use Rattle.node_form.specs.Value.{and_then, mapped, read, scalar_operands}
-use Rattle.node_form.specs.Value.{value_of}
+use Rattle.code_parts.specs.of_zpl_nums.Integer.{is_true}
+use Rattle.code_parts.specs.of_zpl_region.declared.dims.Dim.TheVariants as dim
+use Rattle.grid_meaning.specs.of_node_form.declared.instructions.DimRow.{DimRow}
+use Rattle.grid_meaning.specs.of_node_form.declared.instructions.DimRow.TheVariants as part
+use Rattle.grid_meaning.specs.of_node_form.declared.instructions.Instr.TheVariants as instr
+use Rattle.grid_meaning.specs.of_node_form.declared.tables.Tables.{Tables}
+use Rattle.grid_meaning.specs.of_node_form.Control.{Registers, branched, part_dim, part_dims, region_of}
+use Rattle.grid_meaning.specs.of_node_form.Control.{register_value, with_computed, with_row, with_scalar, with_slot}
+use Rattle.grid_meaning.specs.of_node_form.Value.{and_then, mapped, read, scalar_operands}
+use Rattle.grid_meaning.specs.of_node_form.Value.{value_of}
 use Rattle.flat_form.specs.Act.{without_rows}
 use Rattle.flat_form.specs.Laws.{ControlInline}
 use Rattle.flat_form.specs.Row.{Words, Dims, all_coded, part_coded, part_inlined, part_words}

@@ -13,3 +13,8 @@ pub mod ReadLemmas
 pub mod WholeLemmas
 pub mod InlineLemmas
 pub mod TreeLemmas
+pub use Rattle.code_parts.proofs as of_code_parts
+pub use Rattle.grid_meaning.proofs as of_grid_meaning
+pub use Rattle.grid_meaning.proofs.of_node_form as of_node_form
+pub use Rattle.nest_meaning.proofs.of_row_runs as of_row_runs
+pub use Rattle.code_parts.proofs.of_zpl_arrays as of_zpl_arrays

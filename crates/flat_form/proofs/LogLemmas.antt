@@ -2,14 +2,14 @@
 use Rattle.std.proofs.Common.{ℕ, zero, suc, ◌+◌, Bool, true, false}
 use Rattle.std.proofs.Common.{List, [], ◌∷◌, length, Option, Some, None, ℤ}
 use Rattle.std.specs.Prelude.{if◌then◌else◌, option_and_then, ⊤}
-use Rattle.zpl_nums.specs.Integer.{is_true}
-use Rattle.node_form.specs.declared.members.Member as number
-use Rattle.node_form.specs.declared.members.Member.TheVariants as member
-use Rattle.node_form.specs.declared.touches.Thing.{Thing}
-use Rattle.node_form.specs.declared.touches.Thing.TheVariants as thing
-use Rattle.node_form.specs.Nest.{Nest, Nothing, Putting, Keeping, Joining, Choosing, ChoosingElse}
-use Rattle.node_form.specs.Nest.{Looping, Repeating}
-use Rattle.node_form.specs.Value.{Computed, Gives, Divides, Lacks}
+use Rattle.code_parts.specs.of_zpl_nums.Integer.{is_true}
+use Rattle.grid_meaning.specs.of_node_form.declared.members.Member as number
+use Rattle.grid_meaning.specs.of_node_form.declared.members.Member.TheVariants as member
+use Rattle.grid_meaning.specs.of_node_form.declared.touches.Thing.{Thing}
+use Rattle.grid_meaning.specs.of_node_form.declared.touches.Thing.TheVariants as thing
+use Rattle.grid_meaning.specs.of_node_form.Nest.{Nest, Nothing, Putting, Keeping, Joining, Choosing, ChoosingElse}
+use Rattle.grid_meaning.specs.of_node_form.Nest.{Looping, Repeating}
+use Rattle.grid_meaning.specs.of_node_form.Value.{Computed, Gives, Divides, Lacks}
 use Rattle.nest_meaning.specs.Nested.{Ways, Told, Fine, Zero, Wants, Lost, leaf_does, masked}
 use Rattle.nest_meaning.specs.Nested.{nested, repeat_turns, then_do, until_done, while_turns}
 use Rattle.nest_meaning.specs.Nested.{with_state, with_value}
@@ -17,7 +17,7 @@ use Rattle.nest_meaning.specs.Tree.{Closing, ClosesIf, ClosesElse, ClosesWhile, 
 use Rattle.nest_meaning.specs.Tree.{Reading, else_read, if_read, member_read, members_read, nest_of}
 use Rattle.nest_meaning.specs.Tree.{repeat_read, while_read, whole_tree}
 use Rattle.nest_meaning.specs.Units.{units_of}
-use Rattle.row_runs.specs.Straight.{Every}
+use Rattle.nest_meaning.specs.of_row_runs.Straight.{Every}
 use Rattle.flat_form.specs.Loop.{AllTold, AllFine, SomeZero, SomeWant, SomeLost, Column, Point}
 use Rattle.flat_form.specs.Loop.{Puts, Joins, Write, all_told, and_fine, and_want, and_zero}
 use Rattle.flat_form.specs.Loop.{both_told, log_ways, unit_at}

@@ -6,22 +6,22 @@ use Rattle.std.specs.Prelude.{if◌then◌else◌, ◌&&◌, not, option_and_the
 use Rattle.std.specs.Prelude.{fold}
 use Rattle.std.specs.List.{list_all}
 use Rattle.std.specs.Option.{option_map}
-use Rattle.zpl_nums.specs.declared.folds.Fold.{Fold}
-use Rattle.zpl_nums.specs.Fold.{joined, unit_of}
-use Rattle.zpl_region.specs.declared.regions.Region.{Region}
-use Rattle.node_form.specs.declared.tables.Tables.{Tables}
-use Rattle.node_form.specs.declared.touches.Thing.{Thing}
-use Rattle.node_form.specs.declared.touches.Thing.TheVariants as thing
-use Rattle.node_form.specs.declared.words.ExprOp.{ExprOp}
-use Rattle.node_form.specs.declared.words.ExprOp.TheVariants as word
-use Rattle.node_form.specs.Nest.{Nest}
-use Rattle.node_form.specs.Value.{Computed, and_then, read, unmoved, value_of}
+use Rattle.code_parts.specs.of_zpl_nums.declared.folds.Fold.{Fold}
+use Rattle.code_parts.specs.of_zpl_nums.Fold.{joined, unit_of}
+use Rattle.code_parts.specs.of_zpl_region.declared.regions.Region.{Region}
+use Rattle.grid_meaning.specs.of_node_form.declared.tables.Tables.{Tables}
+use Rattle.grid_meaning.specs.of_node_form.declared.touches.Thing.{Thing}
+use Rattle.grid_meaning.specs.of_node_form.declared.touches.Thing.TheVariants as thing
+use Rattle.grid_meaning.specs.of_node_form.declared.words.ExprOp.{ExprOp}
+use Rattle.grid_meaning.specs.of_node_form.declared.words.ExprOp.TheVariants as word
+use Rattle.grid_meaning.specs.of_node_form.Nest.{Nest}
+use Rattle.grid_meaning.specs.of_node_form.Value.{Computed, and_then, read, unmoved, value_of}
 use Rattle.grid_meaning.specs.Place.{held_value, moved_by}
 use Rattle.nest_meaning.specs.Nested.{Ways, nested}
 use Rattle.nest_meaning.specs.Tree.{nest_of}
 use Rattle.nest_meaning.specs.Units.{units_of}
-use Rattle.row_runs.specs.Run.{Step, Goes, Stops, Wrong}
-use Rattle.row_runs.specs.Straight.{Every}
+use Rattle.nest_meaning.specs.of_row_runs.Run.{Step, Goes, Stops, Wrong}
+use Rattle.nest_meaning.specs.of_row_runs.Straight.{Every}
 use Rattle.flat_form.specs.Loop.{AllTold, AllFine, SomeZero, SomeWant, SomeLost, Column, Log, Point}
 use Rattle.flat_form.specs.Loop.{Puts, Joins, Write, all_awaiting, all_told, all_written, awaiting}
 use Rattle.flat_form.specs.Loop.{columns_behind, from_written, log_ways, log_written, logged}

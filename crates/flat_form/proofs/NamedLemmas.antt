@@ -4,18 +4,18 @@ use Rattle.std.proofs.Common.{arith, List, [], ◌∷◌, map, Option, Some, Non
 use Rattle.std.specs.Prelude.{slice_get, slice_index_or, flat_map, ⊤}
 use Rattle.std.specs.Option.{IsSomeAnd, option_map}
 use Rattle.std.proofs.lemmas.Option.{get_or_from_slice_get}
-use Rattle.node_form.specs.declared.instructions.DimRow.{DimRow}
-use Rattle.node_form.specs.declared.instructions.DimRow.TheVariants as part
-use Rattle.node_form.specs.declared.members.Member as number
-use Rattle.node_form.specs.declared.members.Member.TheVariants as member
-use Rattle.node_form.specs.declared.tables.Tables.{Tables}
-use Rattle.node_form.specs.declared.touches.Thing.{Thing}
-use Rattle.node_form.specs.declared.touches.Thing.TheVariants as thing
-use Rattle.node_form.specs.declared.words.ExprOp.{ExprOp}
-use Rattle.node_form.specs.declared.words.ExprOp.TheVariants as word
-use Rattle.node_form.specs.Touch.{IsNamedByWord, IsNamedByExpr, IsNamedByGroup, IsNamedByMask}
-use Rattle.node_form.specs.Touch.{IsNamedByMember, IsNamedByPart}
-use Rattle.row_runs.specs.Straight.{Every}
+use Rattle.grid_meaning.specs.of_node_form.declared.instructions.DimRow.{DimRow}
+use Rattle.grid_meaning.specs.of_node_form.declared.instructions.DimRow.TheVariants as part
+use Rattle.grid_meaning.specs.of_node_form.declared.members.Member as number
+use Rattle.grid_meaning.specs.of_node_form.declared.members.Member.TheVariants as member
+use Rattle.grid_meaning.specs.of_node_form.declared.tables.Tables.{Tables}
+use Rattle.grid_meaning.specs.of_node_form.declared.touches.Thing.{Thing}
+use Rattle.grid_meaning.specs.of_node_form.declared.touches.Thing.TheVariants as thing
+use Rattle.grid_meaning.specs.of_node_form.declared.words.ExprOp.{ExprOp}
+use Rattle.grid_meaning.specs.of_node_form.declared.words.ExprOp.TheVariants as word
+use Rattle.grid_meaning.specs.of_node_form.Touch.{IsNamedByWord, IsNamedByExpr, IsNamedByGroup, IsNamedByMask}
+use Rattle.grid_meaning.specs.of_node_form.Touch.{IsNamedByMember, IsNamedByPart}
+use Rattle.nest_meaning.specs.of_row_runs.Straight.{Every}
 use Rattle.flat_form.specs.Names.{each_word, group_puts, group_totals}
 use Rattle.flat_form.specs.Names.{group_words, member_puts, member_totals, word_reads, word_scalars}
 use Rattle.flat_form.specs.Row.{Words, Member, Put, Cell, Acc, OpenIf, Otherwise, CloseIf}

@@ -5,15 +5,15 @@ use Rattle.std.proofs.Common.{append_assoc, append-nil, length-append}
 use Rattle.std.specs.Prelude.{flat_map, slice_get, slice_index_or}
 use Rattle.std.specs.Option.{IfSome, IsSomeAnd, option_map}
 use Rattle.std.proofs.lemmas.List.Elements.{All-head, All-tail}
-use Rattle.node_form.specs.declared.instructions.DimRow.{DimRow}
-use Rattle.node_form.specs.declared.instructions.DimRow.TheVariants as part
-use Rattle.node_form.specs.declared.instructions.Instr.{Instr}
-use Rattle.node_form.specs.declared.instructions.Instr.TheVariants as instr
-use Rattle.node_form.specs.declared.members.Member as number
-use Rattle.node_form.specs.declared.members.Member.TheVariants as member
-use Rattle.node_form.specs.declared.tables.Tables.{Tables}
-use Rattle.node_form.specs.Fits.{Fits, FitsAt, FitsInstr, FitsMember, FitsPart, HasExpr}
-use Rattle.row_runs.specs.Straight.{Every}
+use Rattle.grid_meaning.specs.of_node_form.declared.instructions.DimRow.{DimRow}
+use Rattle.grid_meaning.specs.of_node_form.declared.instructions.DimRow.TheVariants as part
+use Rattle.grid_meaning.specs.of_node_form.declared.instructions.Instr.{Instr}
+use Rattle.grid_meaning.specs.of_node_form.declared.instructions.Instr.TheVariants as instr
+use Rattle.grid_meaning.specs.of_node_form.declared.members.Member as number
+use Rattle.grid_meaning.specs.of_node_form.declared.members.Member.TheVariants as member
+use Rattle.grid_meaning.specs.of_node_form.declared.tables.Tables.{Tables}
+use Rattle.grid_meaning.specs.of_node_form.Fits.{Fits, FitsAt, FitsInstr, FitsMember, FitsPart, HasExpr}
+use Rattle.nest_meaning.specs.of_row_runs.Straight.{Every}
 use Rattle.flat_form.specs.Laws.{AreInline, IsInline, IsPlain, Patch, ReadAgain}
 use Rattle.flat_form.specs.Row.{Words, Member, Put, Cell, Acc, OpenIf, Otherwise, CloseIf}
 use Rattle.flat_form.specs.Row.{OpenWhile, CloseWhile, OpenRepeat, Until, Part, Span, Star, Copied}

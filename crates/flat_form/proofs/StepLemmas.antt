@@ -8,34 +8,34 @@ use Rattle.std.specs.Prelude.{⊤, fold}
 use Rattle.std.specs.Fmt.{signed_decimal}
 use Rattle.std.specs.Option.{IsSomeAnd, option_map}
 use Rattle.std.proofs.lemmas.Option.{get_or_from_slice_get}
-use Rattle.zpl_nums.specs.declared.folds.Fold.{Fold}
-use Rattle.zpl_nums.specs.Fold.{joined}
-use Rattle.zpl_region.specs.declared.regions.Region.{Region}
-use Rattle.zpl_region.specs.Region.{members, outside_of}
-use Rattle.zpl_region.specs.Tests.{is_within_limit}
-use Rattle.zpl_arrays.specs.Array.{Array, element, has_place, updated}
-use Rattle.zpl_arrays.specs.Border.{border_source}
-use Rattle.zpl_arrays.specs.ArrayText.{truth_text}
-use Rattle.node_form.specs.declared.instructions.Instr.{Instr}
-use Rattle.node_form.specs.declared.instructions.Instr.TheVariants as instr
-use Rattle.node_form.specs.declared.members.Member as number
-use Rattle.node_form.specs.declared.members.Member.TheVariants as member
-use Rattle.node_form.specs.declared.tables.Tables.{Tables}
-use Rattle.node_form.specs.declared.touches.Thing.{Thing}
-use Rattle.node_form.specs.declared.touches.Thing.TheVariants as thing
-use Rattle.node_form.specs.Control as control
-use Rattle.zpl_nums.specs.declared.ends.End.{End}
-use Rattle.node_form.specs.Control.{Control, Registers, checked, formed_by, limited, part_dims}
-use Rattle.node_form.specs.Control.{region_of, with_computed, with_row, with_scalar, with_slot}
-use Rattle.node_form.specs.Touch.{IsWritten, IsWrittenByMember}
-use Rattle.node_form.specs.Nest.{Nest}
-use Rattle.node_form.specs.Value.{Computed, Gives, Divides, Lacks, scalar_operands, value_of}
+use Rattle.code_parts.specs.of_zpl_nums.declared.folds.Fold.{Fold}
+use Rattle.code_parts.specs.of_zpl_nums.Fold.{joined}
+use Rattle.code_parts.specs.of_zpl_region.declared.regions.Region.{Region}
+use Rattle.code_parts.specs.of_zpl_region.Region.{members, outside_of}
+use Rattle.code_parts.specs.of_zpl_region.Tests.{is_within_limit}
+use Rattle.code_parts.specs.of_zpl_arrays.Array.{Array, element, has_place, updated}
+use Rattle.code_parts.specs.of_zpl_arrays.Border.{border_source}
+use Rattle.code_parts.specs.of_zpl_arrays.ArrayText.{truth_text}
+use Rattle.grid_meaning.specs.of_node_form.declared.instructions.Instr.{Instr}
+use Rattle.grid_meaning.specs.of_node_form.declared.instructions.Instr.TheVariants as instr
+use Rattle.grid_meaning.specs.of_node_form.declared.members.Member as number
+use Rattle.grid_meaning.specs.of_node_form.declared.members.Member.TheVariants as member
+use Rattle.grid_meaning.specs.of_node_form.declared.tables.Tables.{Tables}
+use Rattle.grid_meaning.specs.of_node_form.declared.touches.Thing.{Thing}
+use Rattle.grid_meaning.specs.of_node_form.declared.touches.Thing.TheVariants as thing
+use Rattle.grid_meaning.specs.of_node_form.Control as control
+use Rattle.code_parts.specs.of_zpl_nums.declared.ends.End.{End}
+use Rattle.grid_meaning.specs.of_node_form.Control.{Control, Registers, checked, formed_by, limited, part_dims}
+use Rattle.grid_meaning.specs.of_node_form.Control.{region_of, with_computed, with_row, with_scalar, with_slot}
+use Rattle.grid_meaning.specs.of_node_form.Touch.{IsWritten, IsWrittenByMember}
+use Rattle.grid_meaning.specs.of_node_form.Nest.{Nest}
+use Rattle.grid_meaning.specs.of_node_form.Value.{Computed, Gives, Divides, Lacks, scalar_operands, value_of}
 use Rattle.grid_meaning.specs.Place.{held_with, where_held, with_value, with_values}
 use Rattle.grid_meaning.specs.Room.{zeros_at}
 use Rattle.nest_meaning.specs.Tree.{nest_of}
 use Rattle.nest_meaning.specs.Units.{units_of}
-use Rattle.row_runs.specs.Run.{Stop, Step, Goes, Stops, Wrong, Effect, Does, Leaps, Passes}
-use Rattle.row_runs.specs.Straight.{Every}
+use Rattle.nest_meaning.specs.of_row_runs.Run.{Stop, Step, Goes, Stops, Wrong, Effect, Does, Leaps, Passes}
+use Rattle.nest_meaning.specs.of_row_runs.Straight.{Every}
 use Rattle.flat_form.specs.Act.{act, controlled, is_awaited, row_does, tested}
 use Rattle.flat_form.specs.Act.{value_printed, without_rows}
 use Rattle.flat_form.specs.Loop.{AllTold, AllFine, SomeZero, SomeWant, SomeLost, Column, Log, Point}
@@ -54,7 +54,7 @@ use Rattle.flat_form.proofs.LogLemmas.{AllNamed, LogNamed, NestMaybeNamed, NestN
 use Rattle.flat_form.proofs.LogLemmas.{all_named, nest_named, unit_told, units_named}
 use Rattle.flat_form.proofs.NamedLemmas.{OwnNamed, every_named, totals_named}
 use Rattle.std.specs.Prelude.{not, ◌&&◌}
-use Rattle.node_form.specs.declared.arrays.ArrayRow.{ArrayRow}
+use Rattle.grid_meaning.specs.of_node_form.declared.arrays.ArrayRow.{ArrayRow}
 use Rattle.flat_form.specs.Right.{matches}
 
 -- what a relation of two states has to respect, where only some things are written

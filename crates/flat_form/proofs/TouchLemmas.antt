@@ -6,27 +6,27 @@ use Rattle.std.specs.Prelude.{slice_set, ⊤, is_none}
 use Rattle.std.specs.Fmt.{signed_decimal}
 use Rattle.std.specs.List.{cons_option, filter_map, list_all}
 use Rattle.std.specs.Option.{IsSomeAnd}
-use Rattle.zpl_nums.specs.declared.ends.Border.{Border}
-use Rattle.zpl_nums.specs.declared.folds.Fold.{Fold}
-use Rattle.zpl_region.specs.declared.regions.Region.{Region}
-use Rattle.zpl_region.specs.Region.{outside_of}
-use Rattle.zpl_arrays.specs.Array.{element}
-use Rattle.zpl_arrays.specs.ArrayText.{truth_text}
-use Rattle.zpl_arrays.specs.Border.{border_conforms, border_source, border_sources}
-use Rattle.zpl_arrays.specs.Conformity.{flood_conforms, reduction_conforms}
-use Rattle.zpl_arrays.specs.Flood.{flood_source}
-use Rattle.zpl_arrays.specs.Fold.{partly_reduced}
-use Rattle.node_form.specs.declared.instructions.Instr.{Instr}
-use Rattle.node_form.specs.declared.instructions.Instr.TheVariants as instr
-use Rattle.node_form.specs.declared.tables.Tables.{Tables}
-use Rattle.node_form.specs.declared.touches.Thing.{Thing}
-use Rattle.node_form.specs.declared.touches.Thing.TheVariants as thing
-use Rattle.node_form.specs.Touch.{IsNamed}
-use Rattle.node_form.specs.Value.{Computed, Gives, Divides, Lacks, scalar_operands, unmoved}
-use Rattle.node_form.specs.Value.{value_of}
-use Rattle.row_runs.specs.Run.{Goes, Stops, Wrong, Effect, Does}
-use Rattle.row_runs.specs.Straight.{Every}
-use Rattle.row_runs.specs.Cut.{as_list}
+use Rattle.code_parts.specs.of_zpl_nums.declared.ends.Border.{Border}
+use Rattle.code_parts.specs.of_zpl_nums.declared.folds.Fold.{Fold}
+use Rattle.code_parts.specs.of_zpl_region.declared.regions.Region.{Region}
+use Rattle.code_parts.specs.of_zpl_region.Region.{outside_of}
+use Rattle.code_parts.specs.of_zpl_arrays.Array.{element}
+use Rattle.code_parts.specs.of_zpl_arrays.ArrayText.{truth_text}
+use Rattle.code_parts.specs.of_zpl_arrays.Border.{border_conforms, border_source, border_sources}
+use Rattle.code_parts.specs.of_zpl_arrays.Conformity.{flood_conforms, reduction_conforms}
+use Rattle.code_parts.specs.of_zpl_arrays.Flood.{flood_source}
+use Rattle.code_parts.specs.of_zpl_arrays.Fold.{partly_reduced}
+use Rattle.grid_meaning.specs.of_node_form.declared.instructions.Instr.{Instr}
+use Rattle.grid_meaning.specs.of_node_form.declared.instructions.Instr.TheVariants as instr
+use Rattle.grid_meaning.specs.of_node_form.declared.tables.Tables.{Tables}
+use Rattle.grid_meaning.specs.of_node_form.declared.touches.Thing.{Thing}
+use Rattle.grid_meaning.specs.of_node_form.declared.touches.Thing.TheVariants as thing
+use Rattle.grid_meaning.specs.of_node_form.Touch.{IsNamed}
+use Rattle.grid_meaning.specs.of_node_form.Value.{Computed, Gives, Divides, Lacks, scalar_operands, unmoved}
+use Rattle.grid_meaning.specs.of_node_form.Value.{value_of}
+use Rattle.nest_meaning.specs.of_row_runs.Run.{Goes, Stops, Wrong, Effect, Does}
+use Rattle.nest_meaning.specs.of_row_runs.Straight.{Every}
+use Rattle.nest_meaning.specs.of_row_runs.Cut.{as_list}
 use Rattle.grid_meaning.specs.Room.{zeros_at}
 use Rattle.flat_form.specs.Act.{act, folded, is_awaited, row_does, value_printed}
 use Rattle.flat_form.specs.Moves.{kept_by, moved_in, reads_in}

@@ -2,12 +2,12 @@
 use Rattle.std.proofs.Common.{◌≡◌, refl, ◌∙◌, ap, subst, ℕ, zero, suc, ◌-◌, List, [], ◌∷◌}
 use Rattle.std.proofs.Common.{◌++◌, Some, ℤ}
 use Rattle.std.specs.Prelude.{slice_get, flat_map, ⊤}
-use Rattle.row_runs.specs.Straight.{Every}
-use Rattle.node_form.specs.declared.words.ExprOp.{ExprOp}
-use Rattle.node_form.specs.declared.words.ExprOp.TheVariants.{Const, Scalar, Here, Shifted, Cell}
-use Rattle.node_form.specs.declared.words.ExprOp.TheVariants.{Coord, Pair, Neg, Not, Abs}
-use Rattle.node_form.specs.Value.{Computed, Gives, Divides, Lacks, Operands, and_then, evaluated}
-use Rattle.node_form.specs.Value.{only_value, pushed, read, stepped, unmoved, value_of}
+use Rattle.nest_meaning.specs.of_row_runs.Straight.{Every}
+use Rattle.grid_meaning.specs.of_node_form.declared.words.ExprOp.{ExprOp}
+use Rattle.grid_meaning.specs.of_node_form.declared.words.ExprOp.TheVariants.{Const, Scalar, Here, Shifted, Cell}
+use Rattle.grid_meaning.specs.of_node_form.declared.words.ExprOp.TheVariants.{Coord, Pair, Neg, Not, Abs}
+use Rattle.grid_meaning.specs.of_node_form.Value.{Computed, Gives, Divides, Lacks, Operands, and_then, evaluated}
+use Rattle.grid_meaning.specs.of_node_form.Value.{only_value, pushed, read, stepped, unmoved, value_of}
 
 abbrev pub ReadsSame : Operands → Operands → ExprOp → Type 0
 ReadsSame o u (Scalar scalar) = slice_get o.scalars scalar ≡ slice_get u.scalars scalar

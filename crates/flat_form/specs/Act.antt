@@ -3,19 +3,19 @@ use Rattle.std.specs.Prelude.{ℕ, ◌==◌, Bool, false, ℤ, List, [], Option,
 use Rattle.std.specs.Prelude.{if◌then◌else◌, slice_get, slice_set}
 use Rattle.std.specs.Fmt.{signed_decimal}
 use Rattle.std.specs.List.{filter_map}
-use Rattle.zpl_nums.specs.declared.ends.End.TheVariants.{Trap}
-use Rattle.zpl_nums.specs.declared.ends.TrapKind.TheVariants.{DivideByZero}
-use Rattle.zpl_nums.specs.declared.folds.Fold.{Fold}
-use Rattle.zpl_nums.specs.declared.folds.Fold.TheVariants as operator
-use Rattle.zpl_arrays.specs.ArrayText.{truth_text}
-use Rattle.node_form.specs.declared.instructions.Instr.{Instr}
-use Rattle.node_form.specs.declared.instructions.Instr.TheVariants as instr
-use Rattle.node_form.specs.declared.tables.Tables.{Tables}
-use Rattle.node_form.specs.Control as control
-use Rattle.node_form.specs.Control.{Control}
-use Rattle.node_form.specs.Value.{Computed, Gives, Divides, Lacks, scalar_operands, value_of}
-use Rattle.row_runs.specs.Run.{Step, Goes, Stops, Ends, Wrong, Effect, Does, Leaps, Passes, Result}
-use Rattle.row_runs.specs.Run.{runs}
+use Rattle.code_parts.specs.of_zpl_nums.declared.ends.End.TheVariants.{Trap}
+use Rattle.code_parts.specs.of_zpl_nums.declared.ends.TrapKind.TheVariants.{DivideByZero}
+use Rattle.code_parts.specs.of_zpl_nums.declared.folds.Fold.{Fold}
+use Rattle.code_parts.specs.of_zpl_nums.declared.folds.Fold.TheVariants as operator
+use Rattle.code_parts.specs.of_zpl_arrays.ArrayText.{truth_text}
+use Rattle.grid_meaning.specs.of_node_form.declared.instructions.Instr.{Instr}
+use Rattle.grid_meaning.specs.of_node_form.declared.instructions.Instr.TheVariants as instr
+use Rattle.grid_meaning.specs.of_node_form.declared.tables.Tables.{Tables}
+use Rattle.grid_meaning.specs.of_node_form.Control as control
+use Rattle.grid_meaning.specs.of_node_form.Control.{Control}
+use Rattle.grid_meaning.specs.of_node_form.Value.{Computed, Gives, Divides, Lacks, scalar_operands, value_of}
+use Rattle.nest_meaning.specs.of_row_runs.Run.{Step, Goes, Stops, Ends, Wrong, Effect, Does, Leaps, Passes, Result}
+use Rattle.nest_meaning.specs.of_row_runs.Run.{runs}
 use Rattle.flat_form.specs.Loop.{looped}
 use Rattle.flat_form.specs.Moves.{cleared, edged, flooded, found, gathered, parted, remapped}
 use Rattle.flat_form.specs.Moves.{roomed, scanned_in}

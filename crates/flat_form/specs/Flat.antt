@@ -1,9 +1,9 @@
 -- Tables of a flat program.
 use Rattle.std.specs.Prelude.{[], ◌∷◌, ◌++◌, All}
-use Rattle.node_form.specs.declared.instructions.Instr.{Instr}
-use Rattle.node_form.specs.declared.instructions.Instr.TheVariants as instr
-use Rattle.node_form.specs.declared.tables.Tables.{Tables}
-use Rattle.node_form.specs.Fits.{Fits}
+use Rattle.grid_meaning.specs.of_node_form.declared.instructions.Instr.{Instr}
+use Rattle.grid_meaning.specs.of_node_form.declared.instructions.Instr.TheVariants as instr
+use Rattle.grid_meaning.specs.of_node_form.declared.tables.Tables.{Tables}
+use Rattle.grid_meaning.specs.of_node_form.Fits.{Fits}
 
 -- the row sends no message and awaits none by itself: it means the same on whole arrays
 abbrev pub IsFlatRow : Instr → Type 0

@@ -1,20 +1,20 @@
 -- The laws of flat programs.
 use Rattle.std.specs.Prelude.{◌≡◌, ℕ, ◌≤◌, List, [], ◌∷◌, ◌++◌, length, map, slice_index_or}
 use Rattle.std.specs.Prelude.{Option, Some, None}
-use Rattle.zpl_nums.specs.declared.folds.Fold.{Fold}
-use Rattle.node_form.specs.declared.members.Member as number
-use Rattle.node_form.specs.Nest.{Nest, Nothing, Putting, Keeping, Joining, Choosing}
-use Rattle.node_form.specs.Nest.{ChoosingElse, Looping, Repeating}
+use Rattle.code_parts.specs.of_zpl_nums.declared.folds.Fold.{Fold}
+use Rattle.grid_meaning.specs.of_node_form.declared.members.Member as number
+use Rattle.grid_meaning.specs.of_node_form.Nest.{Nest, Nothing, Putting, Keeping, Joining, Choosing}
+use Rattle.grid_meaning.specs.of_node_form.Nest.{ChoosingElse, Looping, Repeating}
 use Rattle.nest_meaning.specs.Tree.{nest_of}
 use Rattle.flat_form.specs.Names.{group_words}
 use Rattle.flat_form.specs.Row.{Words, group_coded, member_inlined}
-use Rattle.node_form.specs.declared.instructions.Instr.{Instr}
-use Rattle.node_form.specs.declared.instructions.Instr.TheVariants as instr
-use Rattle.node_form.specs.declared.tables.Tables.{Tables}
-use Rattle.node_form.specs.Fits.{Fits}
-use Rattle.row_runs.specs.Growth.{GoesOnTo}
-use Rattle.row_runs.specs.Straight.{Every}
-use Rattle.node_form.specs.Control.{control}
+use Rattle.grid_meaning.specs.of_node_form.declared.instructions.Instr.{Instr}
+use Rattle.grid_meaning.specs.of_node_form.declared.instructions.Instr.TheVariants as instr
+use Rattle.grid_meaning.specs.of_node_form.declared.tables.Tables.{Tables}
+use Rattle.grid_meaning.specs.of_node_form.Fits.{Fits}
+use Rattle.nest_meaning.specs.of_row_runs.Growth.{GoesOnTo}
+use Rattle.nest_meaning.specs.of_row_runs.Straight.{Every}
+use Rattle.grid_meaning.specs.of_node_form.Control.{control}
 use Rattle.flat_form.specs.Act.{control_of, flat_run}
 use Rattle.flat_form.specs.Whole.{Whole, registers_of}
 use Rattle.flat_form.specs.Row.{Row, Plain, all_inlined, inlined, patched, row_with_goal, with_rows}

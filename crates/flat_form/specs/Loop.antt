@@ -9,21 +9,21 @@ use Rattle.std.specs.Prelude.{None, List, [], ◌∷◌, fold, map, replicate, o
 use Rattle.std.specs.Prelude.{slice_set}
 use Rattle.std.specs.List.{list_all}
 use Rattle.std.specs.Option.{option_map}
-use Rattle.zpl_nums.specs.declared.ends.End.TheVariants.{Trap, More}
-use Rattle.zpl_nums.specs.declared.ends.TrapKind.TheVariants.{DivideByZero}
-use Rattle.zpl_nums.specs.declared.folds.Fold.{Fold}
-use Rattle.zpl_nums.specs.Fold.{joined}
-use Rattle.zpl_region.specs.declared.regions.Region.{Region}
-use Rattle.zpl_region.specs.Region.{members}
-use Rattle.node_form.specs.declared.tables.Tables.{Tables}
-use Rattle.node_form.specs.Nest.{Nest, Nothing, Putting, Keeping, Joining, Choosing, ChoosingElse}
-use Rattle.node_form.specs.Nest.{Looping, Repeating}
-use Rattle.node_form.specs.Value.{Operands, and_then, read, value_of}
+use Rattle.code_parts.specs.of_zpl_nums.declared.ends.End.TheVariants.{Trap, More}
+use Rattle.code_parts.specs.of_zpl_nums.declared.ends.TrapKind.TheVariants.{DivideByZero}
+use Rattle.code_parts.specs.of_zpl_nums.declared.folds.Fold.{Fold}
+use Rattle.code_parts.specs.of_zpl_nums.Fold.{joined}
+use Rattle.code_parts.specs.of_zpl_region.declared.regions.Region.{Region}
+use Rattle.code_parts.specs.of_zpl_region.Region.{members}
+use Rattle.grid_meaning.specs.of_node_form.declared.tables.Tables.{Tables}
+use Rattle.grid_meaning.specs.of_node_form.Nest.{Nest, Nothing, Putting, Keeping, Joining, Choosing, ChoosingElse}
+use Rattle.grid_meaning.specs.of_node_form.Nest.{Looping, Repeating}
+use Rattle.grid_meaning.specs.of_node_form.Value.{Operands, and_then, read, value_of}
 use Rattle.grid_meaning.specs.Place.{moved_by, value_at, with_value}
 use Rattle.nest_meaning.specs.Nested.{Ways, Told, Fine, Zero, Wants, Lost, nested}
 use Rattle.nest_meaning.specs.Tree.{nest_of}
 use Rattle.nest_meaning.specs.Units.{units_of}
-use Rattle.row_runs.specs.Run.{Step, Goes, Stops, Ends, Wrong}
+use Rattle.nest_meaning.specs.of_row_runs.Run.{Step, Goes, Stops, Ends, Wrong}
 use Rattle.flat_form.specs.Names.{Total, group_cells, group_puts, group_reads, group_totals}
 use Rattle.flat_form.specs.Names.{group_words}
 use Rattle.flat_form.specs.Right.{can_read, can_write, is_unmoved, totals_begin}

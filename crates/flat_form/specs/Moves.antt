@@ -6,26 +6,26 @@
 use Rattle.std.specs.Prelude.{ℕ, zero, suc, ◌==◌, not, Bool, true, false, ◌&&◌, ℤ}
 use Rattle.std.specs.Prelude.{List, [], Option, Some, None, map, option_and_then, slice_get}
 use Rattle.std.specs.List.{filter_map, list_all}
-use Rattle.zpl_nums.specs.declared.ends.Border.{Border}
-use Rattle.zpl_nums.specs.declared.folds.Fold.{Fold}
-use Rattle.zpl_nums.specs.Integer.{is_true}
-use Rattle.zpl_region.specs.declared.regions.Region.{Region}
-use Rattle.zpl_region.specs.Region.{members, outside_of}
-use Rattle.zpl_arrays.specs.Array.{Array, element}
-use Rattle.zpl_arrays.specs.ArrayText.{array_text}
-use Rattle.zpl_arrays.specs.Border.{border_conforms, border_source, border_sources}
-use Rattle.zpl_arrays.specs.Conformity.{flood_conforms, reduction_conforms}
-use Rattle.zpl_arrays.specs.Flood.{flood_source}
-use Rattle.zpl_arrays.specs.Fold.{partly_reduced}
-use Rattle.zpl_arrays.specs.Scan.{scanned, scanned_along}
-use Rattle.node_form.specs.declared.arrays.ArrayRow.{ArrayRow}
-use Rattle.node_form.specs.declared.tables.Tables.{Tables}
-use Rattle.node_form.specs.Value.{unmoved}
+use Rattle.code_parts.specs.of_zpl_nums.declared.ends.Border.{Border}
+use Rattle.code_parts.specs.of_zpl_nums.declared.folds.Fold.{Fold}
+use Rattle.code_parts.specs.of_zpl_nums.Integer.{is_true}
+use Rattle.code_parts.specs.of_zpl_region.declared.regions.Region.{Region}
+use Rattle.code_parts.specs.of_zpl_region.Region.{members, outside_of}
+use Rattle.code_parts.specs.of_zpl_arrays.Array.{Array, element}
+use Rattle.code_parts.specs.of_zpl_arrays.ArrayText.{array_text}
+use Rattle.code_parts.specs.of_zpl_arrays.Border.{border_conforms, border_source, border_sources}
+use Rattle.code_parts.specs.of_zpl_arrays.Conformity.{flood_conforms, reduction_conforms}
+use Rattle.code_parts.specs.of_zpl_arrays.Flood.{flood_source}
+use Rattle.code_parts.specs.of_zpl_arrays.Fold.{partly_reduced}
+use Rattle.code_parts.specs.of_zpl_arrays.Scan.{scanned, scanned_along}
+use Rattle.grid_meaning.specs.of_node_form.declared.arrays.ArrayRow.{ArrayRow}
+use Rattle.grid_meaning.specs.of_node_form.declared.tables.Tables.{Tables}
+use Rattle.grid_meaning.specs.of_node_form.Value.{unmoved}
 use Rattle.grid_meaning.specs.Gather.{element_text}
 use Rattle.grid_meaning.specs.Place.{with_values}
 use Rattle.grid_meaning.specs.Remap.{padded}
 use Rattle.grid_meaning.specs.Room.{zeros_at}
-use Rattle.row_runs.specs.Run.{Step, Goes, Stops, Wrong}
+use Rattle.nest_meaning.specs.of_row_runs.Run.{Step, Goes, Stops, Wrong}
 use Rattle.flat_form.specs.Right.{can_read, can_write, matches, no_flood}
 use Rattle.flat_form.specs.Whole.{Whole, with_store}
 

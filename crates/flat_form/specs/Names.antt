@@ -1,9 +1,9 @@
 -- What rows name, as lists.
 use Rattle.std.specs.Prelude.{ℕ, ◌+◌, max, ℤ, List, [], ◌∷◌, ◌++◌, flat_map, fold, map}
-use Rattle.zpl_nums.specs.declared.folds.Fold.{Fold}
-use Rattle.node_form.specs.declared.words.ExprOp.{ExprOp}
-use Rattle.node_form.specs.declared.words.ExprOp.TheVariants as word
-use Rattle.node_form.specs.Value.{unmoved}
+use Rattle.code_parts.specs.of_zpl_nums.declared.folds.Fold.{Fold}
+use Rattle.grid_meaning.specs.of_node_form.declared.words.ExprOp.{ExprOp}
+use Rattle.grid_meaning.specs.of_node_form.declared.words.ExprOp.TheVariants as word
+use Rattle.grid_meaning.specs.of_node_form.Value.{unmoved}
 use Rattle.flat_form.specs.Row.{Words, Member, Put, Cell, Acc}
 use Rattle.flat_form.specs.Row.{member_words, Row, Set}
 use Rattle.flat_form.specs.Row.{Loop, row_words}

@@ -8,17 +8,17 @@ use Rattle.std.specs.Prelude.{Option, Some, None, is_none, option_and_then, ifâ—
 use Rattle.std.specs.Prelude.{slice_get}
 use Rattle.std.specs.List.{list_all, list_any}
 use Rattle.std.specs.Ordering.{int_eq}
-use Rattle.zpl_nums.specs.Fold.{unit_of}
-use Rattle.zpl_region.specs.declared.dims.Dim.{Dim}
-use Rattle.zpl_region.specs.declared.dims.Dim.TheVariants as dim
-use Rattle.zpl_region.specs.declared.regions.Region.{Region}
-use Rattle.zpl_region.specs.Region.{members}
-use Rattle.zpl_arrays.specs.Array.{Array, has_place}
-use Rattle.node_form.specs.declared.arrays.ArrayDim.{ArrayDim}
-use Rattle.node_form.specs.declared.arrays.ArrayDim.TheVariants.{Range, Star}
-use Rattle.node_form.specs.declared.arrays.ArrayRow.{ArrayRow}
-use Rattle.node_form.specs.declared.tables.Tables.{Tables}
-use Rattle.node_form.specs.Value.{unmoved}
+use Rattle.code_parts.specs.of_zpl_nums.Fold.{unit_of}
+use Rattle.code_parts.specs.of_zpl_region.declared.dims.Dim.{Dim}
+use Rattle.code_parts.specs.of_zpl_region.declared.dims.Dim.TheVariants as dim
+use Rattle.code_parts.specs.of_zpl_region.declared.regions.Region.{Region}
+use Rattle.code_parts.specs.of_zpl_region.Region.{members}
+use Rattle.code_parts.specs.of_zpl_arrays.Array.{Array, has_place}
+use Rattle.grid_meaning.specs.of_node_form.declared.arrays.ArrayDim.{ArrayDim}
+use Rattle.grid_meaning.specs.of_node_form.declared.arrays.ArrayDim.TheVariants.{Range, Star}
+use Rattle.grid_meaning.specs.of_node_form.declared.arrays.ArrayRow.{ArrayRow}
+use Rattle.grid_meaning.specs.of_node_form.declared.tables.Tables.{Tables}
+use Rattle.grid_meaning.specs.of_node_form.Value.{unmoved}
 use Rattle.grid_meaning.specs.Place.{moved_by}
 use Rattle.flat_form.specs.Row.{Member, Row}
 use Rattle.flat_form.specs.Names.{Read, Total, each_word, word_scalars, group_words, group_totals}

@@ -7,15 +7,15 @@
 use Rattle.std.specs.Prelude.{ℕ, ◌+◌, List, [], ◌∷◌, ◌++◌, Option, Some, None, flat_map, fold}
 use Rattle.std.specs.Prelude.{length, map, set, slice_index_or}
 use Rattle.std.specs.Option.{option_map}
-use Rattle.zpl_nums.specs.declared.folds.Fold.{Fold}
-use Rattle.node_form.specs.declared.words.ExprOp.{ExprOp}
-use Rattle.node_form.specs.declared.members.Member as number
-use Rattle.node_form.specs.declared.members.Member.TheVariants as member
-use Rattle.node_form.specs.declared.instructions.DimRow.{DimRow}
-use Rattle.node_form.specs.declared.instructions.DimRow.TheVariants as part
-use Rattle.node_form.specs.declared.instructions.Instr.{Instr}
-use Rattle.node_form.specs.declared.instructions.Instr.TheVariants as instr
-use Rattle.node_form.specs.declared.tables.Tables.{Tables}
+use Rattle.code_parts.specs.of_zpl_nums.declared.folds.Fold.{Fold}
+use Rattle.grid_meaning.specs.of_node_form.declared.words.ExprOp.{ExprOp}
+use Rattle.grid_meaning.specs.of_node_form.declared.members.Member as number
+use Rattle.grid_meaning.specs.of_node_form.declared.members.Member.TheVariants as member
+use Rattle.grid_meaning.specs.of_node_form.declared.instructions.DimRow.{DimRow}
+use Rattle.grid_meaning.specs.of_node_form.declared.instructions.DimRow.TheVariants as part
+use Rattle.grid_meaning.specs.of_node_form.declared.instructions.Instr.{Instr}
+use Rattle.grid_meaning.specs.of_node_form.declared.instructions.Instr.TheVariants as instr
+use Rattle.grid_meaning.specs.of_node_form.declared.tables.Tables.{Tables}
 
 -- an expression: its words in postfix
 abbrev pub Words : Type 0

@@ -1,13 +1,13 @@
 -- The states that a run comes to.
 use Rattle.std.specs.Prelude.{◌≡◌, ℕ, true, length, List}
 use Rattle.std.specs.List.{AllZip}
-use Rattle.zpl_region.specs.Region.{members}
-use Rattle.zpl_arrays.specs.Array.{Array}
-use Rattle.node_form.specs.declared.arrays.ArrayRow.{ArrayRow}
-use Rattle.node_form.specs.declared.instructions.Instr.{Instr}
-use Rattle.node_form.specs.declared.tables.Tables.{Tables}
-use Rattle.node_form.specs.Fits.{storage_of}
-use Rattle.row_runs.specs.Run.{Goes, Does}
+use Rattle.code_parts.specs.of_zpl_region.Region.{members}
+use Rattle.code_parts.specs.of_zpl_arrays.Array.{Array}
+use Rattle.grid_meaning.specs.of_node_form.declared.arrays.ArrayRow.{ArrayRow}
+use Rattle.grid_meaning.specs.of_node_form.declared.instructions.Instr.{Instr}
+use Rattle.grid_meaning.specs.of_node_form.declared.tables.Tables.{Tables}
+use Rattle.grid_meaning.specs.of_node_form.Fits.{storage_of}
+use Rattle.nest_meaning.specs.of_row_runs.Run.{Goes, Does}
 use Rattle.flat_form.specs.Act.{act}
 use Rattle.flat_form.specs.Row.{inlined}
 use Rattle.flat_form.specs.Whole.{Whole, start_whole}

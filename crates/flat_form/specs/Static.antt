@@ -11,17 +11,17 @@
 use Rattle.std.specs.Prelude.{◌≡◌, ℕ, ◌+◌, ◌==◌, nat_le, Bool, true, false, not, ◌&&◌, ◌||◌, ℤ, neg_ℤ, pos, int_le, Option, Some, None, List, [], ◌∷◌, ◌++◌, All, count_by, flat_map, length, map, slice_get, if◌then◌else◌}
 use Rattle.std.specs.List.{list_all, list_any}
 use Rattle.std.specs.Ordering.{int_eq}
-use Rattle.node_form.specs.declared.words.ExprOp.{ExprOp}
-use Rattle.node_form.specs.declared.words.ExprOp.TheVariants as word
-use Rattle.node_form.specs.declared.arrays.ArrayDim.{ArrayDim}
-use Rattle.node_form.specs.declared.arrays.ArrayDim.TheVariants as axis
-use Rattle.node_form.specs.declared.arrays.ArrayRow.{ArrayRow}
-use Rattle.node_form.specs.declared.members.Member.{Member}
-use Rattle.node_form.specs.declared.members.Member.TheVariants as member
-use Rattle.node_form.specs.declared.instructions.Instr.{Instr}
-use Rattle.node_form.specs.declared.instructions.Instr.TheVariants as instr
-use Rattle.node_form.specs.declared.tables.Tables.{Tables}
-use Rattle.node_form.specs.Group.{depth_behind, units}
+use Rattle.grid_meaning.specs.of_node_form.declared.words.ExprOp.{ExprOp}
+use Rattle.grid_meaning.specs.of_node_form.declared.words.ExprOp.TheVariants as word
+use Rattle.grid_meaning.specs.of_node_form.declared.arrays.ArrayDim.{ArrayDim}
+use Rattle.grid_meaning.specs.of_node_form.declared.arrays.ArrayDim.TheVariants as axis
+use Rattle.grid_meaning.specs.of_node_form.declared.arrays.ArrayRow.{ArrayRow}
+use Rattle.grid_meaning.specs.of_node_form.declared.members.Member.{Member}
+use Rattle.grid_meaning.specs.of_node_form.declared.members.Member.TheVariants as member
+use Rattle.grid_meaning.specs.of_node_form.declared.instructions.Instr.{Instr}
+use Rattle.grid_meaning.specs.of_node_form.declared.instructions.Instr.TheVariants as instr
+use Rattle.grid_meaning.specs.of_node_form.declared.tables.Tables.{Tables}
+use Rattle.grid_meaning.specs.of_node_form.Group.{depth_behind, units}
 use Rattle.code_parts.specs.Uses.{as_list, exprs_of, is_turning, member_words, put_by, share}
 use Rattle.code_parts.specs.Uses.{shifted_in, words_of}
 

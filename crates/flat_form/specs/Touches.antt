@@ -1,11 +1,11 @@
 -- What a row does goes by what it names, and changes what it writes alone.
 use Rattle.std.specs.Prelude.{◌≡◌, ℕ, Bool, true, List, slice_get}
-use Rattle.node_form.specs.declared.instructions.Instr.{Instr}
-use Rattle.node_form.specs.declared.tables.Tables.{Tables}
-use Rattle.node_form.specs.declared.touches.Thing.{Thing}
-use Rattle.node_form.specs.declared.touches.Thing.TheVariants.{Scalar, Slot, Array}
-use Rattle.node_form.specs.Touch.{IsNamed, IsWritten}
-use Rattle.row_runs.specs.Run.{Stop, Goes, Stops, Effect, Does, Leaps, Passes}
+use Rattle.grid_meaning.specs.of_node_form.declared.instructions.Instr.{Instr}
+use Rattle.grid_meaning.specs.of_node_form.declared.tables.Tables.{Tables}
+use Rattle.grid_meaning.specs.of_node_form.declared.touches.Thing.{Thing}
+use Rattle.grid_meaning.specs.of_node_form.declared.touches.Thing.TheVariants.{Scalar, Slot, Array}
+use Rattle.grid_meaning.specs.of_node_form.Touch.{IsNamed, IsWritten}
+use Rattle.nest_meaning.specs.of_row_runs.Run.{Stop, Goes, Stops, Effect, Does, Leaps, Passes}
 use Rattle.flat_form.specs.Act.{act}
 use Rattle.flat_form.specs.Row.{inlined}
 use Rattle.flat_form.specs.Whole.{Whole}

@@ -1,13 +1,13 @@
 -- The state of a flat run, in which each array is whole.
 use Rattle.std.specs.Prelude.{ℕ, ℤ, pos, Bool, true, false, List, map, replicate, Option, None}
 use Rattle.std.specs.Prelude.{slice_set}
-use Rattle.zpl_nums.specs.declared.folds.Fold.{Fold}
-use Rattle.zpl_region.specs.declared.regions.Region.{Region}
-use Rattle.zpl_arrays.specs.Array.{Array}
-use Rattle.node_form.specs.declared.arrays.ArrayRow.{ArrayRow}
-use Rattle.node_form.specs.declared.tables.Tables.{Tables}
-use Rattle.node_form.specs.Control.{Registers}
-use Rattle.node_form.specs.Fits.{storage_of}
+use Rattle.code_parts.specs.of_zpl_nums.declared.folds.Fold.{Fold}
+use Rattle.code_parts.specs.of_zpl_region.declared.regions.Region.{Region}
+use Rattle.code_parts.specs.of_zpl_arrays.Array.{Array}
+use Rattle.grid_meaning.specs.of_node_form.declared.arrays.ArrayRow.{ArrayRow}
+use Rattle.grid_meaning.specs.of_node_form.declared.tables.Tables.{Tables}
+use Rattle.grid_meaning.specs.of_node_form.Control.{Registers}
+use Rattle.grid_meaning.specs.of_node_form.Fits.{storage_of}
 use Rattle.grid_meaning.specs.Room.{zeros_at}
 use Rattle.grid_meaning.specs.Stored.{no_places}
 

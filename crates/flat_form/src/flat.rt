@@ -1,11 +1,11 @@
 //! A flat program: tables that fit, with the rows of one.
 ghost use Rattle.std.specs.Prelude.{◌≡◌, Ok, OnOk, OnErr, [], ◌∷◌, slice_get};
-ghost use Rattle.node_form.specs.Touch.{IsTouch};
+ghost use Rattle.grid_meaning.specs.of_node_form.Touch.{IsTouch};
 ghost use Rattle.flat_form.specs.Flat.{IsFlat, with_step};
 ghost use Rattle.flat_form.specs.Row as flat;
 ghost use Rattle.flat_form.specs.Row.{patched};
 
-use node_form::{Grid3, Instr, Tables, Thing, Touch};
+use grid_meaning::node_form::{Grid3, Instr, Tables, Thing, Touch};
 use std::alloc::{AllocError, Global};
 use std::marker::Model;
 
@@ -19,7 +19,7 @@ pub struct Flat {
 }
 
 impl Model for Flat {
-    ghost use Rattle.node_form.specs.declared.tables.Tables.{Tables};
+    ghost use Rattle.grid_meaning.specs.of_node_form.declared.tables.Tables.{Tables};
     ghost use Rattle.flat_form.specs.Flat.{IsFlat};
 
     ghost Value = { Tables };

@@ -8,7 +8,9 @@
 mod flat;
 mod laws;
 
+pub use code_parts::{zpl_arrays, zpl_region};
 pub use flat::Flat;
+pub use grid_meaning::node_form;
 pub use laws::{
     added_rows_are_read_again, goals_may_be_patched, inline_groups_have_the_same_trees,
     inline_rows_are_controlled_alike, longer_flat_runs_go_on, rows_change_what_they_write,

@@ -4,11 +4,11 @@ use Rattle.std.proofs.Common.{Bool, true, false, List, [], ◌∷◌, ◌++◌, 
 use Rattle.std.proofs.Common.{append_assoc, append-nil}
 use Rattle.std.specs.Prelude.{Option, Some, drop, flat_map, if◌then◌else◌, map, slice_get}
 use Rattle.std.proofs.lemmas.List.{drop_all, length-map}
-use Rattle.node_form.specs.declared.members.Member.{Member}
-use Rattle.node_form.specs.declared.instructions.Instr.{Instr}
-use Rattle.node_form.specs.declared.instructions.Instr.TheVariants as instr
-use Rattle.node_form.specs.declared.tables.Tables.{Tables}
-use Rattle.code_parts.specs.Stretch.{ends_stretch, is_goal, leads_to}
+use Rattle.flat_form.specs.of_node_form.declared.members.Member.{Member}
+use Rattle.flat_form.specs.of_node_form.declared.instructions.Instr.{Instr}
+use Rattle.flat_form.specs.of_node_form.declared.instructions.Instr.TheVariants as instr
+use Rattle.flat_form.specs.of_node_form.declared.tables.Tables.{Tables}
+use Rattle.flat_form.specs.of_code_parts.Stretch.{ends_stretch, is_goal, leads_to}
 use Rattle.flat_passes.specs.declared.draft.Draft.{Draft}
 use Rattle.flat_passes.specs.Draft.{empty_draft, moved_draft, with_rows}
 use Rattle.flat_passes.specs.Numbers.{number_among, numbers_from}

@@ -5,21 +5,21 @@ use Rattle.std.specs.Prelude.{All, Option, Some, None, slice_get}
 use Rattle.std.specs.Option.{IfSome, IsSomeAnd}
 use Rattle.std.specs.List.{AllByRecursion}
 use Rattle.std.proofs.lemmas.List.Elements.{All-from_recursion, recursion_from_All}
-use Rattle.node_form.specs.declared.words.ExprOp.{ExprOp}
-use Rattle.node_form.specs.declared.words.ExprOp.TheVariants as word
-use Rattle.node_form.specs.declared.arrays.Item.{Item}
-use Rattle.node_form.specs.declared.members.Member.{Member}
-use Rattle.node_form.specs.declared.members.Member.TheVariants as member
-use Rattle.node_form.specs.declared.instructions.DimRow.{DimRow}
-use Rattle.node_form.specs.declared.instructions.DimRow.TheVariants as part
-use Rattle.node_form.specs.declared.instructions.Instr.{Instr}
-use Rattle.node_form.specs.declared.instructions.Instr.TheVariants as instr
-use Rattle.node_form.specs.declared.tables.Tables.{Tables}
-use Rattle.node_form.specs.Fits.{Fits, FitsAt, FitsExchange, FitsExpr, FitsGroup, FitsInstr, FitsItem}
-use Rattle.node_form.specs.Fits.{FitsMember, FitsPart, FitsRemap, FitsWord, HasExpr}
-use Rattle.node_form.specs.Fits.{HasScalarExpr, HasSlot, IsRank}
-use Rattle.node_form.proofs.GrowthLemmas.{Fits-slot-row}
-use Rattle.node_form.specs.Nest.{IsNest}
+use Rattle.flat_form.specs.of_node_form.declared.words.ExprOp.{ExprOp}
+use Rattle.flat_form.specs.of_node_form.declared.words.ExprOp.TheVariants as word
+use Rattle.flat_form.specs.of_node_form.declared.arrays.Item.{Item}
+use Rattle.flat_form.specs.of_node_form.declared.members.Member.{Member}
+use Rattle.flat_form.specs.of_node_form.declared.members.Member.TheVariants as member
+use Rattle.flat_form.specs.of_node_form.declared.instructions.DimRow.{DimRow}
+use Rattle.flat_form.specs.of_node_form.declared.instructions.DimRow.TheVariants as part
+use Rattle.flat_form.specs.of_node_form.declared.instructions.Instr.{Instr}
+use Rattle.flat_form.specs.of_node_form.declared.instructions.Instr.TheVariants as instr
+use Rattle.flat_form.specs.of_node_form.declared.tables.Tables.{Tables}
+use Rattle.flat_form.specs.of_node_form.Fits.{Fits, FitsAt, FitsExchange, FitsExpr, FitsGroup, FitsInstr, FitsItem}
+use Rattle.flat_form.specs.of_node_form.Fits.{FitsMember, FitsPart, FitsRemap, FitsWord, HasExpr}
+use Rattle.flat_form.specs.of_node_form.Fits.{HasScalarExpr, HasSlot, IsRank}
+use Rattle.flat_form.proofs.of_node_form.GrowthLemmas.{Fits-slot-row}
+use Rattle.flat_form.specs.of_node_form.Nest.{IsNest}
 use Rattle.flat_passes.specs.Grouped.{Grouped, Runs, Plain, all_numbered, group_of, groups_of}
 use Rattle.flat_passes.specs.Grouped.{numbered, with_grouped}
 use Rattle.flat_passes.proofs.DraftLemmas.{numbered_length}

@@ -2,26 +2,26 @@
 -- those that end one do alike in one state.
 use Rattle.std.proofs.Common.{◌≡◌, refl, sym, ℕ, ℤ, Bool, true, false, true≢false}
 use Rattle.std.specs.Prelude.{Option, Some, None, if◌then◌else◌, slice_get, take}
-use Rattle.zpl_nums.specs.declared.ends.End.{End}
-use Rattle.zpl_nums.specs.declared.ends.TrapKind.{TrapKind}
-use Rattle.zpl_nums.specs.declared.ends.TrapKind.TheVariants.{OutsideStorage, RegionMismatch}
-use Rattle.zpl_nums.specs.Integer.{is_true}
-use Rattle.zpl_region.specs.declared.regions.Region.{Region}
-use Rattle.zpl_region.specs.Tests.{is_within_limit}
-use Rattle.zpl_arrays.specs.Border.{border_conforms}
-use Rattle.zpl_arrays.specs.Reference.{is_reference}
-use Rattle.row_runs.specs.Run.{Effect, Stops, Wrong, Does, Leaps, Passes}
-use Rattle.row_runs.specs.Straight.{IsStep, IsStraight, Stepping}
-use Rattle.node_form.specs.declared.instructions.Instr.{Instr}
-use Rattle.node_form.specs.declared.instructions.Instr.TheVariants as instr
-use Rattle.node_form.specs.declared.tables.Tables.{Tables}
-use Rattle.node_form.specs.Control as control
-use Rattle.node_form.specs.Control.{Control, Registers, branched, checked, conforms, formed_by}
-use Rattle.node_form.specs.Control.{limited, part_dims, region_of, register_value, with_computed}
-use Rattle.node_form.specs.Control.{with_scalar, with_slot}
-use Rattle.node_form.specs.Fits.{storage_of}
-use Rattle.node_form.specs.Value.{Computed, Gives, Divides, Lacks}
-use Rattle.code_parts.specs.Stretch.{ends_stretch}
+use Rattle.flat_form.specs.of_zpl_nums.declared.ends.End.{End}
+use Rattle.flat_form.specs.of_zpl_nums.declared.ends.TrapKind.{TrapKind}
+use Rattle.flat_form.specs.of_zpl_nums.declared.ends.TrapKind.TheVariants.{OutsideStorage, RegionMismatch}
+use Rattle.flat_form.specs.of_zpl_nums.Integer.{is_true}
+use Rattle.flat_form.specs.of_zpl_region.declared.regions.Region.{Region}
+use Rattle.flat_form.specs.of_zpl_region.Tests.{is_within_limit}
+use Rattle.flat_form.specs.of_zpl_arrays.Border.{border_conforms}
+use Rattle.flat_form.specs.of_zpl_arrays.Reference.{is_reference}
+use Rattle.flat_form.specs.of_row_runs.Run.{Effect, Stops, Wrong, Does, Leaps, Passes}
+use Rattle.flat_form.specs.of_row_runs.Straight.{IsStep, IsStraight, Stepping}
+use Rattle.flat_form.specs.of_node_form.declared.instructions.Instr.{Instr}
+use Rattle.flat_form.specs.of_node_form.declared.instructions.Instr.TheVariants as instr
+use Rattle.flat_form.specs.of_node_form.declared.tables.Tables.{Tables}
+use Rattle.flat_form.specs.of_node_form.Control as control
+use Rattle.flat_form.specs.of_node_form.Control.{Control, Registers, branched, checked, conforms, formed_by}
+use Rattle.flat_form.specs.of_node_form.Control.{limited, part_dims, region_of, register_value, with_computed}
+use Rattle.flat_form.specs.of_node_form.Control.{with_scalar, with_slot}
+use Rattle.flat_form.specs.of_node_form.Fits.{storage_of}
+use Rattle.flat_form.specs.of_node_form.Value.{Computed, Gives, Divides, Lacks}
+use Rattle.flat_form.specs.of_code_parts.Stretch.{ends_stretch}
 use Rattle.flat_form.specs.Act.{act, control_of, controlled, row_does, tested, without_rows}
 use Rattle.flat_form.specs.Right.{are_settled}
 use Rattle.flat_form.specs.Row.{Row, Unless, coded, inlined, with_row, words_at}

@@ -4,10 +4,10 @@ use Rattle.std.proofs.Common.{List, [], ◌∷◌, length}
 use Rattle.std.specs.Prelude.{cond, count_by, map, sum_by, Option, Some, None}
 use Rattle.std.specs.Option.{option_map}
 use Rattle.std.proofs.lemmas.List.Sums.{sum_by-cons}
-use Rattle.row_runs.specs.Cut.{as_list}
-use Rattle.node_form.specs.declared.instructions.Instr.{Instr}
-use Rattle.node_form.specs.declared.instructions.Instr.TheVariants as instr
-use Rattle.node_form.specs.declared.tables.Tables.{Tables}
+use Rattle.flat_form.specs.of_row_runs.Cut.{as_list}
+use Rattle.flat_form.specs.of_node_form.declared.instructions.Instr.{Instr}
+use Rattle.flat_form.specs.of_node_form.declared.instructions.Instr.TheVariants as instr
+use Rattle.flat_form.specs.of_node_form.declared.tables.Tables.{Tables}
 use Rattle.flat_passes.specs.Rewritten.{has_goal}
 use Rattle.flat_passes.specs.Grouped.{Grouped, Runs, Plain, all_numbered, ended_by}
 use Rattle.flat_passes.specs.Grouped.{group_of, grouped, groups_of, members_run, numbered}

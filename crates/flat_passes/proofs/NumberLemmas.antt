@@ -10,14 +10,14 @@ use Rattle.std.specs.List.{AllByRecursion, list_any}
 use Rattle.std.proofs.lemmas.Grind.{flat_map-append}
 use Rattle.std.proofs.lemmas.List.{map-append}
 use Rattle.std.proofs.Common.{eq-eqb}
-use Rattle.row_runs.specs.Segments.{Segment, news}
-use Rattle.row_runs.specs.Straight.{Every}
-use Rattle.row_runs.specs.Cut.{Stretch, all_rows, as_list, cut, moved_by, passed, relocated}
-use Rattle.row_runs.specs.Cut.{rows_of, segments_by}
-use Rattle.row_runs.proofs.CutLemmas.{StartsAt, AtFirst, AtLater, cut_full, cut_rows, goal_starts}
-use Rattle.node_form.specs.declared.instructions.Instr.{Instr}
-use Rattle.node_form.specs.declared.instructions.Instr.TheVariants as instr
-use Rattle.code_parts.specs.Stretch.{ends_stretch, is_goal, leads_to}
+use Rattle.flat_form.specs.of_row_runs.Segments.{Segment, news}
+use Rattle.flat_form.specs.of_row_runs.Straight.{Every}
+use Rattle.flat_form.specs.of_row_runs.Cut.{Stretch, all_rows, as_list, cut, moved_by, passed, relocated}
+use Rattle.flat_form.specs.of_row_runs.Cut.{rows_of, segments_by}
+use Rattle.flat_form.proofs.of_row_runs.CutLemmas.{StartsAt, AtFirst, AtLater, cut_full, cut_rows, goal_starts}
+use Rattle.flat_form.specs.of_node_form.declared.instructions.Instr.{Instr}
+use Rattle.flat_form.specs.of_node_form.declared.instructions.Instr.TheVariants as instr
+use Rattle.flat_form.specs.of_code_parts.Stretch.{ends_stretch, is_goal, leads_to}
 use Rattle.flat_passes.specs.Numbers.{number_among, numbers_from}
 use Rattle.flat_passes.specs.Rewritten.{stretches_of, with_moved_goal}
 use Rattle.flat_passes.proofs.StretchLemmas.{IsCut, all_cut}

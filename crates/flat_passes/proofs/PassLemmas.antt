@@ -4,16 +4,16 @@ use Rattle.std.proofs.Common.{List, [], ◌∷◌, ◌++◌, length, true≢fals
 use Rattle.std.proofs.lemmas.Bool.Decides.{nat_tests}
 use Rattle.std.specs.Prelude.{◌||◌, ◌==◌, Option, Some, None}
 use Rattle.std.specs.List.{AllByRecursion, list_any}
-use Rattle.row_runs.specs.Run.{Effect, runs}
-use Rattle.row_runs.specs.Straight.{Every, IsStraight}
-use Rattle.row_runs.specs.Segments.{IsStart, Keeps}
-use Rattle.row_runs.specs.Cut as cut
-use Rattle.row_runs.specs.Cut.{IsRewritten, LastAlike, Stretch, all_rows, as_list, moved_by, rows_of}
-use Rattle.row_runs.specs.Cut.{segments_of}
-use Rattle.row_runs.proofs.CutLemmas.{cut_rows, goals_are_starts, passes_keep_runs}
-use Rattle.node_form.specs.declared.instructions.Instr.{Instr}
-use Rattle.node_form.specs.declared.instructions.Instr.TheVariants as instr
-use Rattle.code_parts.specs.Stretch.{ends_stretch, is_goal, leads_to}
+use Rattle.flat_form.specs.of_row_runs.Run.{Effect, runs}
+use Rattle.flat_form.specs.of_row_runs.Straight.{Every, IsStraight}
+use Rattle.flat_form.specs.of_row_runs.Segments.{IsStart, Keeps}
+use Rattle.flat_form.specs.of_row_runs.Cut as cut
+use Rattle.flat_form.specs.of_row_runs.Cut.{IsRewritten, LastAlike, Stretch, all_rows, as_list, moved_by, rows_of}
+use Rattle.flat_form.specs.of_row_runs.Cut.{segments_of}
+use Rattle.flat_form.proofs.of_row_runs.CutLemmas.{cut_rows, goals_are_starts, passes_keep_runs}
+use Rattle.flat_form.specs.of_node_form.declared.instructions.Instr.{Instr}
+use Rattle.flat_form.specs.of_node_form.declared.instructions.Instr.TheVariants as instr
+use Rattle.flat_form.specs.of_code_parts.Stretch.{ends_stretch, is_goal, leads_to}
 use Rattle.flat_passes.specs.Kept.{AreControlled, BothLeap, BothPass, BothStop, EndsAlike}
 use Rattle.flat_passes.specs.Kept.{GoalsWithin, KeepsFronts, OldWrong, goal_of}
 use Rattle.flat_passes.specs.Rewritten.{has_goal, rewritten_code, stretches_of, with_moved_goal}

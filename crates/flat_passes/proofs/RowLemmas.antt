@@ -4,8 +4,8 @@ use Rattle.std.proofs.Common.{Bool, true, false, List, [], ◌∷◌, ◌++◌, 
 use Rattle.std.proofs.Common.{append_assoc, append-nil}
 use Rattle.std.specs.Prelude.{Some, drop, flat_map, if◌then◌else◌, map, slice_get}
 use Rattle.std.proofs.lemmas.List.{drop_all, length-map}
-use Rattle.node_form.specs.declared.instructions.Instr.{Instr}
-use Rattle.code_parts.specs.Stretch.{ends_stretch}
+use Rattle.flat_form.specs.of_node_form.declared.instructions.Instr.{Instr}
+use Rattle.flat_form.specs.of_code_parts.Stretch.{ends_stretch}
 use Rattle.flat_passes.specs.Numbers.{number_among, numbers_from}
 use Rattle.flat_passes.specs.Rewritten.{rewritten_code, stretches_of, with_moved_goal}
 use Rattle.flat_passes.proofs.DraftLemmas.{rest_at}

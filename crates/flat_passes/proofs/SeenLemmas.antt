@@ -1,9 +1,9 @@
 -- A run of rows that are seen by a function is the run of what is seen.
 use Rattle.std.proofs.Common.{◌≡◌, refl, ap, ◌∙◌, ℕ, zero, suc, ◌+◌, List, [], ◌∷◌, map}
 use Rattle.std.specs.Prelude.{drop}
-use Rattle.zpl_nums.specs.declared.ends.End.TheVariants.{Done}
-use Rattle.row_runs.specs.Run.{Effect, Ends, Result, Does, Goes, Leaps, Passes, Stops, printed}
-use Rattle.row_runs.specs.Run.{runs, stopped, walked, went}
+use Rattle.flat_form.specs.of_zpl_nums.declared.ends.End.TheVariants.{Done}
+use Rattle.flat_form.specs.of_row_runs.Run.{Effect, Ends, Result, Does, Goes, Leaps, Passes, Stops, printed}
+use Rattle.flat_form.specs.of_row_runs.Run.{runs, stopped, walked, went}
 
 module _ {Row Other S : Type 0} (act : Other → S → Effect S) (f : Row → Other) where
   abbrev seen : Row → S → Effect S

@@ -6,12 +6,12 @@ use Rattle.std.specs.Prelude.{cond, count_by, Option, Some, None}
 use Rattle.std.specs.Option.{option_map}
 use Rattle.std.specs.List.{AllByRecursion}
 use Rattle.std.proofs.lemmas.List.Sums.{sum_by-append, sum_by-cons}
-use Rattle.row_runs.specs.Segments.{news}
-use Rattle.row_runs.specs.Cut.{Stretch, all_rows, as_list, cut, cut_row, joined_to, rows_of}
-use Rattle.row_runs.specs.Cut.{segments_by}
-use Rattle.node_form.specs.declared.instructions.Instr.{Instr}
-use Rattle.node_form.specs.declared.instructions.Instr.TheVariants as instr
-use Rattle.code_parts.specs.Stretch.{ends_stretch}
+use Rattle.flat_form.specs.of_row_runs.Segments.{news}
+use Rattle.flat_form.specs.of_row_runs.Cut.{Stretch, all_rows, as_list, cut, cut_row, joined_to, rows_of}
+use Rattle.flat_form.specs.of_row_runs.Cut.{segments_by}
+use Rattle.flat_form.specs.of_node_form.declared.instructions.Instr.{Instr}
+use Rattle.flat_form.specs.of_node_form.declared.instructions.Instr.TheVariants as instr
+use Rattle.flat_form.specs.of_code_parts.Stretch.{ends_stretch}
 use Rattle.flat_passes.specs.Rewritten.{has_goal, with_moved_goal}
 
 -- ---- rows of which something holds

@@ -1,8 +1,8 @@
 -- New code while it is written: its rows, and the groups of its loops.
 use Rattle.std.specs.Prelude.{ℕ, List, [], ◌∷◌, ◌++◌, length, map}
-use Rattle.node_form.specs.declared.members.Member.{Member}
-use Rattle.node_form.specs.declared.instructions.Instr.{Instr}
-use Rattle.node_form.specs.declared.instructions.Instr.TheVariants as instr
+use Rattle.flat_form.specs.of_node_form.declared.members.Member.{Member}
+use Rattle.flat_form.specs.of_node_form.declared.instructions.Instr.{Instr}
+use Rattle.flat_form.specs.of_node_form.declared.instructions.Instr.TheVariants as instr
 use Rattle.flat_passes.specs.declared.draft.Draft.{Draft}
 use Rattle.flat_passes.specs.Grouped.{Grouped, Runs, Plain, all_numbered, groups_of}
 use Rattle.flat_passes.specs.Numbers.{number_among}

@@ -1,11 +1,11 @@
 -- Rows with their groups inline: a loop has its members, and expressions have their numbers.
 use Rattle.std.specs.Prelude.{ℕ, ◌+◌, List, [], ◌∷◌, flat_map, length, map, sum_by}
-use Rattle.row_runs.specs.Cut.{passed}
-use Rattle.node_form.specs.declared.members.Member.{Member}
-use Rattle.node_form.specs.declared.instructions.Instr.{Instr}
-use Rattle.node_form.specs.declared.instructions.Instr.TheVariants as instr
-use Rattle.node_form.specs.declared.tables.Tables.{Tables}
-use Rattle.code_parts.specs.Uses.{members_of}
+use Rattle.flat_form.specs.of_row_runs.Cut.{passed}
+use Rattle.flat_form.specs.of_node_form.declared.members.Member.{Member}
+use Rattle.flat_form.specs.of_node_form.declared.instructions.Instr.{Instr}
+use Rattle.flat_form.specs.of_node_form.declared.instructions.Instr.TheVariants as instr
+use Rattle.flat_form.specs.of_node_form.declared.tables.Tables.{Tables}
+use Rattle.flat_form.specs.of_code_parts.Uses.{members_of}
 use Rattle.flat_passes.specs.Rewritten.{stretches_of, with_moved_goal}
 
 pub data Grouped : Type 0 where

@@ -1,11 +1,11 @@
 -- What a pass over code owes of each stretch, so that runs are kept.
 use Rattle.std.specs.Prelude.{◌≡◌, ℕ, ◌≤◌, Bool, true, false, List, length}
 use Rattle.std.specs.List.{AllByRecursion}
-use Rattle.row_runs.specs.Run.{Stop, Wrong, Stops, Effect, Does, Leaps, Passes}
-use Rattle.row_runs.specs.Straight.{IsStraight, Tied, through}
-use Rattle.node_form.specs.declared.instructions.Instr.{Instr}
-use Rattle.node_form.specs.declared.instructions.Instr.TheVariants as instr
-use Rattle.code_parts.specs.Stretch.{ends_stretch, is_goal}
+use Rattle.flat_form.specs.of_row_runs.Run.{Stop, Wrong, Stops, Effect, Does, Leaps, Passes}
+use Rattle.flat_form.specs.of_row_runs.Straight.{IsStraight, Tied, through}
+use Rattle.flat_form.specs.of_node_form.declared.instructions.Instr.{Instr}
+use Rattle.flat_form.specs.of_node_form.declared.instructions.Instr.TheVariants as instr
+use Rattle.flat_form.specs.of_code_parts.Stretch.{ends_stretch, is_goal}
 use Rattle.flat_passes.specs.Rewritten.{has_goal, with_moved_goal}
 
 -- where a jump or a test may lead

@@ -1,9 +1,9 @@
 -- Code rewritten stretch by stretch.
 use Rattle.std.specs.Prelude.{ℕ, Bool, true, false, List}
-use Rattle.row_runs.specs.Cut.{Stretch, cut, passed}
-use Rattle.node_form.specs.declared.instructions.Instr.{Instr}
-use Rattle.node_form.specs.declared.instructions.Instr.TheVariants as instr
-use Rattle.code_parts.specs.Stretch.{ends_stretch, is_goal}
+use Rattle.flat_form.specs.of_row_runs.Cut.{Stretch, cut, passed}
+use Rattle.flat_form.specs.of_node_form.declared.instructions.Instr.{Instr}
+use Rattle.flat_form.specs.of_node_form.declared.instructions.Instr.TheVariants as instr
+use Rattle.flat_form.specs.of_code_parts.Stretch.{ends_stretch, is_goal}
 
 -- the row, leading to where its goal has come to stand
 abbrev pub with_moved_goal : (ℕ → ℕ) → Instr → Instr

@@ -3,7 +3,7 @@ ghost use Rattle.std.specs.Prelude.{◌≡◌, ◌∷◌, [], ◌++◌, IfOk, On
 ghost use Rattle.flat_passes.specs.Draft.{empty_draft, moved_draft, with_loop, with_row};
 
 use crate::numbers::{NewNumbers, number_of};
-use node_form::{Code, GroupRow, Groups, Instr, Member, Rows};
+use flat_form::node_form::{Code, GroupRow, Groups, Instr, Member, Rows};
 use std::alloc::{AllocError, Global};
 
 /// The rows of new code, and the groups of its loops: each loop has one of its own, in the order

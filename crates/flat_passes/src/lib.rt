@@ -11,4 +11,5 @@ mod draft;
 mod numbers;
 
 pub use draft::Draft;
+pub use flat_form::{node_form, zpl_arrays, zpl_region};
 pub use numbers::{NewNumbers, number_of};

@@ -3,7 +3,7 @@ ghost use Rattle.std.specs.Prelude.{◌≡◌, ◌∷◌, [], ◌++◌, IfOk, On
 ghost use Rattle.flat_passes.specs.Numbers.{number_among};
 ghost use Rattle.flat_passes.specs.Rewritten.{with_moved_goal};
 
-use node_form::{Code, Instr};
+use flat_form::node_form::{Code, Instr};
 use std::alloc::{AllocError, Global};
 use std::marker::Model;
 

@@ -9,8 +9,8 @@ use Rattle.zpl_region.proofs.LawLemmas.{next_member}
 use Rattle.zpl_arrays.specs.Array.{place_among}
 use Rattle.zpl_arrays.proofs.ArrayLemmas.{only_place}
 use Rattle.grid_meaning.specs.Delivery.{each_word}
-use Rattle.node_messages.specs.Reading.{IsAppended}
-use Rattle.node_messages.proofs.ReadLemmas.{left}
+use Rattle.exchange_messages.specs.of_node_messages.Reading.{IsAppended}
+use Rattle.exchange_messages.proofs.of_node_messages.ReadLemmas.{left}
 use Rattle.delivery_stages.proofs.WordLemmas.{IsReading, reading_ends, reading_lacks, reading_starts, reading_step}
 
 drop_at : (ts : List (List ℤ)) (i : ℕ) (t : List ℤ) → slice_get ts i ≡ Some t → drop i ts ≡ t ∷ drop (i + 1) ts

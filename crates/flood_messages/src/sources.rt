@@ -2,7 +2,7 @@
 ghost use Rattle.std.specs.Prelude.{◌≡◌, is_some, IfOk};
 ghost use Rattle.grid_meaning.specs.Delivery.{each_word};
 ghost use Rattle.grid_meaning.specs.Place.{value_at};
-ghost use Rattle.node_messages.specs.Reading.{IsRead};
+ghost use Rattle.exchange_messages.specs.of_node_messages.Reading.{IsRead};
 ghost use Rattle.zpl_arrays.specs.Flood.{flood_source};
 ghost use Rattle.zpl_region.specs.Region.{IsRegion, members};
 

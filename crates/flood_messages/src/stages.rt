@@ -5,15 +5,15 @@ ghost use Rattle.grid_meaning.specs.Delivery.{flood_targets, flooded};
 ghost use Rattle.grid_meaning.specs.Local.{processors};
 ghost use Rattle.grid_meaning.specs.State.{IsSlot};
 ghost use Rattle.grid_meaning.specs.Stored.{arrangement_of};
-ghost use Rattle.node_stages.specs.Partners.{flagged};
-ghost use Rattle.node_stages.specs.Slots.{at_slots};
-ghost use Rattle.node_stages.specs.Stage.{staged};
+ghost use Rattle.exchange_messages.specs.of_node_stages.Partners.{flagged};
+ghost use Rattle.exchange_messages.specs.of_node_stages.Slots.{at_slots};
+ghost use Rattle.exchange_messages.specs.of_node_stages.Stage.{staged};
 
 use crate::pieces::flood_tuples;
 use delivery_stages::delivery_stage;
+use exchange_messages::node_stages::{MOST, Stage};
 use grid_layout::Layout;
 use node_form::NodeProgram;
-use node_stages::{MOST, Stage};
 use zpl_region::Region;
 
 /// Whether one processor has words for another.

@@ -6,24 +6,24 @@ use Rattle.std.specs.Option.{IfSome, IsSomeAnd}
 use Rattle.std.specs.List.{AllByRecursion}
 use Rattle.std.proofs.lemmas.List.{length-map, map-append}
 use Rattle.std.proofs.lemmas.List.Elements.{All-from_recursion, recursion_from_All}
-use Rattle.node_form.specs.declared.words.ExprOp.{ExprOp}
-use Rattle.node_form.specs.declared.words.ExprOp.TheVariants as word
-use Rattle.node_form.specs.declared.arrays.Item.{Item}
-use Rattle.node_form.specs.declared.members.Member.{Member}
-use Rattle.node_form.specs.declared.members.Member.TheVariants as member
-use Rattle.node_form.specs.declared.instructions.DimRow.{DimRow}
-use Rattle.node_form.specs.declared.instructions.DimRow.TheVariants as part
-use Rattle.node_form.specs.declared.instructions.Instr.{Instr}
-use Rattle.node_form.specs.declared.instructions.Instr.TheVariants as instr
-use Rattle.node_form.specs.declared.tables.Tables.{Tables}
-use Rattle.node_form.specs.Expression.{Expression, Constant, Variable, Element, Neighbour, CellValue}
-use Rattle.node_form.specs.Expression.{Coordinate, Operation, Negation, Denial, Absolute}
-use Rattle.node_form.specs.Expression.{words_of}
-use Rattle.node_form.specs.Fits.{Fits, FitsExchange, FitsExpr, FitsGroup, FitsInstr, FitsItem}
-use Rattle.node_form.specs.Fits.{FitsMember, FitsPart, FitsRemap, FitsWord, HasExpr, HasScalarExpr}
-use Rattle.node_form.specs.Fits.{IsScalarWord}
-use Rattle.node_form.specs.Nest.{Nest, Nothing, Putting, Keeping, Joining, Choosing, ChoosingElse}
-use Rattle.node_form.specs.Nest.{Looping, Repeating, members_of}
+use Rattle.temp_norm.specs.of_node_form.declared.words.ExprOp.{ExprOp}
+use Rattle.temp_norm.specs.of_node_form.declared.words.ExprOp.TheVariants as word
+use Rattle.temp_norm.specs.of_node_form.declared.arrays.Item.{Item}
+use Rattle.temp_norm.specs.of_node_form.declared.members.Member.{Member}
+use Rattle.temp_norm.specs.of_node_form.declared.members.Member.TheVariants as member
+use Rattle.temp_norm.specs.of_node_form.declared.instructions.DimRow.{DimRow}
+use Rattle.temp_norm.specs.of_node_form.declared.instructions.DimRow.TheVariants as part
+use Rattle.temp_norm.specs.of_node_form.declared.instructions.Instr.{Instr}
+use Rattle.temp_norm.specs.of_node_form.declared.instructions.Instr.TheVariants as instr
+use Rattle.temp_norm.specs.of_node_form.declared.tables.Tables.{Tables}
+use Rattle.temp_norm.specs.of_node_form.Expression.{Expression, Constant, Variable, Element, Neighbour, CellValue}
+use Rattle.temp_norm.specs.of_node_form.Expression.{Coordinate, Operation, Negation, Denial, Absolute}
+use Rattle.temp_norm.specs.of_node_form.Expression.{words_of}
+use Rattle.temp_norm.specs.of_node_form.Fits.{Fits, FitsExchange, FitsExpr, FitsGroup, FitsInstr, FitsItem}
+use Rattle.temp_norm.specs.of_node_form.Fits.{FitsMember, FitsPart, FitsRemap, FitsWord, HasExpr, HasScalarExpr}
+use Rattle.temp_norm.specs.of_node_form.Fits.{IsScalarWord}
+use Rattle.temp_norm.specs.of_node_form.Nest.{Nest, Nothing, Putting, Keeping, Joining, Choosing, ChoosingElse}
+use Rattle.temp_norm.specs.of_node_form.Nest.{Looping, Repeating, members_of}
 use Rattle.fuse_contract.specs.Contracting.{cell_among, contracted, contracted_arrays, here_or_cell}
 use Rattle.fuse_contract.specs.Contracting.{member_contracted, put_or_cell, word_contracted}
 

@@ -4,8 +4,8 @@ use Rattle.std.proofs.Common.{false, List, [], ◌∷◌, ◌++◌, length}
 use Rattle.std.proofs.lemmas.List.{length-map}
 use Rattle.std.specs.Prelude.{cond, map, sum_by}
 use Rattle.std.proofs.lemmas.List.Sums.{sum_by-cons}
-use Rattle.node_form.specs.declared.tables.Tables.{Tables}
-use Rattle.code_parts.specs.Counts.{code_size}
+use Rattle.temp_norm.specs.of_node_form.declared.tables.Tables.{Tables}
+use Rattle.temp_norm.specs.of_code_parts.Counts.{code_size}
 use Rattle.fuse_contract.specs.Contracting.{becomes_cell, cell_among, contracted}
 use Rattle.fuse_contract.specs.Contracting.{contracted_arrays, contracted_from, member_contracted}
 use Rattle.fuse_contract.specs.Contracting.{word_contracted}

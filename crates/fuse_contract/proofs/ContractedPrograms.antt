@@ -4,20 +4,20 @@ use Rattle.std.proofs.Common.{true, false, List, [], ◌∷◌, Some, None}
 use Rattle.zpl_region.specs.declared.dims.Dim.{Dim}
 use Rattle.zpl_region.specs.declared.regions.Region.{Region}
 use Rattle.zpl_region.specs.Region.{padding}
-use Rattle.node_form.specs.declared.arrays.ArrayDim.{ArrayDim}
-use Rattle.node_form.specs.declared.arrays.ArrayRow.{ArrayRow}
-use Rattle.node_form.specs.declared.tables.Tables.{Tables}
+use Rattle.temp_norm.specs.of_node_form.declared.arrays.ArrayDim.{ArrayDim}
+use Rattle.temp_norm.specs.of_node_form.declared.arrays.ArrayRow.{ArrayRow}
+use Rattle.temp_norm.specs.of_node_form.declared.tables.Tables.{Tables}
 use Rattle.fuse_contract.specs.Contracting.{contracted, contracted_arrays}
 use Rattle.zpl_nums.specs.declared.operators.Op.TheVariants as op
 use Rattle.zpl_nums.specs.declared.folds.Fold.TheVariants as fold
 use Rattle.zpl_nums.specs.declared.ends.Border.TheVariants as border
 use Rattle.zpl_region.specs.declared.dims.Dim.TheVariants as dim
-use Rattle.node_form.specs.declared.words.ExprOp.TheVariants as word
-use Rattle.node_form.specs.declared.arrays.ArrayDim.TheVariants as axis
-use Rattle.node_form.specs.declared.members.Member.TheVariants as member
-use Rattle.node_form.specs.declared.instructions.RegionForm.TheVariants as form
-use Rattle.node_form.specs.declared.instructions.DimRow.TheVariants as part
-use Rattle.node_form.specs.declared.instructions.Instr.TheVariants as instr
+use Rattle.temp_norm.specs.of_node_form.declared.words.ExprOp.TheVariants as word
+use Rattle.temp_norm.specs.of_node_form.declared.arrays.ArrayDim.TheVariants as axis
+use Rattle.temp_norm.specs.of_node_form.declared.members.Member.TheVariants as member
+use Rattle.temp_norm.specs.of_node_form.declared.instructions.RegionForm.TheVariants as form
+use Rattle.temp_norm.specs.of_node_form.declared.instructions.DimRow.TheVariants as part
+use Rattle.temp_norm.specs.of_node_form.declared.instructions.Instr.TheVariants as instr
 
 -- ---- words for regions and arrays
 abbrev at : ℤ → ℤ → ℤ → List ℤ

@@ -7,26 +7,26 @@ use Rattle.std.specs.Prelude.{slice_get}
 use Rattle.std.specs.Option.{IsSomeAnd, option_map}
 use Rattle.std.specs.List.{AllByRecursion}
 use Rattle.std.proofs.lemmas.List.Elements.{All-append, recursion_from_All}
-use Rattle.row_runs.specs.Segments.{Segment, news}
-use Rattle.row_runs.specs.Cut.{Stretch, all_rows, as_list, moved_by, relocated, rows_of, segments_by}
-use Rattle.row_runs.proofs.CutLemmas.{cut_rows}
-use Rattle.node_form.specs.declared.arrays.Item.{Item}
-use Rattle.node_form.specs.declared.members.Member.{Member}
-use Rattle.node_form.specs.declared.instructions.Instr.{Instr}
-use Rattle.node_form.specs.declared.instructions.Instr.TheVariants as instr
-use Rattle.node_form.specs.declared.tables.Tables.{Tables}
-use Rattle.node_form.specs.Fits.{Fits, FitsInstr, FitsMember, HasSlot}
-use Rattle.node_form.specs.Nest.{IsNest, opened}
-use Rattle.node_form.proofs.GrowthLemmas.{Fits-group-row}
-use Rattle.node_form.proofs.NestLemmas.{IsNest-opened, opened-append}
-use Rattle.code_parts.proofs.WalkLemmas.{both_left}
-use Rattle.code_parts.specs.Counts.{is_vote}
-use Rattle.code_parts.specs.Stretch.{ends_stretch, is_goal}
-use Rattle.code_parts.specs.Uses.{rows_or_none}
-use Rattle.flat_passes.specs.Grouped.{Grouped, Plain, Runs, ended_by, grouped, rewritten_rows}
-use Rattle.flat_passes.specs.Rewritten.{stretches_of}
-use Rattle.flat_passes.proofs.FitLemmas.{FitsGrouped, FitsInline, laid_fits}
-use Rattle.flat_passes.proofs.StretchLemmas.{HoldsOf, IsCut, all_cut, every_append, news_hold}
+use Rattle.temp_norm.specs.of_row_runs.Segments.{Segment, news}
+use Rattle.temp_norm.specs.of_row_runs.Cut.{Stretch, all_rows, as_list, moved_by, relocated, rows_of, segments_by}
+use Rattle.temp_norm.proofs.of_row_runs.CutLemmas.{cut_rows}
+use Rattle.temp_norm.specs.of_node_form.declared.arrays.Item.{Item}
+use Rattle.temp_norm.specs.of_node_form.declared.members.Member.{Member}
+use Rattle.temp_norm.specs.of_node_form.declared.instructions.Instr.{Instr}
+use Rattle.temp_norm.specs.of_node_form.declared.instructions.Instr.TheVariants as instr
+use Rattle.temp_norm.specs.of_node_form.declared.tables.Tables.{Tables}
+use Rattle.temp_norm.specs.of_node_form.Fits.{Fits, FitsInstr, FitsMember, HasSlot}
+use Rattle.temp_norm.specs.of_node_form.Nest.{IsNest, opened}
+use Rattle.temp_norm.proofs.of_node_form.GrowthLemmas.{Fits-group-row}
+use Rattle.temp_norm.proofs.of_node_form.NestLemmas.{IsNest-opened, opened-append}
+use Rattle.temp_norm.proofs.of_code_parts.WalkLemmas.{both_left}
+use Rattle.temp_norm.specs.of_code_parts.Counts.{is_vote}
+use Rattle.temp_norm.specs.of_code_parts.Stretch.{ends_stretch, is_goal}
+use Rattle.temp_norm.specs.of_code_parts.Uses.{rows_or_none}
+use Rattle.temp_norm.specs.of_flat_passes.Grouped.{Grouped, Plain, Runs, ended_by, grouped, rewritten_rows}
+use Rattle.temp_norm.specs.of_flat_passes.Rewritten.{stretches_of}
+use Rattle.temp_norm.proofs.of_flat_passes.FitLemmas.{FitsGrouped, FitsInline, laid_fits}
+use Rattle.temp_norm.proofs.of_flat_passes.StretchLemmas.{HoldsOf, IsCut, all_cut, every_append, news_hold}
 use Rattle.fuse_contract.specs.Fusing.{Loop, both, fused, joined, joins, known_behind, last_rows}
 use Rattle.fuse_contract.specs.Fusing.{references_of, with_loop}
 

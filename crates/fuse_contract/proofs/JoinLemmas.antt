@@ -6,21 +6,21 @@ use Rattle.std.specs.Option.{option_map}
 use Rattle.std.specs.List.{AllByRecursion}
 use Rattle.std.proofs.lemmas.List.{length-map}
 use Rattle.std.proofs.lemmas.List.Sums.{sum_by-append, sum_by-cons}
-use Rattle.row_runs.specs.Cut.{Stretch, as_list, moved_by}
-use Rattle.row_runs.proofs.CutLemmas.{cut_rows}
-use Rattle.node_form.specs.declared.arrays.Item.{Item}
-use Rattle.node_form.specs.declared.members.Member.{Member}
-use Rattle.node_form.specs.declared.instructions.Instr.{Instr}
-use Rattle.node_form.specs.declared.tables.Tables.{Tables}
-use Rattle.code_parts.specs.Counts.{code_size, count_of}
-use Rattle.code_parts.specs.Stretch.{ends_stretch, is_goal}
-use Rattle.flat_passes.specs.Rewritten.{has_goal, stretches_of}
-use Rattle.flat_passes.specs.Grouped.{Grouped, Runs, Plain, ended_by, grouped}
-use Rattle.flat_passes.specs.Grouped.{loop_members, members_run, rewritten_rows}
-use Rattle.flat_passes.proofs.GroupedLemmas.{all_ended_lead, all_grouped_lead}
-use Rattle.flat_passes.proofs.GroupedLemmas.{all_grouped_members, leads}
-use Rattle.flat_passes.proofs.GroupedLemmas.{members_in_groups, numbered_goals, numbered_length}
-use Rattle.flat_passes.proofs.StretchLemmas.{AsMuch, AtMost, as_much, at_most, count_append}
+use Rattle.temp_norm.specs.of_row_runs.Cut.{Stretch, as_list, moved_by}
+use Rattle.temp_norm.proofs.of_row_runs.CutLemmas.{cut_rows}
+use Rattle.temp_norm.specs.of_node_form.declared.arrays.Item.{Item}
+use Rattle.temp_norm.specs.of_node_form.declared.members.Member.{Member}
+use Rattle.temp_norm.specs.of_node_form.declared.instructions.Instr.{Instr}
+use Rattle.temp_norm.specs.of_node_form.declared.tables.Tables.{Tables}
+use Rattle.temp_norm.specs.of_code_parts.Counts.{code_size, count_of}
+use Rattle.temp_norm.specs.of_code_parts.Stretch.{ends_stretch, is_goal}
+use Rattle.temp_norm.specs.of_flat_passes.Rewritten.{has_goal, stretches_of}
+use Rattle.temp_norm.specs.of_flat_passes.Grouped.{Grouped, Runs, Plain, ended_by, grouped}
+use Rattle.temp_norm.specs.of_flat_passes.Grouped.{loop_members, members_run, rewritten_rows}
+use Rattle.temp_norm.proofs.of_flat_passes.GroupedLemmas.{all_ended_lead, all_grouped_lead}
+use Rattle.temp_norm.proofs.of_flat_passes.GroupedLemmas.{all_grouped_members, leads}
+use Rattle.temp_norm.proofs.of_flat_passes.GroupedLemmas.{members_in_groups, numbered_goals, numbered_length}
+use Rattle.temp_norm.proofs.of_flat_passes.StretchLemmas.{AsMuch, AtMost, as_much, at_most, count_append}
 use Rattle.fuse_contract.specs.Fusing.{Loop, both, fused, joined, joins, known_behind, last_rows}
 use Rattle.fuse_contract.specs.Fusing.{references_of, with_loop}
 

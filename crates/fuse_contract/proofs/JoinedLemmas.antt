@@ -4,17 +4,17 @@ use Rattle.std.proofs.Common.{List, [], ◌∷◌, ◌++◌, length, map, append
 use Rattle.std.specs.Prelude.{Option, Some, None, if◌then◌else◌, slice_get}
 use Rattle.std.specs.List.{AllByRecursion}
 use Rattle.std.proofs.Math.Path.{fun_ext}
-use Rattle.row_runs.specs.Cut.{passed}
-use Rattle.node_form.specs.declared.arrays.Item.{Item}
-use Rattle.node_form.specs.declared.instructions.Instr.{Instr}
-use Rattle.node_form.specs.declared.instructions.Instr.TheVariants as instr
-use Rattle.node_form.specs.declared.tables.Tables.{Tables}
-use Rattle.code_parts.specs.Stretch.{ends_stretch, is_goal}
-use Rattle.flat_passes.specs.declared.draft.Draft.{Draft}
-use Rattle.flat_passes.specs.Draft.{empty_draft, moved_draft, with_rows}
-use Rattle.flat_passes.specs.Grouped.{Grouped, Plain, Runs, all_numbered, ended_by, grouped, groups_of}
-use Rattle.flat_passes.specs.Rewritten.{stretches_of}
-use Rattle.flat_passes.proofs.StretchLemmas.{every_append}
+use Rattle.temp_norm.specs.of_row_runs.Cut.{passed}
+use Rattle.temp_norm.specs.of_node_form.declared.arrays.Item.{Item}
+use Rattle.temp_norm.specs.of_node_form.declared.instructions.Instr.{Instr}
+use Rattle.temp_norm.specs.of_node_form.declared.instructions.Instr.TheVariants as instr
+use Rattle.temp_norm.specs.of_node_form.declared.tables.Tables.{Tables}
+use Rattle.temp_norm.specs.of_code_parts.Stretch.{ends_stretch, is_goal}
+use Rattle.temp_norm.specs.of_flat_passes.declared.draft.Draft.{Draft}
+use Rattle.temp_norm.specs.of_flat_passes.Draft.{empty_draft, moved_draft, with_rows}
+use Rattle.temp_norm.specs.of_flat_passes.Grouped.{Grouped, Plain, Runs, all_numbered, ended_by, grouped, groups_of}
+use Rattle.temp_norm.specs.of_flat_passes.Rewritten.{stretches_of}
+use Rattle.temp_norm.proofs.of_flat_passes.StretchLemmas.{every_append}
 use Rattle.fuse_contract.specs.Behind.{GoesOn, IsBehind}
 use Rattle.fuse_contract.specs.Fusing.{Loop, both, fused, joined, joins, known_behind, last_rows}
 use Rattle.fuse_contract.specs.Fusing.{references_of, with_loop}

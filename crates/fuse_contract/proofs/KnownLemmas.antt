@@ -9,12 +9,12 @@ use Rattle.std.specs.Ordering.{int_eq}
 use Rattle.indexmap.specs.IndexMap.{IsEmpty, get}
 use Rattle.zpl_nums.specs.declared.ends.TrapKind.{TrapKind}
 use Rattle.zpl_region.specs.declared.regions.Region.{Region}
-use Rattle.node_form.specs.declared.arrays.Item.{Item}
-use Rattle.node_form.specs.declared.instructions.DimRow.{DimRow}
-use Rattle.node_form.specs.declared.instructions.RegionForm.{RegionForm}
-use Rattle.node_form.specs.declared.instructions.Instr.{Instr}
-use Rattle.node_form.specs.declared.instructions.Instr.TheVariants as instr
-use Rattle.code_parts.specs.Uses.{is_item}
+use Rattle.temp_norm.specs.of_node_form.declared.arrays.Item.{Item}
+use Rattle.temp_norm.specs.of_node_form.declared.instructions.DimRow.{DimRow}
+use Rattle.temp_norm.specs.of_node_form.declared.instructions.RegionForm.{RegionForm}
+use Rattle.temp_norm.specs.of_node_form.declared.instructions.Instr.{Instr}
+use Rattle.temp_norm.specs.of_node_form.declared.instructions.Instr.TheVariants as instr
+use Rattle.temp_norm.specs.of_code_parts.Uses.{is_item}
 use Rattle.plan_form.proofs.ItemLemmas.{is_item-Decides, taken_more}
 use Rattle.fuse_contract.specs.Fusing.{without_array, without_slots}
 use Rattle.fuse_contract.specs.Known.{IsKnown, IsPast, is_noted, is_since, item_of, key_eq}

@@ -9,14 +9,14 @@ use Rattle.std.proofs.lemmas.List.{get_or-replicate, get_or-set_other, get_or-se
 use Rattle.std.proofs.lemmas.List.{length-set}
 use Rattle.std.proofs.lemmas.Grind.{flat_map-append}
 use Rattle.std.proofs.lemmas.List.Folds.{list_any-append}
-use Rattle.node_form.specs.declared.words.ExprOp.{ExprOp}
-use Rattle.node_form.specs.declared.words.ExprOp.TheVariants as word
-use Rattle.node_form.specs.declared.members.Member.{Member}
-use Rattle.node_form.specs.declared.members.Member.TheVariants as member
-use Rattle.node_form.specs.declared.instructions.Instr.{Instr}
-use Rattle.node_form.specs.declared.tables.Tables.{Tables}
-use Rattle.node_form.specs.Group.{depth_behind}
-use Rattle.code_parts.specs.Uses.{arrays_in, member_words, put_by, shifted_in, words_of}
+use Rattle.temp_norm.specs.of_node_form.declared.words.ExprOp.{ExprOp}
+use Rattle.temp_norm.specs.of_node_form.declared.words.ExprOp.TheVariants as word
+use Rattle.temp_norm.specs.of_node_form.declared.members.Member.{Member}
+use Rattle.temp_norm.specs.of_node_form.declared.members.Member.TheVariants as member
+use Rattle.temp_norm.specs.of_node_form.declared.instructions.Instr.{Instr}
+use Rattle.temp_norm.specs.of_node_form.declared.tables.Tables.{Tables}
+use Rattle.temp_norm.specs.of_node_form.Group.{depth_behind}
+use Rattle.temp_norm.specs.of_code_parts.Uses.{arrays_in, member_words, put_by, shifted_in, words_of}
 use Rattle.fuse_contract.specs.Contracting.{arrays_of_row, becomes_cell, begins_it, cell_among}
 use Rattle.fuse_contract.specs.Contracting.{contracted, contracted_arrays, contracted_from}
 use Rattle.fuse_contract.specs.Contracting.{fits_a_cell, is_among, is_begun, is_named_in}

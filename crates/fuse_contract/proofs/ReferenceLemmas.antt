@@ -6,19 +6,19 @@ use Rattle.std.specs.Option.{IfSome, IsSomeAnd}
 use Rattle.std.specs.List.{AllByRecursion}
 use Rattle.std.proofs.lemmas.List.Elements.{All-from_recursion, recursion_from_All}
 use Rattle.zpl_region.specs.Dim.{IsUpTo}
-use Rattle.node_form.specs.declared.arrays.Item.{Item}
-use Rattle.node_form.specs.declared.words.ExprOp.{ExprOp}
-use Rattle.node_form.specs.declared.words.ExprOp.TheVariants as word
-use Rattle.node_form.specs.declared.instructions.Instr.TheVariants as instr
-use Rattle.node_form.specs.declared.members.Member.{Member}
-use Rattle.node_form.specs.declared.members.Member.TheVariants as member
-use Rattle.node_form.specs.declared.tables.Tables.{Tables}
-use Rattle.node_form.specs.Fits.{FitsInstr, FitsMember, FitsWord, HasArray, HasExpr, HasSlot}
-use Rattle.node_form.specs.Fits.{IsVector}
-use Rattle.node_form.specs.Value.{unmoved}
-use Rattle.code_parts.specs.Uses.{as_list, exprs_of, member_words, members_of, put_by, rows_or_none}
-use Rattle.code_parts.specs.Uses.{words_of}
-use Rattle.flat_passes.proofs.StretchLemmas.{every_append}
+use Rattle.temp_norm.specs.of_node_form.declared.arrays.Item.{Item}
+use Rattle.temp_norm.specs.of_node_form.declared.words.ExprOp.{ExprOp}
+use Rattle.temp_norm.specs.of_node_form.declared.words.ExprOp.TheVariants as word
+use Rattle.temp_norm.specs.of_node_form.declared.instructions.Instr.TheVariants as instr
+use Rattle.temp_norm.specs.of_node_form.declared.members.Member.{Member}
+use Rattle.temp_norm.specs.of_node_form.declared.members.Member.TheVariants as member
+use Rattle.temp_norm.specs.of_node_form.declared.tables.Tables.{Tables}
+use Rattle.temp_norm.specs.of_node_form.Fits.{FitsInstr, FitsMember, FitsWord, HasArray, HasExpr, HasSlot}
+use Rattle.temp_norm.specs.of_node_form.Fits.{IsVector}
+use Rattle.temp_norm.specs.of_node_form.Value.{unmoved}
+use Rattle.temp_norm.specs.of_code_parts.Uses.{as_list, exprs_of, member_words, members_of, put_by, rows_or_none}
+use Rattle.temp_norm.specs.of_code_parts.Uses.{words_of}
+use Rattle.temp_norm.proofs.of_flat_passes.StretchLemmas.{every_append}
 use Rattle.fuse_contract.specs.Behind.{FitsReference}
 use Rattle.fuse_contract.specs.Fusing.{reference, references_in, references_of}
 

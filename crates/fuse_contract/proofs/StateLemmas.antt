@@ -6,13 +6,13 @@ use Rattle.std.specs.Prelude.{◌==◌, ◌||◌, Option, Some, None, flat_map, 
 use Rattle.std.specs.List.{filter_map, list_any}
 use Rattle.std.proofs.lemmas.List.{append-nil, drop_all, map-append}
 use Rattle.std.proofs.lemmas.List.Sums.{fold-append}
-use Rattle.node_form.specs.declared.words.ExprOp.{ExprOp}
-use Rattle.node_form.specs.declared.words.ExprOp.TheVariants as word
-use Rattle.node_form.specs.declared.members.Member.{Member}
-use Rattle.node_form.specs.declared.tables.Tables.{Tables}
-use Rattle.node_form.specs.Group.{depth_behind}
-use Rattle.code_parts.specs.Uses.{arrays_in, as_list}
-use Rattle.flat_passes.proofs.DraftLemmas.{rest_at}
+use Rattle.temp_norm.specs.of_node_form.declared.words.ExprOp.{ExprOp}
+use Rattle.temp_norm.specs.of_node_form.declared.words.ExprOp.TheVariants as word
+use Rattle.temp_norm.specs.of_node_form.declared.members.Member.{Member}
+use Rattle.temp_norm.specs.of_node_form.declared.tables.Tables.{Tables}
+use Rattle.temp_norm.specs.of_node_form.Group.{depth_behind}
+use Rattle.temp_norm.specs.of_code_parts.Uses.{arrays_in, as_list}
+use Rattle.temp_norm.proofs.of_flat_passes.DraftLemmas.{rest_at}
 use Rattle.plan_form.proofs.ItemLemmas.{taken_more}
 use Rattle.fuse_contract.specs.Cells.{AreCells}
 use Rattle.fuse_contract.specs.Contracting.{begins_it, contracted, is_among, member_contracted}

@@ -7,16 +7,16 @@ use Rattle.std.specs.declared.alloc.AllocError.{AllocError}
 use Rattle.std.specs.List.{list_all}
 use Rattle.std.proofs.lemmas.List.{append-nil}
 use Rattle.std.proofs.lemmas.List.Folds.{list_all-append}
-use Rattle.node_form.specs.declared.arrays.Item.{Item}
-use Rattle.node_form.specs.declared.instructions.Instr.{Instr}
-use Rattle.node_form.specs.declared.instructions.Instr.TheVariants as instr
-use Rattle.node_form.specs.declared.members.Member.{Member}
-use Rattle.node_form.specs.declared.tables.Tables.{Tables}
-use Rattle.code_parts.specs.Uses.{members_of}
-use Rattle.flat_passes.specs.declared.draft.Draft.{Draft}
-use Rattle.flat_passes.specs.Draft.{with_row, with_rows}
-use Rattle.flat_passes.specs.Grouped.{Grouped, Plain}
-use Rattle.flat_passes.proofs.DraftLemmas.{no_rows, rows_both}
+use Rattle.temp_norm.specs.of_node_form.declared.arrays.Item.{Item}
+use Rattle.temp_norm.specs.of_node_form.declared.instructions.Instr.{Instr}
+use Rattle.temp_norm.specs.of_node_form.declared.instructions.Instr.TheVariants as instr
+use Rattle.temp_norm.specs.of_node_form.declared.members.Member.{Member}
+use Rattle.temp_norm.specs.of_node_form.declared.tables.Tables.{Tables}
+use Rattle.temp_norm.specs.of_code_parts.Uses.{members_of}
+use Rattle.temp_norm.specs.of_flat_passes.declared.draft.Draft.{Draft}
+use Rattle.temp_norm.specs.of_flat_passes.Draft.{with_row, with_rows}
+use Rattle.temp_norm.specs.of_flat_passes.Grouped.{Grouped, Plain}
+use Rattle.temp_norm.proofs.of_flat_passes.DraftLemmas.{no_rows, rows_both}
 use Rattle.plan_form.proofs.ItemLemmas.{taken_more}
 use Rattle.fuse_contract.specs.Behind.{GoesOn, IsBehind, IsGrown, IsLast}
 use Rattle.fuse_contract.specs.Fusing.{Loop, can_join, known_behind, last_rows, lies_within}

@@ -6,19 +6,19 @@ use Rattle.std.specs.Prelude.{slice_get}
 use Rattle.std.specs.List.{AllByRecursion, list_any}
 use Rattle.std.proofs.lemmas.List.Elements.{All-from_recursion, recursion_from_All}
 use Rattle.std.proofs.lemmas.List.Sums.{sum_by-append, sum_by-cons}
-use Rattle.row_runs.specs.Cut.{Stretch, moved_by}
-use Rattle.node_form.specs.declared.arrays.Item.{Item}
-use Rattle.node_form.specs.declared.members.Member.{Member}
-use Rattle.node_form.specs.declared.members.Member.TheVariants as member
-use Rattle.node_form.specs.declared.instructions.Instr.{Instr}
-use Rattle.node_form.specs.declared.instructions.Instr.TheVariants as instr
-use Rattle.node_form.specs.declared.tables.Tables.{Tables}
-use Rattle.code_parts.specs.Uses.{is_turning, rows_or_none}
-use Rattle.code_parts.proofs.WalkLemmas.{both_left, both_right}
-use Rattle.flat_passes.specs.Rewritten.{stretches_of}
-use Rattle.flat_passes.specs.Grouped.{Grouped, Plain, Runs, ended_by, grouped, groups_of}
-use Rattle.flat_passes.specs.Grouped.{rewritten_rows}
-use Rattle.flat_passes.proofs.StretchLemmas.{HoldsOf, every_append, news_hold}
+use Rattle.temp_norm.specs.of_row_runs.Cut.{Stretch, moved_by}
+use Rattle.temp_norm.specs.of_node_form.declared.arrays.Item.{Item}
+use Rattle.temp_norm.specs.of_node_form.declared.members.Member.{Member}
+use Rattle.temp_norm.specs.of_node_form.declared.members.Member.TheVariants as member
+use Rattle.temp_norm.specs.of_node_form.declared.instructions.Instr.{Instr}
+use Rattle.temp_norm.specs.of_node_form.declared.instructions.Instr.TheVariants as instr
+use Rattle.temp_norm.specs.of_node_form.declared.tables.Tables.{Tables}
+use Rattle.temp_norm.specs.of_code_parts.Uses.{is_turning, rows_or_none}
+use Rattle.temp_norm.proofs.of_code_parts.WalkLemmas.{both_left, both_right}
+use Rattle.temp_norm.specs.of_flat_passes.Rewritten.{stretches_of}
+use Rattle.temp_norm.specs.of_flat_passes.Grouped.{Grouped, Plain, Runs, ended_by, grouped, groups_of}
+use Rattle.temp_norm.specs.of_flat_passes.Grouped.{rewritten_rows}
+use Rattle.temp_norm.proofs.of_flat_passes.StretchLemmas.{HoldsOf, every_append, news_hold}
 use Rattle.fuse_contract.specs.Contracting.{cell_among, contracted, contracted_arrays}
 use Rattle.fuse_contract.specs.Contracting.{member_contracted, put_or_cell}
 use Rattle.fuse_contract.specs.Fusing.{Loop, both, can_join, fused, joined, joins, known_behind}

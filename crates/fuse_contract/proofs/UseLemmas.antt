@@ -8,14 +8,14 @@ use Rattle.std.proofs.lemmas.Grind.{flat_map-append}
 use Rattle.std.proofs.lemmas.List.{append-nil, append_assoc, map-append}
 use Rattle.std.proofs.lemmas.List.Sums.{fold-append}
 use Rattle.std.proofs.lemmas.List.Folds.{list_any-append}
-use Rattle.node_form.specs.declared.arrays.Item.{Item}
-use Rattle.node_form.specs.declared.members.Member.{Member}
-use Rattle.node_form.specs.declared.members.Member.TheVariants as member
-use Rattle.node_form.specs.declared.tables.Tables.{Tables}
-use Rattle.node_form.specs.declared.words.ExprOp.{ExprOp}
-use Rattle.node_form.specs.Value.{unmoved}
-use Rattle.code_parts.specs.Uses.{accumulated_by, as_list, exprs_of, is_turning, member_words, put_by}
-use Rattle.code_parts.specs.Uses.{scalars_in, share, shifted_in, words_of}
+use Rattle.temp_norm.specs.of_node_form.declared.arrays.Item.{Item}
+use Rattle.temp_norm.specs.of_node_form.declared.members.Member.{Member}
+use Rattle.temp_norm.specs.of_node_form.declared.members.Member.TheVariants as member
+use Rattle.temp_norm.specs.of_node_form.declared.tables.Tables.{Tables}
+use Rattle.temp_norm.specs.of_node_form.declared.words.ExprOp.{ExprOp}
+use Rattle.temp_norm.specs.of_node_form.Value.{unmoved}
+use Rattle.temp_norm.specs.of_code_parts.Uses.{accumulated_by, as_list, exprs_of, is_turning, member_words, put_by}
+use Rattle.temp_norm.specs.of_code_parts.Uses.{scalars_in, share, shifted_in, words_of}
 use Rattle.plan_form.proofs.ItemLemmas.{taken_more}
 use Rattle.fuse_contract.specs.Fusing.{all_accumulated, are_like, are_put_alike, can_join}
 use Rattle.fuse_contract.specs.Fusing.{is_accumulating, reference, references_in, stands_with}

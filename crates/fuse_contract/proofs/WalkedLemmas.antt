@@ -4,18 +4,18 @@ use Rattle.std.proofs.Common.{Bool, true, false, true≢false, List, [], ◌∷�
 use Rattle.std.specs.Prelude.{◌||◌, Some, slice_get}
 use Rattle.std.specs.List.{AllByRecursion, list_any}
 use Rattle.std.proofs.lemmas.List.{append-nil, append_assoc, drop_all, length-append, map-append}
-use Rattle.node_form.specs.declared.instructions.Instr.{Instr}
-use Rattle.node_form.specs.declared.instructions.Instr.TheVariants as instr
-use Rattle.node_form.specs.declared.members.Member.{Member}
-use Rattle.row_runs.specs.Cut.{moved_by, passed}
-use Rattle.code_parts.specs.Stretch.{ends_stretch, is_goal, leads_to}
-use Rattle.flat_passes.specs.declared.draft.Draft.{Draft}
-use Rattle.flat_passes.specs.Draft.{empty_draft, moved_draft, with_rows}
-use Rattle.flat_passes.specs.Grouped.{Grouped, Plain, Runs, all_numbered, ended_by, groups_of}
-use Rattle.flat_passes.specs.Numbers.{number_among}
-use Rattle.flat_passes.specs.Rewritten.{stretches_of, with_moved_goal}
-use Rattle.flat_passes.proofs.DraftLemmas.{move_grouped, numbered_length, rest_at, rows_both}
-use Rattle.flat_passes.proofs.NumberLemmas.{same_moved_goal, straight_unmoved}
+use Rattle.temp_norm.specs.of_node_form.declared.instructions.Instr.{Instr}
+use Rattle.temp_norm.specs.of_node_form.declared.instructions.Instr.TheVariants as instr
+use Rattle.temp_norm.specs.of_node_form.declared.members.Member.{Member}
+use Rattle.temp_norm.specs.of_row_runs.Cut.{moved_by, passed}
+use Rattle.temp_norm.specs.of_code_parts.Stretch.{ends_stretch, is_goal, leads_to}
+use Rattle.temp_norm.specs.of_flat_passes.declared.draft.Draft.{Draft}
+use Rattle.temp_norm.specs.of_flat_passes.Draft.{empty_draft, moved_draft, with_rows}
+use Rattle.temp_norm.specs.of_flat_passes.Grouped.{Grouped, Plain, Runs, all_numbered, ended_by, groups_of}
+use Rattle.temp_norm.specs.of_flat_passes.Numbers.{number_among}
+use Rattle.temp_norm.specs.of_flat_passes.Rewritten.{stretches_of, with_moved_goal}
+use Rattle.temp_norm.proofs.of_flat_passes.DraftLemmas.{move_grouped, numbered_length, rest_at, rows_both}
+use Rattle.temp_norm.proofs.of_flat_passes.NumberLemmas.{same_moved_goal, straight_unmoved}
 use Rattle.plan_form.proofs.WalkLemmas as walks
 
 either_first : (a b : Bool) → a ≡ true → (a || b) ≡ true

@@ -5,11 +5,11 @@
 --   GoesOn           rows are written, and other facts are known behind them
 --   FitsReference    a reference as the loop of a program that fits may have it
 use Rattle.std.specs.Prelude.{◌≡◌, ℕ, Option, Some, None, List}
-use Rattle.node_form.specs.declared.arrays.Item.{Item}
-use Rattle.node_form.specs.declared.tables.Tables.{Tables}
-use Rattle.node_form.specs.Fits.{HasArray, HasSlot, IsVector}
-use Rattle.flat_passes.specs.Draft.{with_rows}
-use Rattle.flat_passes.specs.Grouped.{Grouped}
+use Rattle.temp_norm.specs.of_node_form.declared.arrays.Item.{Item}
+use Rattle.temp_norm.specs.of_node_form.declared.tables.Tables.{Tables}
+use Rattle.temp_norm.specs.of_node_form.Fits.{HasArray, HasSlot, IsVector}
+use Rattle.temp_norm.specs.of_flat_passes.Draft.{with_rows}
+use Rattle.temp_norm.specs.of_flat_passes.Grouped.{Grouped}
 use Rattle.fuse_contract.specs.Fusing.{Loop}
 use Rattle.fuse_contract.specs.Joining.{Facts, no_numbers, uses_of, with_uses}
 use Rattle.fuse_contract.specs.Known.{IsKnown}

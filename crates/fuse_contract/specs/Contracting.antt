@@ -3,15 +3,15 @@ use Rattle.std.specs.Prelude.{ℕ, zero, suc, ◌+◌, ◌==◌, Bool, false, no
 use Rattle.std.specs.Prelude.{Option, Some, None, if◌then◌else◌}
 use Rattle.std.specs.Prelude.{List, [], ◌∷◌, ◌++◌, flat_map, length, map}
 use Rattle.std.specs.List.{list_any, filter_map}
-use Rattle.node_form.specs.declared.words.ExprOp.{ExprOp}
-use Rattle.node_form.specs.declared.words.ExprOp.TheVariants as word
-use Rattle.node_form.specs.declared.members.Member.{Member}
-use Rattle.node_form.specs.declared.members.Member.TheVariants as member
-use Rattle.node_form.specs.declared.instructions.Instr.{Instr}
-use Rattle.node_form.specs.declared.instructions.Instr.TheVariants as instr
-use Rattle.node_form.specs.declared.tables.Tables.{Tables}
-use Rattle.node_form.specs.Group.{depth_behind}
-use Rattle.code_parts.specs.Uses.{arrays_in, as_list, named_by, shifted_in, member_words, words_of}
+use Rattle.temp_norm.specs.of_node_form.declared.words.ExprOp.{ExprOp}
+use Rattle.temp_norm.specs.of_node_form.declared.words.ExprOp.TheVariants as word
+use Rattle.temp_norm.specs.of_node_form.declared.members.Member.{Member}
+use Rattle.temp_norm.specs.of_node_form.declared.members.Member.TheVariants as member
+use Rattle.temp_norm.specs.of_node_form.declared.instructions.Instr.{Instr}
+use Rattle.temp_norm.specs.of_node_form.declared.instructions.Instr.TheVariants as instr
+use Rattle.temp_norm.specs.of_node_form.declared.tables.Tables.{Tables}
+use Rattle.temp_norm.specs.of_node_form.Group.{depth_behind}
+use Rattle.temp_norm.specs.of_code_parts.Uses.{arrays_in, as_list, named_by, shifted_in, member_words, words_of}
 
 -- ---- which arrays
 abbrev pub is_among : ℕ → List ℕ → Bool

@@ -4,21 +4,21 @@ use Rattle.std.specs.Prelude.{ℕ, ◌==◌, Bool, true, false, not, ◌&&◌, �
 use Rattle.std.specs.Prelude.{List, [], ◌∷◌, ◌++◌, filter, flat_map, map, slice_get}
 use Rattle.std.specs.Prelude.{if◌then◌else◌}
 use Rattle.std.specs.List.{list_all, list_any}
-use Rattle.node_form.specs.declared.words.ExprOp.{ExprOp}
-use Rattle.node_form.specs.declared.words.ExprOp.TheVariants as word
-use Rattle.node_form.specs.declared.arrays.ArrayRow.{ArrayRow}
-use Rattle.node_form.specs.declared.arrays.Item.{Item}
-use Rattle.node_form.specs.declared.members.Member.{Member}
-use Rattle.node_form.specs.declared.members.Member.TheVariants as member
-use Rattle.node_form.specs.declared.instructions.Instr.{Instr}
-use Rattle.node_form.specs.declared.instructions.Instr.TheVariants as instr
-use Rattle.node_form.specs.declared.tables.Tables.{Tables}
-use Rattle.node_form.specs.Value.{unmoved}
-use Rattle.code_parts.specs.Uses.{accumulated_by, is_item, member_words, put_by, scalars_in}
-use Rattle.code_parts.specs.Uses.{share, written_slots}
-use Rattle.code_parts.specs.Needs.{is_decided}
-use Rattle.code_parts.specs.Fused.{are_joinable}
-use Rattle.flat_passes.specs.Grouped.{Grouped, Runs, Plain, rewritten_rows, with_grouped}
+use Rattle.temp_norm.specs.of_node_form.declared.words.ExprOp.{ExprOp}
+use Rattle.temp_norm.specs.of_node_form.declared.words.ExprOp.TheVariants as word
+use Rattle.temp_norm.specs.of_node_form.declared.arrays.ArrayRow.{ArrayRow}
+use Rattle.temp_norm.specs.of_node_form.declared.arrays.Item.{Item}
+use Rattle.temp_norm.specs.of_node_form.declared.members.Member.{Member}
+use Rattle.temp_norm.specs.of_node_form.declared.members.Member.TheVariants as member
+use Rattle.temp_norm.specs.of_node_form.declared.instructions.Instr.{Instr}
+use Rattle.temp_norm.specs.of_node_form.declared.instructions.Instr.TheVariants as instr
+use Rattle.temp_norm.specs.of_node_form.declared.tables.Tables.{Tables}
+use Rattle.temp_norm.specs.of_node_form.Value.{unmoved}
+use Rattle.temp_norm.specs.of_code_parts.Uses.{accumulated_by, is_item, member_words, put_by, scalars_in}
+use Rattle.temp_norm.specs.of_code_parts.Uses.{share, written_slots}
+use Rattle.temp_norm.specs.of_code_parts.Needs.{is_decided}
+use Rattle.temp_norm.specs.of_code_parts.Fused.{are_joinable}
+use Rattle.temp_norm.specs.of_flat_passes.Grouped.{Grouped, Runs, Plain, rewritten_rows, with_grouped}
 use Rattle.temp_norm.specs.Normalised.{is_like}
 
 -- ---- references: an array, by a slot's region moved by a shift

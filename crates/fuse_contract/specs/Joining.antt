@@ -10,16 +10,16 @@
 use Rattle.std.specs.Prelude.{ℕ, ◌==◌, Bool, true, false, not, ◌&&◌, ◌||◌, Option, Some, None}
 use Rattle.std.specs.Prelude.{List, [], ◌∷◌, ◌++◌, flat_map, fold, if◌then◌else◌, map}
 use Rattle.std.specs.List.{list_any}
-use Rattle.node_form.specs.declared.words.ExprOp.{ExprOp}
-use Rattle.node_form.specs.declared.arrays.Item.{Item}
-use Rattle.node_form.specs.declared.members.Member.{Member}
-use Rattle.node_form.specs.declared.instructions.Instr.{Instr}
-use Rattle.node_form.specs.declared.instructions.Instr.TheVariants as instr
-use Rattle.node_form.specs.declared.tables.Tables.{Tables}
-use Rattle.node_form.specs.Value.{unmoved}
-use Rattle.code_parts.specs.Uses.{is_turning, member_words, members_of, put_by, scalars_in, share}
-use Rattle.code_parts.specs.Uses.{shifted_in}
-use Rattle.flat_passes.specs.Grouped.{Grouped, Plain}
+use Rattle.temp_norm.specs.of_node_form.declared.words.ExprOp.{ExprOp}
+use Rattle.temp_norm.specs.of_node_form.declared.arrays.Item.{Item}
+use Rattle.temp_norm.specs.of_node_form.declared.members.Member.{Member}
+use Rattle.temp_norm.specs.of_node_form.declared.instructions.Instr.{Instr}
+use Rattle.temp_norm.specs.of_node_form.declared.instructions.Instr.TheVariants as instr
+use Rattle.temp_norm.specs.of_node_form.declared.tables.Tables.{Tables}
+use Rattle.temp_norm.specs.of_node_form.Value.{unmoved}
+use Rattle.temp_norm.specs.of_code_parts.Uses.{is_turning, member_words, members_of, put_by, scalars_in, share}
+use Rattle.temp_norm.specs.of_code_parts.Uses.{shifted_in}
+use Rattle.temp_norm.specs.of_flat_passes.Grouped.{Grouped, Plain}
 use Rattle.fuse_contract.specs.Fusing.{Loop, all_accumulated, are_put_alike, both, is_accumulating}
 use Rattle.fuse_contract.specs.Fusing.{joins, known_behind, last_rows, reference, references_in}
 use Rattle.fuse_contract.specs.Fusing.{references_of}

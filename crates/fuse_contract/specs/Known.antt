@@ -11,10 +11,10 @@ use Rattle.std.specs.List.{list_any}
 use Rattle.std.specs.Cmp.Lexicographic.{pointwise}
 use Rattle.std.specs.Ordering.{int_eq}
 use Rattle.indexmap.specs.IndexMap.{get}
-use Rattle.node_form.specs.declared.arrays.Item.{Item}
-use Rattle.node_form.specs.declared.instructions.Instr.{Instr}
-use Rattle.node_form.specs.declared.instructions.Instr.TheVariants as instr
-use Rattle.code_parts.specs.Uses.{is_item}
+use Rattle.temp_norm.specs.of_node_form.declared.arrays.Item.{Item}
+use Rattle.temp_norm.specs.of_node_form.declared.instructions.Instr.{Instr}
+use Rattle.temp_norm.specs.of_node_form.declared.instructions.Instr.TheVariants as instr
+use Rattle.temp_norm.specs.of_code_parts.Uses.{is_item}
 use Rattle.fuse_contract.specs.Fusing.{known_behind}
 use Rattle.fuse_contract.specs.declared.known.Reference.{Reference}
 use Rattle.fuse_contract.specs.declared.known.Known.{Known}

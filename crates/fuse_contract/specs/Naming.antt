@@ -7,13 +7,13 @@
 use Rattle.std.specs.Prelude.{ℕ, ◌+◌, ◌==◌, Bool, true, false, Option, Some, None}
 use Rattle.std.specs.Prelude.{List, [], ◌∷◌, fold, if◌then◌else◌, length, map, replicate, slice_get}
 use Rattle.std.specs.Prelude.{slice_index_or, slice_set, unwrap_or}
-use Rattle.node_form.specs.declared.words.ExprOp.{ExprOp}
-use Rattle.node_form.specs.declared.words.ExprOp.TheVariants as word
-use Rattle.node_form.specs.declared.members.Member.{Member}
-use Rattle.node_form.specs.declared.instructions.Instr.{Instr}
-use Rattle.node_form.specs.declared.tables.Tables.{Tables}
-use Rattle.node_form.specs.Group.{depth_behind}
-use Rattle.code_parts.specs.Uses.{member_words, put_by}
+use Rattle.temp_norm.specs.of_node_form.declared.words.ExprOp.{ExprOp}
+use Rattle.temp_norm.specs.of_node_form.declared.words.ExprOp.TheVariants as word
+use Rattle.temp_norm.specs.of_node_form.declared.members.Member.{Member}
+use Rattle.temp_norm.specs.of_node_form.declared.instructions.Instr.{Instr}
+use Rattle.temp_norm.specs.of_node_form.declared.tables.Tables.{Tables}
+use Rattle.temp_norm.specs.of_node_form.Group.{depth_behind}
+use Rattle.temp_norm.specs.of_code_parts.Uses.{member_words, put_by}
 use Rattle.fuse_contract.specs.Contracting.{arrays_of_row, begins_it, member_contracted}
 use Rattle.fuse_contract.specs.Contracting.{word_contracted}
 use Rattle.fuse_contract.specs.declared.states.CellState.{CellState}

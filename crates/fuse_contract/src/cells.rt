@@ -5,8 +5,8 @@ ghost use Rattle.fuse_contract.specs.Naming.{cell_at, count_with, next_cell};
 ghost use Rattle.fuse_contract.specs.Cells.{AreCells};
 
 use crate::states::{CellState, states_of};
-use node_form::{ExprOp, ExprRow, Exprs, GroupRow, Groups, Member, Rows, Tables};
 use std::alloc::{AllocError, Global};
+use temp_norm::node_form::{ExprOp, ExprRow, Exprs, GroupRow, Groups, Member, Rows, Tables};
 
 /// A cell for each array that becomes one, and how many cells there are with them.
 #[derive(Drop)]

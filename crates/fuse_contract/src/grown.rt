@@ -1,7 +1,7 @@
 //! Groups that grow by those of later loops.
 ghost use Rattle.std.specs.Prelude.{◌≡◌, [], IfOk, OnOk, flat_map, fold};
 ghost use Rattle.std.specs.List.{list_all};
-ghost use Rattle.code_parts.specs.Uses.{accumulated_by, share};
+ghost use Rattle.temp_norm.specs.of_code_parts.Uses.{accumulated_by, share};
 ghost use Rattle.temp_norm.specs.Normalised.{is_like, is_same_kind};
 ghost use Rattle.fuse_contract.specs.Fusing.{are_like, are_put_alike};
 ghost use Rattle.fuse_contract.specs.Joining.{
@@ -14,9 +14,9 @@ ghost use Rattle.fuse_contract.specs.Joining.{
 
 use crate::uses::GroupUses;
 use indexmap::IndexSet;
-use node_form::{ArrayDim, ArrayRow, Member, Rows, Tables};
 use std::alloc::{AllocError, Global};
 use std::marker::Model;
+use temp_norm::node_form::{ArrayDim, ArrayRow, Member, Rows, Tables};
 
 /// Numbers, each once. Contracts see them as their list, in the order in which they came.
 #[derive(Drop)]

@@ -2,14 +2,14 @@
 ghost use Rattle.std.specs.Prelude.{◌≡◌, ◌==◌, ◌&&◌, [], All, IfOk, List, None, OnOk, Option, Some};
 ghost use Rattle.std.specs.Prelude.{if◌then◌else◌, length};
 ghost use Rattle.std.specs.List.{list_all};
-ghost use Rattle.node_form.specs.declared.arrays.Item.{Item as Place};
-ghost use Rattle.node_form.specs.declared.members.Member.{Member as Part};
-ghost use Rattle.node_form.specs.declared.instructions.Instr.TheVariants as instr;
-ghost use Rattle.node_form.specs.declared.tables.Tables.{Tables as Code};
-ghost use Rattle.node_form.specs.Fits.{Fits, FitsInstr};
+ghost use Rattle.temp_norm.specs.of_node_form.declared.arrays.Item.{Item as Place};
+ghost use Rattle.temp_norm.specs.of_node_form.declared.members.Member.{Member as Part};
+ghost use Rattle.temp_norm.specs.of_node_form.declared.instructions.Instr.TheVariants as instr;
+ghost use Rattle.temp_norm.specs.of_node_form.declared.tables.Tables.{Tables as Code};
+ghost use Rattle.temp_norm.specs.of_node_form.Fits.{Fits, FitsInstr};
 ghost use Rattle.bound_check.specs.Writes.{all_noted};
 ghost use Rattle.plan_form.specs.Goals.{AreGoals};
-ghost use Rattle.flat_passes.specs.Draft.{empty_draft};
+ghost use Rattle.temp_norm.specs.of_flat_passes.Draft.{empty_draft};
 ghost use Rattle.fuse_contract.specs.Fusing.{Loop, always_lies, fused, last_rows, lies_within};
 ghost use Rattle.fuse_contract.specs.Behind.{FitsReference, GoesOn, IsBehind, IsLast};
 ghost use Rattle.fuse_contract.specs.Known.{IsKnown};
@@ -35,10 +35,10 @@ use crate::grown::{NumberSet, UsedNumbers, totals_of};
 use crate::known::Known;
 use crate::uses::{GroupUses, uses_of};
 use bound_check::{Writes, is_decided};
-use flat_passes::{Draft, NewNumbers};
-use node_form::{Instr, Item, Member, Rows, Tables};
 use plan_form::{goals_of, members_of};
 use std::alloc::{AllocError, Global};
+use temp_norm::flat_passes::{Draft, NewNumbers};
+use temp_norm::node_form::{Instr, Item, Member, Rows, Tables};
 
 /// A loop that others may still join: its slot, its members, and what these use.
 #[derive(Drop)]

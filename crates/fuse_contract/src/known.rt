@@ -1,16 +1,16 @@
 //! References that are known to lie within their arrays.
 ghost use Rattle.std.specs.Prelude.{◌≡◌, ◌∷◌, ◌++◌, [], OnOk, List, nat_eq};
 ghost use Rattle.std.specs.List.{list_any};
-ghost use Rattle.node_form.specs.declared.arrays.Item.{Item as Place};
-ghost use Rattle.node_form.specs.Value.{unmoved};
-ghost use Rattle.code_parts.specs.Uses.{is_item};
+ghost use Rattle.temp_norm.specs.of_node_form.declared.arrays.Item.{Item as Place};
+ghost use Rattle.temp_norm.specs.of_node_form.Value.{unmoved};
+ghost use Rattle.temp_norm.specs.of_code_parts.Uses.{is_item};
 ghost use Rattle.fuse_contract.specs.Fusing.{reference, without_array, without_slots};
 ghost use Rattle.fuse_contract.specs.Known.{IsKnown, is_since, known_after, or_never};
 ghost use Rattle.indexmap.specs.IndexMap.{get};
 
 use indexmap::IndexMap;
-use node_form::{Instr, Item, Rows};
 use std::alloc::{AllocError, Global};
+use temp_norm::node_form::{Instr, Item, Rows};
 use zpl_region::Vec3;
 
 /// A reference, as it is told from others.

@@ -9,12 +9,12 @@ mod states;
 mod uses;
 
 ghost use Rattle.std.specs.Prelude.{◌≡◌, ℕ, ◌+◌, ◌≤◌, All, count_by, false, length, sum_by};
-ghost use Rattle.node_form.specs.Fits.{Fits};
-ghost use Rattle.node_form.specs.declared.tables.Tables.{Tables as Code};
-ghost use Rattle.code_parts.specs.Counts.{code_size, count_of, is_vote};
-ghost use Rattle.code_parts.specs.Uses.{is_turning};
-ghost use Rattle.flat_passes.specs.Grouped.{loop_members};
-ghost use Rattle.flat_passes.specs.Rewritten.{has_goal};
+ghost use Rattle.temp_norm.specs.of_node_form.Fits.{Fits};
+ghost use Rattle.temp_norm.specs.of_node_form.declared.tables.Tables.{Tables as Code};
+ghost use Rattle.temp_norm.specs.of_code_parts.Counts.{code_size, count_of, is_vote};
+ghost use Rattle.temp_norm.specs.of_code_parts.Uses.{is_turning};
+ghost use Rattle.temp_norm.specs.of_flat_passes.Grouped.{loop_members};
+ghost use Rattle.temp_norm.specs.of_flat_passes.Rewritten.{has_goal};
 ghost use Rattle.fuse_contract.specs.Contracting.{contracted};
 ghost use Rattle.fuse_contract.specs.Fusing.{fused};
 

@@ -1,8 +1,8 @@
 //! Which arrays become cells.
 ghost use Rattle.std.specs.Prelude.{◌≡◌, IfOk, OnOk, fold, flat_map, replicate};
 ghost use Rattle.std.specs.List.{filter_map, list_any};
-ghost use Rattle.node_form.specs.Group.{depth_behind};
-ghost use Rattle.code_parts.specs.Uses.{arrays_in, as_list, put_by, words_of};
+ghost use Rattle.temp_norm.specs.of_node_form.Group.{depth_behind};
+ghost use Rattle.temp_norm.specs.of_code_parts.Uses.{arrays_in, as_list, put_by, words_of};
 ghost use Rattle.fuse_contract.specs.declared.states.CellState.TheVariants as state;
 ghost use Rattle.fuse_contract.specs.Contracting.{begins_it, is_among};
 ghost use Rattle.fuse_contract.specs.Naming.{
@@ -20,9 +20,9 @@ ghost use Rattle.fuse_contract.specs.Naming.{
 };
 
 use crate::uses::{Exprs, exprs_of};
-use node_form::{ExprOp, Instr, Member, Tables};
 use plan_form::words_of;
 use std::alloc::{AllocError, Global};
+use temp_norm::node_form::{ExprOp, Instr, Member, Tables};
 
 /// What the names of an array, so far, say of it.
 #[derive(Clone, Copy)]

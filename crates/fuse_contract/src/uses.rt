@@ -1,11 +1,11 @@
 //! What the group of a loop puts and reads.
 ghost use Rattle.std.specs.Prelude.{◌≡◌, ◌++◌, IfOk, OnOk, flat_map, fold};
-ghost use Rattle.code_parts.specs.Uses.{as_list, exprs_of, member_words, words_of};
+ghost use Rattle.temp_norm.specs.of_code_parts.Uses.{as_list, exprs_of, member_words, words_of};
 ghost use Rattle.fuse_contract.specs.Joining.{no_uses, uses_of, with_member, with_word};
 
-use node_form::{ExprOp, Item, Member, Rows, Tables};
 use plan_form::words_of;
 use std::alloc::{AllocError, Global};
+use temp_norm::node_form::{ExprOp, Item, Member, Rows, Tables};
 
 /// The arrays that a group puts, and those that it reads with a shift; the scalars that it reads;
 /// the references of its loop; and whether it has `while` or `repeat`, or accumulates.

@@ -21,7 +21,7 @@ use Rattle.node_form.specs.declared.words.ExprOp.TheVariants as word
 use Rattle.row_runs.specs.Run.{Ends, Result, Stop}
 use Rattle.flat_form.specs.Act.{flat_run}
 use Rattle.flat_form.specs.Row.{Acc, Cell, Loop, Member, Plain, Print, Put, Row, Words, with_rows}
-use Rattle.fuse_contract.specs.Fusing.{fused}
+use Rattle.contracted_runs.specs.of_fuse_contract.Fusing.{fused}
 
 abbrev line : ℤ → ℤ → Region
 line lo hi = record { rank = 1; dims = all_from lo hi ∷ padding ∷ padding ∷ [] }

@@ -34,11 +34,11 @@ use Rattle.flat_passes.specs.Grouped.{Grouped, Plain, Runs, all_numbered, ended_
 use Rattle.flat_passes.specs.Kept.{EndsAlike}
 use Rattle.flat_passes.proofs.FlatRowLemmas.{does, ends_alike, steps_in, straight}
 use Rattle.flat_passes.proofs.SeenLemmas.{runs_seen}
-use Rattle.fuse_contract.specs.Behind.{FitsReference}
-use Rattle.fuse_contract.specs.Fusing.{Loop, all_accumulated, both, can_join, fused, joined, joins}
-use Rattle.fuse_contract.specs.Fusing.{known_behind, last_rows, lies_within, references_of}
-use Rattle.fuse_contract.specs.Fusing.{stands_with}
-use Rattle.fuse_contract.proofs.ReferenceLemmas.{references_fit}
+use Rattle.contracted_runs.specs.of_fuse_contract.Behind.{FitsReference}
+use Rattle.contracted_runs.specs.of_fuse_contract.Fusing.{Loop, all_accumulated, both, can_join, fused, joined, joins}
+use Rattle.contracted_runs.specs.of_fuse_contract.Fusing.{known_behind, last_rows, lies_within, references_of}
+use Rattle.contracted_runs.specs.of_fuse_contract.Fusing.{stands_with}
+use Rattle.contracted_runs.proofs.of_fuse_contract.ReferenceLemmas.{references_fit}
 use Rattle.normal_runs.proofs.InlineLemmas.{laid_read, seen}
 use Rattle.normal_runs.proofs.PassLemmas.{AreControlled, KeepsFronts, pass_keeps_runs}
 use Rattle.contracted_runs.specs.Three.{HaveThreeDims}

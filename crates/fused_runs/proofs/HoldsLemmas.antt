@@ -30,7 +30,7 @@ use Rattle.flat_form.specs.Whole.{Whole, start_whole}
 use Rattle.flat_form.proofs.ChangeLemmas.{change_written}
 use Rattle.flat_form.proofs.WholeLemmas.{begin_whole, stay_whole}
 use Rattle.flat_passes.proofs.FlatRowLemmas.{does}
-use Rattle.fuse_contract.specs.Fusing.{all_accumulated}
+use Rattle.contracted_runs.specs.of_fuse_contract.Fusing.{all_accumulated}
 use Rattle.normal_runs.proofs.NameLemmas.{any_all}
 use Rattle.normal_runs.proofs.SlotLemmas.{HasSteps, begins_with_steps, keeps_steps}
 use Rattle.fused_runs.specs.Typed.{HasThreeDims, IsTyped}

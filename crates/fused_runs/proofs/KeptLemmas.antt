@@ -33,8 +33,8 @@ use Rattle.flat_passes.specs.Rewritten.{has_goal, stretches_of}
 use Rattle.flat_passes.proofs.FlatRowLemmas.{does, straight}
 use Rattle.flat_passes.proofs.SeenLemmas.{runs_seen}
 use Rattle.flat_passes.proofs.StretchLemmas.{HoldsOf, IsCut, all_cut, news_hold}
-use Rattle.fuse_contract.specs.Fusing.{Loop, both, fused, joined, joins, known_behind, last_rows}
-use Rattle.fuse_contract.specs.Fusing.{references_of}
+use Rattle.contracted_runs.specs.of_fuse_contract.Fusing.{Loop, both, fused, joined, joins, known_behind, last_rows}
+use Rattle.contracted_runs.specs.of_fuse_contract.Fusing.{references_of}
 use Rattle.normal_runs.proofs.InlineLemmas.{IsLaid, laid_read, seen, seen_grouped}
 use Rattle.normal_runs.proofs.PassLemmas.{IsOf, each_holds, goals_found, last_holds}
 use Rattle.fused_runs.proofs.BareLemmas.{IsFine, rows_fine}

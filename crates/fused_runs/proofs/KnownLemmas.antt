@@ -31,9 +31,9 @@ use Rattle.flat_form.specs.States.{IsStoreOf, IsWhole}
 use Rattle.flat_form.specs.Whole.{Whole, registers_of, with_store}
 use Rattle.flat_passes.proofs.FlatRowLemmas.{does}
 use Rattle.plan_form.proofs.ItemLemmas.{is_item-Decides}
-use Rattle.fuse_contract.specs.Behind.{FitsReference}
-use Rattle.fuse_contract.specs.Fusing.{always_lies, is_stored, known_behind, lies_within, reference}
-use Rattle.fuse_contract.specs.Fusing.{without_array, without_slots}
+use Rattle.contracted_runs.specs.of_fuse_contract.Behind.{FitsReference}
+use Rattle.contracted_runs.specs.of_fuse_contract.Fusing.{always_lies, is_stored, known_behind, lies_within, reference}
+use Rattle.contracted_runs.specs.of_fuse_contract.Fusing.{without_array, without_slots}
 use Rattle.normal_runs.proofs.PlaceLemmas.{are_members, has, moved_none, set_there}
 use Rattle.normal_runs.proofs.SlotLemmas.{HasSteps}
 use Rattle.contracted_runs.specs.Three.{HaveThreeDims}

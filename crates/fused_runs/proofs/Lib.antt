@@ -17,3 +17,4 @@ pub mod SwapLemmas
 pub mod UnitLemmas
 pub mod WalkLemmas
 pub mod ZeroLemmas
+pub use Rattle.contracted_runs.proofs as of_contracted_runs

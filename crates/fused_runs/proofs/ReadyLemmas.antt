@@ -32,9 +32,9 @@ use Rattle.flat_form.specs.Right.{is_unmoved, matches, may_read, reads_well, tot
 use Rattle.flat_form.specs.Right.{writes_well}
 use Rattle.flat_form.specs.Row.{Loop, Member, member_inlined, member_words}
 use Rattle.flat_form.specs.Whole.{Whole}
-use Rattle.fuse_contract.specs.Fusing.{all_accumulated, are_like, are_put_alike, are_rows_like}
-use Rattle.fuse_contract.specs.Fusing.{is_accumulating, reference, references_in, references_of}
-use Rattle.fuse_contract.specs.Fusing.{stands_with}
+use Rattle.contracted_runs.specs.of_fuse_contract.Fusing.{all_accumulated, are_like, are_put_alike, are_rows_like}
+use Rattle.contracted_runs.specs.of_fuse_contract.Fusing.{is_accumulating, reference, references_in, references_of}
+use Rattle.contracted_runs.specs.of_fuse_contract.Fusing.{stands_with}
 use Rattle.normal_runs.proofs.SplitLemmas.{like_matches, written_matches}
 use Rattle.fused_runs.proofs.BeginLemmas.{first_begins, inline, named_are, not_true, or_none}
 use Rattle.fused_runs.proofs.BeginLemmas.{reads_are, scalars_by}

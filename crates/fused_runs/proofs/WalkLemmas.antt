@@ -15,8 +15,8 @@ use Rattle.code_parts.specs.Uses.{put_arrays, read_scalars, scalars_in, share, s
 use Rattle.flat_form.specs.Act.{act}
 use Rattle.flat_form.specs.Whole.{Whole}
 use Rattle.flat_passes.specs.Grouped.{Grouped, Plain, Runs}
-use Rattle.fuse_contract.specs.Fusing.{Loop, both, can_join, joined, joins, known_behind, last_rows}
-use Rattle.fuse_contract.specs.Fusing.{lies_within, references_of, stands_with}
+use Rattle.contracted_runs.specs.of_fuse_contract.Fusing.{Loop, both, can_join, joined, joins, known_behind, last_rows}
+use Rattle.contracted_runs.specs.of_fuse_contract.Fusing.{lies_within, references_of, stands_with}
 use Rattle.normal_runs.proofs.InlineLemmas.{seen}
 use Rattle.fused_runs.proofs.BareLemmas.{IsBare, IsFine, both_bare, no_cells}
 use Rattle.fused_runs.proofs.JoinedLemmas.{IsSame, loops_in_turn, same_flow}

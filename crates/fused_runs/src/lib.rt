@@ -9,7 +9,7 @@ ghost use Rattle.node_form.specs.declared.tables.Tables.{Tables as Code};
 ghost use Rattle.node_form.specs.Fits.{Fits};
 ghost use Rattle.row_runs.specs.Segments.{Keeps};
 ghost use Rattle.flat_form.specs.Act.{flat_run};
-ghost use Rattle.fuse_contract.specs.Fusing.{fused};
+ghost use Rattle.contracted_runs.specs.of_fuse_contract.Fusing.{fused};
 ghost use Rattle.fused_runs.specs.Typed.{IsTyped};
 
 /// A flat program shows with joined loops what it showed with each loop alone, for every bound on

@@ -3,4 +3,5 @@
 
 mod words;
 
+pub use node_messages;
 pub use words::gather_words;

@@ -9,8 +9,8 @@ use grid_layout::Layout;
 use grid_links::Words;
 use node_form::NodeProgram;
 use node_local::Local;
+use node_messages::node_stages::own_tuples;
 use node_messages::push_values;
-use node_stages::own_tuples;
 use std::alloc::{AllocError, Global};
 use zpl_region::Region;
 

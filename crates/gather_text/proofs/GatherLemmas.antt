@@ -32,8 +32,8 @@ use Rattle.grid_meaning.specs.State.{IsSlot}
 use Rattle.grid_meaning.specs.Stored.{arrangement_of}
 use Rattle.grid_meaning.proofs.WorldLemmas.{processors_alike}
 use Rattle.node_messages.proofs.ReadLemmas.{left}
-use Rattle.node_stages.proofs.OwnLemmas as own
-use Rattle.node_stages.proofs.PieceLemmas.{IsRegion-slot}
+use Rattle.node_messages.proofs.of_node_stages.OwnLemmas as own
+use Rattle.node_messages.proofs.of_node_stages.PieceLemmas.{IsRegion-slot}
 use Rattle.gather_text.proofs.OwnerLemmas.{same_part}
 
 -- ---- a place among those that are kept

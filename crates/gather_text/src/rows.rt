@@ -4,13 +4,13 @@ ghost use Rattle.std.specs.Prelude.{slice_get, slice_index_or, OnOk, ifâ—Œthenâ—
 ghost use Rattle.grid_meaning.specs.Gather.{gathered_value, words_from};
 ghost use Rattle.grid_meaning.specs.State.{IsSlot};
 ghost use Rattle.grid_meaning.specs.Stored.{arrangement_of};
-ghost use Rattle.node_local.specs.Standing.{entry_of};
+ghost use Rattle.node_messages.specs.of_node_local.Standing.{entry_of};
 ghost use Rattle.zpl_region.specs.Region.{members};
 
 use crate::owners::owner;
 use grid_layout::Layout;
 use node_form::NodeProgram;
-use node_local::Kept;
+use node_messages::node_local::Kept;
 use std::alloc::AllocError;
 use zpl_region::Region;
 

@@ -4,24 +4,24 @@ use Rattle.std.proofs.Common.{refl, sym, ◌∙◌, ap, subst, inl, inr, arith}
 use Rattle.zpl_io.specs.Sink.{Takes}
 use Rattle.node_form.specs.declared.tables.Tables.{Tables}
 use Rattle.grid_runs.specs.Run.{Run}
-use Rattle.grid_sim.specs.declared.counts.Counts.{Counts}
+use Rattle.text_code.specs.of_grid_sim.declared.counts.Counts.{Counts}
 use Rattle.zpl_claims.specs.Build.{Build}
 use Rattle.call_claims.specs.Command.{Asked, IsGen}
 use Rattle.call_claims.specs.Decided.{IsDecided}
 use Rattle.call_claims.specs.Execution.{Execution, HasNoCounts}
 use Rattle.call_claims.specs.Stream.{Stream}
 use Rattle.call_claims.specs.declared.status.TheConstants.{DONE, UNREADABLE, USAGE}
-use Rattle.exec_claims.specs.Cause.{RunCause}
-use Rattle.exec_claims.specs.Cause.RunCause.{done, trap, turn_limit, stuck, idle}
-use Rattle.list_claims.specs.Cause.{TextFault}
-use Rattle.list_claims.specs.Cause.TextFault.{refused, unbound}
-use Rattle.call_answers.specs.Answers.{status_of, told_of}
-use Rattle.call_answers.specs.Told.{IsAnswerOf}
-use Rattle.call_answers.specs.Work.{execution_in, no_counts, ran_of}
-use Rattle.call_answers.specs.declared.answers.Answer.{Answer}
-use Rattle.call_answers.specs.declared.answers.Answer.TheVariants as answer
-use Rattle.call_answers.specs.declared.answers.Stop.TheVariants as stop
-use Rattle.call_answers.specs.declared.work.Work.{Work}
+use Rattle.text_code.specs.of_exec_claims.Cause.{RunCause}
+use Rattle.text_code.specs.of_exec_claims.Cause.RunCause.{done, trap, turn_limit, stuck, idle}
+use Rattle.text_code.specs.of_list_claims.Cause.{TextFault}
+use Rattle.text_code.specs.of_list_claims.Cause.TextFault.{refused, unbound}
+use Rattle.grid_call.specs.of_call_answers.Answers.{status_of, told_of}
+use Rattle.grid_call.specs.of_call_answers.Told.{IsAnswerOf}
+use Rattle.grid_call.specs.of_call_answers.Work.{execution_in, no_counts, ran_of}
+use Rattle.grid_call.specs.of_call_answers.declared.answers.Answer.{Answer}
+use Rattle.grid_call.specs.of_call_answers.declared.answers.Answer.TheVariants as answer
+use Rattle.grid_call.specs.of_call_answers.declared.answers.Stop.TheVariants as stop
+use Rattle.grid_call.specs.of_call_answers.declared.work.Work.{Work}
 use Rattle.gen_claims.specs.Answer.{AreLines, IsLastRun, IsRunFor, TakesLines, TakesLinesFront}
 use Rattle.gen_claims.specs.Answer.{TellMeant}
 use Rattle.gen_claims.specs.Cause.{Cause, GenCause, Gens}

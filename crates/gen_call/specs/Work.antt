@@ -16,19 +16,19 @@ use Rattle.zpl_nums.specs.declared.ends.End.TheVariants.{Done}
 use Rattle.node_form.specs.declared.tables.Tables.{Tables}
 use Rattle.grid_meaning.specs.Grid.{EndsAs}
 use Rattle.grid_runs.specs.Run.{GoesOnTo, Run, grid_at, turns_in}
-use Rattle.grid_sim.specs.declared.counts.Counts.{Counts}
+use Rattle.text_code.specs.of_grid_sim.declared.counts.Counts.{Counts}
 use Rattle.call_claims.specs.Command.{Asked, asked_on, build_of}
 use Rattle.call_claims.specs.Decided.{IsDecided}
 use Rattle.call_claims.specs.Execution.{Execution}
 use Rattle.call_claims.specs.declared.status.TheConstants.{DONE}
-use Rattle.exec_claims.specs.Cause.{RunCause, run_of}
-use Rattle.list_claims.specs.Code.{IsCodeOf}
-use Rattle.call_answers.specs.Answers.{status_of, told_of}
-use Rattle.call_answers.specs.Work.{execution_in, no_counts}
-use Rattle.call_answers.specs.declared.answers.Answer.{Answer}
-use Rattle.call_answers.specs.declared.answers.Answer.TheVariants as answer
-use Rattle.call_answers.specs.declared.answers.Stop.TheVariants as stop
-use Rattle.call_answers.specs.declared.work.Work.{Work}
+use Rattle.text_code.specs.of_exec_claims.Cause.{RunCause, run_of}
+use Rattle.text_code.specs.of_list_claims.Code.{IsCodeOf}
+use Rattle.grid_call.specs.of_call_answers.Answers.{status_of, told_of}
+use Rattle.grid_call.specs.of_call_answers.Work.{execution_in, no_counts}
+use Rattle.grid_call.specs.of_call_answers.declared.answers.Answer.{Answer}
+use Rattle.grid_call.specs.of_call_answers.declared.answers.Answer.TheVariants as answer
+use Rattle.grid_call.specs.of_call_answers.declared.answers.Stop.TheVariants as stop
+use Rattle.grid_call.specs.of_call_answers.declared.work.Work.{Work}
 use Rattle.text_code.specs.Refusals.{IsUncoded}
 use Rattle.program_texts.specs.Text.{drawn_program}
 use Rattle.gen_claims.specs.Grids as claims

@@ -7,16 +7,16 @@ ghost use Rattle.call_claims.specs.Command.{IsGen};
 ghost use Rattle.call_claims.specs.Met.{CanBeMet};
 ghost use Rattle.call_claims.specs.Stream.{stream_of};
 ghost use Rattle.call_claims.specs.declared.status.TheConstants.{UNREADABLE, USAGE};
-ghost use Rattle.call_answers.specs.Stops.{CallStopsAtFault};
+ghost use Rattle.grid_call.specs.of_call_answers.Stops.{CallStopsAtFault};
 ghost use Rattle.call_words.specs.Reading.{asked_in};
 ghost use Rattle.gen_call.specs.Call.{IsGenerated};
 ghost use Rattle.gen_call.specs.Work.{IsWorkOn};
 
 use crate::runs::{Drawn, on_grids};
-use call_answers::{Answer, Stop, Work, answered};
 use call_claims::Ran;
 use call_words::GenCommand;
 use gen_claims::{gen_statuses_are_exact, lines_tell_what_is_meant};
+use grid_call::call_answers::{Answer, Stop, Work, answered};
 use program_texts::{drawn_program, drawn_programs_are_short};
 use std::alloc::{AllocError, Global};
 use zpl_io::Sink;

@@ -14,16 +14,16 @@ use Rattle.call_claims.specs.declared.status.TheConstants.{DONE, REFUSED, UNBOUN
 use Rattle.call_claims.specs.declared.status.TheConstants.{TRAPPED, TURN_LIMIT}
 use Rattle.call_claims.proofs.MetLemmas.{is_met}
 use Rattle.call_claims.proofs.OneLemmas.{worded_once}
-use Rattle.exec_claims.specs.Cause.{RunCause, run_of}
-use Rattle.exec_claims.specs.Cause.RunCause.{done, trap, turn_limit, stuck, idle}
-use Rattle.exec_claims.specs.Decided.{IsDoneAt, IsStuckOrIdleAt, IsTrapAt}
-use Rattle.exec_claims.specs.declared.status.TheConstants.{STUCK}
-use Rattle.exec_claims.proofs.OneCause.{run_one}
-use Rattle.list_claims.specs.Cause.{TextFault}
-use Rattle.list_claims.specs.Cause.TextFault.{refused, unbound}
-use Rattle.list_claims.specs.Code.{HasNoProgram, IsCodeOf}
-use Rattle.list_claims.specs.Refusal.{HasUnbound, IsRefused}
-use Rattle.list_claims.proofs.ProgramLemmas.{fault_none}
+use Rattle.run_claims.specs.of_exec_claims.Cause.{RunCause, run_of}
+use Rattle.run_claims.specs.of_exec_claims.Cause.RunCause.{done, trap, turn_limit, stuck, idle}
+use Rattle.run_claims.specs.of_exec_claims.Decided.{IsDoneAt, IsStuckOrIdleAt, IsTrapAt}
+use Rattle.run_claims.specs.of_exec_claims.declared.status.TheConstants.{STUCK}
+use Rattle.run_claims.proofs.of_exec_claims.OneCause.{run_one}
+use Rattle.run_claims.specs.of_list_claims.Cause.{TextFault}
+use Rattle.run_claims.specs.of_list_claims.Cause.TextFault.{refused, unbound}
+use Rattle.run_claims.specs.of_list_claims.Code.{HasNoProgram, IsCodeOf}
+use Rattle.run_claims.specs.of_list_claims.Refusal.{HasUnbound, IsRefused}
+use Rattle.run_claims.proofs.of_list_claims.ProgramLemmas.{fault_none}
 use Rattle.run_claims.proofs.CodeLemmas.{Laws, never_idle, never_stuck, too_few}
 use Rattle.program_texts.specs.Text.{drawn_program}
 use Rattle.gen_claims.specs.Cause.{Cause, GenCause, Gens}

@@ -11,8 +11,8 @@ use Rattle.grid_runs.specs.Run.{grid_at}
 use Rattle.call_claims.specs.Command.{Asked, IsGen, asked_on}
 use Rattle.call_claims.specs.Execution.{Execution}
 use Rattle.call_claims.proofs.MetLemmas.{is_met}
-use Rattle.exec_claims.specs.Cause.{run_of}
-use Rattle.list_claims.proofs.WholeLemmas.{OneProgram}
+use Rattle.run_claims.specs.of_exec_claims.Cause.{run_of}
+use Rattle.run_claims.proofs.of_list_claims.WholeLemmas.{OneProgram}
 use Rattle.run_claims.proofs.CodeLemmas.{Laws, right_at}
 use Rattle.run_claims.proofs.WholeLemmas.{EndingsStay, finished, same_end}
 use Rattle.program_texts.specs.Text.{drawn_program}

@@ -7,9 +7,9 @@ use Rattle.call_claims.specs.Command.{Asked, asked_on, build_of}
 use Rattle.call_claims.specs.Execution.{Execution}
 use Rattle.call_claims.specs.declared.ran.Ran.{Ran}
 use Rattle.call_claims.specs.declared.status.TheConstants.{DONE}
-use Rattle.exec_claims.specs.Answer.{HasCounts}
-use Rattle.exec_claims.specs.Cause.{run_of}
-use Rattle.list_claims.specs.Code.{IsCodeOf}
+use Rattle.run_claims.specs.of_exec_claims.Answer.{HasCounts}
+use Rattle.run_claims.specs.of_exec_claims.Cause.{run_of}
+use Rattle.run_claims.specs.of_list_claims.Code.{IsCodeOf}
 use Rattle.program_texts.specs.Text.{drawn_program}
 use Rattle.gen_claims.specs.Cause.{Gens}
 use Rattle.gen_claims.specs.Grids.{NamedGrid, IsNext, grids}

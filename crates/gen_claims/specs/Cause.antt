@@ -5,8 +5,8 @@ use Rattle.call_claims.specs.Command.{Asked, IsGen, asked_on, build_of}
 use Rattle.call_claims.specs.Execution.{Execution}
 use Rattle.call_claims.specs.Texts.{no_memory_text}
 use Rattle.call_claims.specs.declared.status.TheConstants.{DONE, NO_MEMORY}
-use Rattle.exec_claims.specs.Cause.{RunCause, run_of}
-use Rattle.list_claims.specs.Cause.{TextFault}
+use Rattle.run_claims.specs.of_exec_claims.Cause.{RunCause, run_of}
+use Rattle.run_claims.specs.of_list_claims.Cause.{TextFault}
 use Rattle.program_texts.specs.Text.{drawn_program}
 use Rattle.gen_claims.specs.Grids.{NamedGrid, IsNext, grids}
 use Rattle.gen_claims.specs.Runs.{IsRunOf, Went, execution_with}

@@ -13,11 +13,11 @@ use Rattle.call_claims.specs.Decided.{IsDecided}
 use Rattle.call_claims.specs.Execution.{Execution}
 use Rattle.call_claims.specs.declared.status.TheConstants.{DONE, REFUSED, UNBOUND}
 use Rattle.call_claims.specs.declared.status.TheConstants.{TRAPPED, TURN_LIMIT}
-use Rattle.exec_claims.specs.Cause.{run_of}
-use Rattle.exec_claims.specs.Decided.{IsDoneAt, IsTrapAt}
-use Rattle.exec_claims.specs.declared.status.TheConstants.{STUCK}
-use Rattle.list_claims.specs.Code.{IsCodeOf}
-use Rattle.list_claims.specs.Refusal.{HasUnbound, IsRefused}
+use Rattle.run_claims.specs.of_exec_claims.Cause.{run_of}
+use Rattle.run_claims.specs.of_exec_claims.Decided.{IsDoneAt, IsTrapAt}
+use Rattle.run_claims.specs.of_exec_claims.declared.status.TheConstants.{STUCK}
+use Rattle.run_claims.specs.of_list_claims.Code.{IsCodeOf}
+use Rattle.run_claims.specs.of_list_claims.Refusal.{HasUnbound, IsRefused}
 use Rattle.run_claims.specs.Decided.{IsTooFewFor}
 use Rattle.program_texts.specs.Text.{drawn_program}
 use Rattle.gen_claims.specs.Cause.{Gens}

@@ -4,3 +4,4 @@ pub mod Decided
 pub mod Grids
 pub mod Meant
 pub mod Runs
+pub use Rattle.run_claims.specs as of_run_claims

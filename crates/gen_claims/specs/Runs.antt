@@ -10,8 +10,8 @@ use Rattle.grid_meaning.specs.Grid.{EndsAs}
 use Rattle.grid_runs.specs.Run.{GoesOnTo, grid_at}
 use Rattle.call_claims.specs.Command.{Asked, asked_on, build_of}
 use Rattle.call_claims.specs.Execution.{Execution}
-use Rattle.exec_claims.specs.Cause.{run_of}
-use Rattle.list_claims.specs.Code.{IsCodeOf}
+use Rattle.run_claims.specs.of_exec_claims.Cause.{run_of}
+use Rattle.run_claims.specs.of_list_claims.Code.{IsCodeOf}
 use Rattle.program_texts.specs.Text.{drawn_program}
 use Rattle.gen_claims.specs.Grids.{NamedGrid, IsNext, line_of}
 

@@ -10,7 +10,7 @@ ghost use Rattle.gen_claims.specs.Runs.{Went};
 
 use grid_meaning::{given_turns_are_orders, over_stays};
 use grid_order::orders_have_their_bounds;
-use list_claims::texts_have_one_program;
+use run_claims::list_claims::texts_have_one_program;
 use zpl_meaning::endings_stay;
 
 /// A status that has its cause comes just where its own cause is, where memory wasn't wanting and

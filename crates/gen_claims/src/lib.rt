@@ -8,3 +8,4 @@
 mod laws;
 
 pub use laws::{gen_statuses_are_exact, lines_tell_what_is_meant};
+pub use run_claims;

@@ -4,19 +4,19 @@ use Rattle.std.proofs.Common.{Result, Ok, Err, refl, sym, ◌∙◌, ap, subst, 
 use Rattle.zpl_io.specs.Sink.{Takes}
 use Rattle.zpl_nums.specs.declared.ends.End.{End}
 use Rattle.zpl_nums.specs.declared.ends.End.TheVariants as ending
-use Rattle.grid_sim.specs.StuckKind.{StuckKind}
-use Rattle.grid_sim.specs.StuckKind.TheVariants as kind
+use Rattle.call_answers.specs.of_grid_sim.StuckKind.{StuckKind}
+use Rattle.call_answers.specs.of_grid_sim.StuckKind.TheVariants as kind
 use Rattle.grid_meaning.specs.Action.{WrongTag, WrongLength, Unheld}
 use Rattle.grid_runs.specs.Run.{Run, grid_at, IsCutOff}
-use Rattle.grid_sim.specs.Run.{EndsRun, IsRun, IsStuckOrIdle, TakesRun}
-use Rattle.grid_sim.specs.Simulation.{Simulation, counts_of}
-use Rattle.grid_sim.specs.declared.counts.Counts.{Counts}
-use Rattle.grid_sim.specs.declared.faults.SimFault.{SimFault}
-use Rattle.grid_sim.specs.declared.faults.SimFault.TheVariants as fault
-use Rattle.grid_sim.specs.Turned.{kind_told}
-use Rattle.call_claims.specs.Decided.{IsDecided}
-use Rattle.exec_claims.specs.Cause.{RunCause, report_at}
-use Rattle.exec_claims.specs.Cause.RunCause.{done, trap, turn_limit, stuck, idle}
+use Rattle.call_answers.specs.of_grid_sim.Run.{EndsRun, IsRun, IsStuckOrIdle, TakesRun}
+use Rattle.call_answers.specs.of_grid_sim.Simulation.{Simulation, counts_of}
+use Rattle.call_answers.specs.of_grid_sim.declared.counts.Counts.{Counts}
+use Rattle.call_answers.specs.of_grid_sim.declared.faults.SimFault.{SimFault}
+use Rattle.call_answers.specs.of_grid_sim.declared.faults.SimFault.TheVariants as fault
+use Rattle.call_answers.specs.of_grid_sim.Turned.{kind_told}
+use Rattle.call_words.specs.of_call_claims.Decided.{IsDecided}
+use Rattle.call_answers.specs.of_exec_claims.Cause.{RunCause, report_at}
+use Rattle.call_answers.specs.of_exec_claims.Cause.RunCause.{done, trap, turn_limit, stuck, idle}
 use Rattle.call_answers.specs.Answers.{counts_text, status_of, stop_status, stop_text, told_of}
 use Rattle.grid_call.specs.Ended.{answer_in, counts_for}
 use Rattle.grid_call.specs.Work.{IsRunOn}

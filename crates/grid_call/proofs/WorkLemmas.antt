@@ -5,21 +5,21 @@ use Rattle.zpl_io.specs.Files.{SameTexts}
 use Rattle.node_form.specs.declared.tables.Tables.{Tables}
 use Rattle.grid_meaning.specs.Grid.{processors}
 use Rattle.grid_order.specs.Reading.{reading}
-use Rattle.grid_sim.specs.declared.counts.Counts.{Counts}
+use Rattle.call_answers.specs.of_grid_sim.declared.counts.Counts.{Counts}
 use Rattle.grid_runs.specs.Run.{Run, GoesOnTo}
-use Rattle.call_claims.specs.Call.{Call, call_of}
-use Rattle.call_claims.specs.Decided.{IsDecided}
-use Rattle.call_claims.specs.Execution.{HasNoCounts}
-use Rattle.call_claims.specs.Texts.{too_long_text, unreadable_text}
-use Rattle.call_claims.specs.declared.status.TheConstants.{TOO_LONG, UNREADABLE}
-use Rattle.call_claims.specs.Command.{Asked}
-use Rattle.exec_claims.specs.Answer.{HasCounts, Runs}
-use Rattle.exec_claims.specs.Cause.{OrderFileCause, RunCause, Source, run_of}
-use Rattle.exec_claims.specs.Cause.RunCause.{done, trap, turn_limit, stuck, idle}
-use Rattle.exec_claims.specs.Cause.OrderCause.{bad_item, ran as under_order}
-use Rattle.exec_claims.specs.Cause.TextCause.{too_long, unreadable, work as of_text}
-use Rattle.exec_claims.specs.Decided.{IsOrderText}
-use Rattle.exec_claims.specs.declared.limits.TheConstants.{MOST_LISTING}
+use Rattle.call_words.specs.of_call_claims.Call.{Call, call_of}
+use Rattle.call_words.specs.of_call_claims.Decided.{IsDecided}
+use Rattle.call_words.specs.of_call_claims.Execution.{HasNoCounts}
+use Rattle.call_words.specs.of_call_claims.Texts.{too_long_text, unreadable_text}
+use Rattle.call_words.specs.of_call_claims.declared.status.TheConstants.{TOO_LONG, UNREADABLE}
+use Rattle.call_words.specs.of_call_claims.Command.{Asked}
+use Rattle.call_answers.specs.of_exec_claims.Answer.{HasCounts, Runs}
+use Rattle.call_answers.specs.of_exec_claims.Cause.{OrderFileCause, RunCause, Source, run_of}
+use Rattle.call_answers.specs.of_exec_claims.Cause.RunCause.{done, trap, turn_limit, stuck, idle}
+use Rattle.call_answers.specs.of_exec_claims.Cause.OrderCause.{bad_item, ran as under_order}
+use Rattle.call_answers.specs.of_exec_claims.Cause.TextCause.{too_long, unreadable, work as of_text}
+use Rattle.call_answers.specs.of_exec_claims.Decided.{IsOrderText}
+use Rattle.call_answers.specs.of_exec_claims.declared.limits.TheConstants.{MOST_LISTING}
 use Rattle.call_answers.specs.Answers.{IsUnrun, status_of, told_of}
 use Rattle.call_answers.specs.Fetched.{IsNoText, IsWholeText}
 use Rattle.call_answers.specs.Work.{ran_of}

@@ -2,9 +2,9 @@
 use Rattle.std.specs.Prelude.{Bool, true, false, Option, Some, None, Result, Ok, Err}
 use Rattle.zpl_nums.specs.declared.ends.End.{End}
 use Rattle.zpl_nums.specs.declared.ends.End.TheVariants as ending
-use Rattle.grid_sim.specs.declared.counts.Counts.{Counts}
-use Rattle.grid_sim.specs.declared.faults.SimFault.{SimFault}
-use Rattle.grid_sim.specs.declared.faults.SimFault.TheVariants as fault
+use Rattle.call_answers.specs.of_grid_sim.declared.counts.Counts.{Counts}
+use Rattle.call_answers.specs.of_grid_sim.declared.faults.SimFault.{SimFault}
+use Rattle.call_answers.specs.of_grid_sim.declared.faults.SimFault.TheVariants as fault
 use Rattle.call_answers.specs.declared.answers.Answer.{Answer}
 use Rattle.call_answers.specs.declared.answers.Answer.TheVariants as answer
 use Rattle.call_answers.specs.declared.answers.Stop.TheVariants as stop

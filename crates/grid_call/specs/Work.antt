@@ -11,12 +11,12 @@ use Rattle.node_form.specs.declared.tables.Tables.{Tables}
 use Rattle.grid_meaning.specs.Grid.{processors}
 use Rattle.grid_order.specs.Reading.{reading}
 use Rattle.grid_runs.specs.Run.{Run, grid_at, turns_in, GoesOnTo, IsCutOff}
-use Rattle.grid_sim.specs.declared.counts.Counts.{Counts}
-use Rattle.call_claims.specs.Call.{Call}
-use Rattle.call_claims.specs.Decided.{IsDecided}
-use Rattle.call_claims.specs.Command.{Asked}
-use Rattle.exec_claims.specs.Cause.{OrderFileCause, RunCause, run_of}
-use Rattle.exec_claims.specs.Decided.{IsOrderText}
+use Rattle.call_answers.specs.of_grid_sim.declared.counts.Counts.{Counts}
+use Rattle.call_words.specs.of_call_claims.Call.{Call}
+use Rattle.call_words.specs.of_call_claims.Decided.{IsDecided}
+use Rattle.call_words.specs.of_call_claims.Command.{Asked}
+use Rattle.call_answers.specs.of_exec_claims.Cause.{OrderFileCause, RunCause, run_of}
+use Rattle.call_answers.specs.of_exec_claims.Decided.{IsOrderText}
 use Rattle.call_answers.specs.Answers.{status_of, told_of}
 use Rattle.call_answers.specs.Work.{no_counts}
 use Rattle.call_answers.specs.declared.answers.Answer.{Answer}

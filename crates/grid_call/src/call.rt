@@ -4,12 +4,12 @@ ghost use Rattle.zpl_io.specs.Faults.{CountsFaults};
 ghost use Rattle.zpl_io.specs.Files.{SameTexts};
 ghost use Rattle.zpl_io.specs.Sink.{StopsAtFault};
 ghost use Rattle.code_layout.specs.Room.{HasRoom};
-ghost use Rattle.call_claims.specs.Call.{call_of};
-ghost use Rattle.call_claims.specs.declared.status.TheConstants.{UNREADABLE};
-ghost use Rattle.call_claims.specs.Met.{CanBeMet};
+ghost use Rattle.call_words.specs.of_call_claims.Call.{call_of};
+ghost use Rattle.call_words.specs.of_call_claims.declared.status.TheConstants.{UNREADABLE};
+ghost use Rattle.call_words.specs.of_call_claims.Met.{CanBeMet};
 ghost use Rattle.call_words.specs.Reading.{asked_in};
 ghost use Rattle.call_answers.specs.Answers.{status_of};
-ghost use Rattle.exec_claims.specs.Cause.{run_of};
+ghost use Rattle.call_answers.specs.of_exec_claims.Cause.{run_of};
 ghost use Rattle.grid_call.specs.Work.{IsCodeWork, IsRunOn};
 
 use crate::orders::{empty_order, fetch_order};

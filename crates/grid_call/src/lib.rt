@@ -10,4 +10,6 @@ mod orders;
 mod runs;
 
 pub use call::{run_code, run_round};
+pub use call_answers;
+pub use call_answers::{exec_claims, grid_sim, row_turn};
 pub use orders::fetch_order;

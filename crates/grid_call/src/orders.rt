@@ -5,14 +5,14 @@ ghost use Rattle.zpl_io.specs.Faults.{CountsFaults};
 ghost use Rattle.zpl_io.specs.Files.{SameTexts};
 ghost use Rattle.node_form.specs.Grid.{IsGrid, processors_of};
 ghost use Rattle.grid_meaning.specs.Local.{processors};
-ghost use Rattle.call_claims.specs.Call.{call_of};
-ghost use Rattle.exec_claims.specs.declared.limits.TheConstants.{MOST_LISTING};
+ghost use Rattle.call_words.specs.of_call_claims.Call.{call_of};
+ghost use Rattle.call_answers.specs.of_exec_claims.declared.limits.TheConstants.{MOST_LISTING};
 ghost use Rattle.call_answers.specs.Answers.{IsUnrun};
 ghost use Rattle.call_answers.specs.Fetched.{FailsToFetch};
 ghost use Rattle.grid_call.specs.Work.{IsNoOrder, IsOrderOf, IsReading, OrderFails};
 
+use call_answers::exec_claims::MOST_LISTING;
 use call_answers::{Answer, text_of_file};
-use exec_claims::MOST_LISTING;
 use grid_order::{Order, OrderFault, read_order};
 use node_form::{Grid3, NodeProgram};
 use std::alloc::{AllocError, Global};

@@ -12,3 +12,4 @@ pub mod PlaceLemmas
 pub mod DimLemmas
 mod Examples
 pub mod OwnLemmas
+pub use Rattle.zpl_region.proofs as of_zpl_region

@@ -25,3 +25,4 @@ pub use laws::{
     pieces_partition_needs,
 };
 pub use layouts::{Layout, LayoutFault};
+pub use zpl_region;

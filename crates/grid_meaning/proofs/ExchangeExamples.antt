@@ -1,10 +1,10 @@
 -- Two processors with two exchanges open at once: over links with room for one message none can move; over any others they end.
 use Rattle.std.proofs.Common.{◌≡◌, ℕ, List, [], ◌∷◌, map, Option, Some, None, true, pos, neg_ℤ, ℤ, refl}
-use Rattle.zpl_nums.specs.declared.ends.End.{End}
-use Rattle.zpl_nums.specs.declared.ends.End.TheVariants.{Done}
-use Rattle.zpl_region.specs.declared.dims.Dim.TheVariants as dim
-use Rattle.zpl_region.specs.declared.regions.Region.{Region}
-use Rattle.zpl_region.specs.Region.{padding}
+use Rattle.node_form.specs.of_zpl_nums.declared.ends.End.{End}
+use Rattle.node_form.specs.of_zpl_nums.declared.ends.End.TheVariants.{Done}
+use Rattle.grid_layout.specs.of_zpl_region.declared.dims.Dim.TheVariants as dim
+use Rattle.grid_layout.specs.of_zpl_region.declared.regions.Region.{Region}
+use Rattle.grid_layout.specs.of_zpl_region.Region.{padding}
 use Rattle.grid_links.specs.Machine.{Waiting}
 use Rattle.node_form.specs.declared.arrays.ArrayDim.TheVariants as array
 use Rattle.node_form.specs.declared.arrays.Item.{Item}

@@ -2,14 +2,14 @@
 use Rattle.std.proofs.Common.{◌≡◌, ℕ, ◌*◌, List, [], ◌∷◌, ◌++◌, map, take, drop, replicate, Option, Some, None, pos, ℤ, codes, refl}
 use Rattle.std.specs.Fmt.{digits}
 use Rattle.std.specs.Int.{int_wrap}
-use Rattle.zpl_nums.specs.declared.operators.Op.TheVariants as op
-use Rattle.zpl_nums.specs.declared.ends.End.{End}
-use Rattle.zpl_nums.specs.declared.ends.End.TheVariants.{Done, Trap}
-use Rattle.zpl_nums.specs.declared.ends.TrapKind.TheVariants.{DivideByZero}
-use Rattle.zpl_nums.specs.declared.folds.Fold.TheVariants as f
-use Rattle.zpl_region.specs.declared.dims.Dim.TheVariants as dim
-use Rattle.zpl_region.specs.declared.regions.Region.{Region}
-use Rattle.zpl_region.specs.Region.{padding}
+use Rattle.node_form.specs.of_zpl_nums.declared.operators.Op.TheVariants as op
+use Rattle.node_form.specs.of_zpl_nums.declared.ends.End.{End}
+use Rattle.node_form.specs.of_zpl_nums.declared.ends.End.TheVariants.{Done, Trap}
+use Rattle.node_form.specs.of_zpl_nums.declared.ends.TrapKind.TheVariants.{DivideByZero}
+use Rattle.node_form.specs.of_zpl_nums.declared.folds.Fold.TheVariants as f
+use Rattle.grid_layout.specs.of_zpl_region.declared.dims.Dim.TheVariants as dim
+use Rattle.grid_layout.specs.of_zpl_region.declared.regions.Region.{Region}
+use Rattle.grid_layout.specs.of_zpl_region.Region.{padding}
 use Rattle.grid_links.specs.Machine.{Waiting, Over}
 use Rattle.node_form.specs.declared.tables.Tables.{Tables}
 use Rattle.node_form.specs.declared.members.Member.TheVariants.{Acc, Cell}

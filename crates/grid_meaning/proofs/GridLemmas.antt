@@ -6,8 +6,8 @@ use Rattle.std.proofs.lemmas.List.Elements.{All-head, All-tail, All-nil, All-con
 use Rattle.std.proofs.lemmas.Bool.Decides.{nat_tests}
 use Rattle.std.proofs.Math.Nat.{mod-lt}
 use Rattle.std.specs.List.{All, slice_get, range_with_len}
-use Rattle.zpl_lists.specs.Front.{IsFrontOf}
-use Rattle.zpl_nums.specs.declared.ends.End.{End}
+use Rattle.grid_links.specs.of_zpl_lists.Front.{IsFrontOf}
+use Rattle.node_form.specs.of_zpl_nums.declared.ends.End.{End}
 use Rattle.grid_links.specs.Machine.{Ended, Moves, Waiting, Over, Stuck, over_links}
 use Rattle.grid_links.specs.declared.messages.Message.{Message}
 use Rattle.grid_links.specs.Run as run

@@ -5,7 +5,7 @@ use Rattle.std.specs.Prelude.{Option, Some, None, All, slice_get, option_and_the
 use Rattle.std.specs.List.{AllZip}
 use Rattle.std.specs.Option.{IfSome, IsSomeAnd}
 use Rattle.std.proofs.lemmas.List.Elements.{All-nil, All-cons, All-head, All-tail}
-use Rattle.zpl_nums.specs.Integer.{is_true}
+use Rattle.node_form.specs.of_zpl_nums.Integer.{is_true}
 use Rattle.node_form.specs.declared.tables.Tables.{Tables}
 use Rattle.node_form.specs.declared.members.Member.{Member}
 use Rattle.node_form.specs.declared.members.Member.TheVariants.{Put, Cell, Acc, OpenIf, Otherwise, CloseIf, OpenWhile, CloseWhile, OpenRepeat, Until}

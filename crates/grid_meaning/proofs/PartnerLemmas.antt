@@ -10,14 +10,14 @@ use Rattle.std.proofs.Math.Nat.{div-le_self}
 use Rattle.std.proofs.lemmas.Bool.{ltb-true}
 use Rattle.std.specs.Option.{IfSome}
 use Rattle.std.proofs.lemmas.List.Elements.{filter_passes}
-use Rattle.zpl_region.specs.declared.regions.Region.{Region}
+use Rattle.grid_layout.specs.of_zpl_region.declared.regions.Region.{Region}
 use Rattle.grid_links.specs.declared.messages.Message.{Message}
 use Rattle.grid_links.specs.Machine.{Ended, Blocked, Goes, Awaits, Moves, Waiting, Over, Stuck}
-use Rattle.zpl_nums.specs.declared.ends.End.{End}
-use Rattle.zpl_nums.specs.declared.folds.Fold.{Fold}
-use Rattle.zpl_arrays.specs.Array.{Array}
+use Rattle.node_form.specs.of_zpl_nums.declared.ends.End.{End}
+use Rattle.node_form.specs.of_zpl_nums.declared.folds.Fold.{Fold}
+use Rattle.node_form.specs.of_zpl_arrays.Array.{Array}
 use Rattle.std.specs.Fmt.{signed_decimal}
-use Rattle.zpl_arrays.specs.ArrayText.{truth_text}
+use Rattle.node_form.specs.of_zpl_arrays.ArrayText.{truth_text}
 use Rattle.node_form.specs.Control.{Control, Steps, Leaps, Ends, Outside, control}
 use Rattle.node_form.specs.Value.{Computed, Gives, Divides, Lacks}
 use Rattle.node_form.specs.Group as group

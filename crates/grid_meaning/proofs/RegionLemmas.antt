@@ -6,13 +6,13 @@ use Rattle.std.proofs.Math.Nat.{one-le-mul}
 use Rattle.std.proofs.lemmas.Int.{ints}
 use Rattle.std.proofs.lemmas.List.{drop-append-le, drop_all}
 use Rattle.std.proofs.lemmas.List.Elements.{All-nil, All-cons, All-head, All-tail, All-append, All-replicate}
-use Rattle.zpl_region.specs.declared.dims.Dim.{Dim}
-use Rattle.zpl_region.specs.declared.dims.Dim.TheVariants.{Range, Flood}
-use Rattle.zpl_region.specs.Dim.{HasStep, dim_outside_of, dim_inside_of, dim_moved, dim_strided, least_or, greatest_or}
-use Rattle.zpl_region.specs.Region.{components, each, padding}
-use Rattle.zpl_region.specs.Ends.{has_none}
-use Rattle.zpl_region.specs.Hull.{all_from, emptied}
-use Rattle.zpl_region.specs.declared.regions.Region.{Region}
+use Rattle.grid_layout.specs.of_zpl_region.declared.dims.Dim.{Dim}
+use Rattle.grid_layout.specs.of_zpl_region.declared.dims.Dim.TheVariants.{Range, Flood}
+use Rattle.grid_layout.specs.of_zpl_region.Dim.{HasStep, dim_outside_of, dim_inside_of, dim_moved, dim_strided, least_or, greatest_or}
+use Rattle.grid_layout.specs.of_zpl_region.Region.{components, each, padding}
+use Rattle.grid_layout.specs.of_zpl_region.Ends.{has_none}
+use Rattle.grid_layout.specs.of_zpl_region.Hull.{all_from, emptied}
+use Rattle.grid_layout.specs.of_zpl_region.declared.regions.Region.{Region}
 use Rattle.grid_layout.specs.Block.{block_first, block_last, is_block_empty}
 use Rattle.grid_layout.specs.Layout.{axes_at, held_dim, each_held, or_emptied}
 use Rattle.grid_layout.specs.Grid.{cuts, blocks_at}

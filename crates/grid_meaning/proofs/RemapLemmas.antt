@@ -6,7 +6,7 @@ use Rattle.std.specs.Option.{IfSome, IsSome, option_map}
 use Rattle.std.proofs.lemmas.Bool.Decides.{nat_tests}
 use Rattle.std.proofs.lemmas.List.{length-map}
 use Rattle.std.proofs.lemmas.List.Elements.{All-nil, All-cons, All-head, All-tail}
-use Rattle.zpl_arrays.specs.Array.{Array, has_place, updated}
+use Rattle.node_form.specs.of_zpl_arrays.Array.{Array, has_place, updated}
 use Rattle.node_form.specs.declared.arrays.ArrayRow.{ArrayRow}
 use Rattle.node_form.specs.declared.tables.Tables.{Tables}
 use Rattle.grid_meaning.specs.Collective.{Stage, Alone, Sends, TakesFrom, Last, others}

@@ -5,16 +5,16 @@ use Rattle.std.specs.Int.{int_max, int_min}
 use Rattle.std.proofs.lemmas.Int.{int_max_is, int_min_is, ints}
 use Rattle.std.proofs.lemmas.List.{length-map}
 use Rattle.std.proofs.lemmas.List.Elements.{All-nil, All-cons, All-head, All-tail}
-use Rattle.zpl_region.specs.declared.dims.Dim.{Dim}
-use Rattle.zpl_region.specs.declared.dims.Dim.TheVariants.{Range, Flood}
-use Rattle.zpl_region.specs.declared.regions.Region.{Region}
-use Rattle.zpl_region.specs.Dim.{HasStep, dim_met}
-use Rattle.zpl_region.specs.Ends.{coordinate_count, first_of, last_of, has_none, tuple_count}
-use Rattle.zpl_region.specs.Hull.{all_from, dim_hull, hull, emptied}
-use Rattle.zpl_region.specs.Region.{components, each_met, padding}
-use Rattle.zpl_region.proofs.DimLemmas.{Among-coordinates}
-use Rattle.zpl_region.proofs.EndLemmas.{length-tuple_count, positive_left, positive_right, some_coordinate}
-use Rattle.zpl_region.proofs.HullLemmas.{ends_in_bounds, some_from}
+use Rattle.grid_layout.specs.of_zpl_region.declared.dims.Dim.{Dim}
+use Rattle.grid_layout.specs.of_zpl_region.declared.dims.Dim.TheVariants.{Range, Flood}
+use Rattle.grid_layout.specs.of_zpl_region.declared.regions.Region.{Region}
+use Rattle.grid_layout.specs.of_zpl_region.Dim.{HasStep, dim_met}
+use Rattle.grid_layout.specs.of_zpl_region.Ends.{coordinate_count, first_of, last_of, has_none, tuple_count}
+use Rattle.grid_layout.specs.of_zpl_region.Hull.{all_from, dim_hull, hull, emptied}
+use Rattle.grid_layout.specs.of_zpl_region.Region.{components, each_met, padding}
+use Rattle.grid_layout.proofs.of_zpl_region.DimLemmas.{Among-coordinates}
+use Rattle.grid_layout.proofs.of_zpl_region.EndLemmas.{length-tuple_count, positive_left, positive_right, some_coordinate}
+use Rattle.grid_layout.proofs.of_zpl_region.HullLemmas.{ends_in_bounds, some_from}
 use Rattle.grid_layout.specs.Layout.{laid_out, own_first, own_last}
 use Rattle.node_form.specs.declared.arrays.ArrayDim.{ArrayDim}
 use Rattle.node_form.specs.declared.arrays.ArrayDim.TheVariants as array

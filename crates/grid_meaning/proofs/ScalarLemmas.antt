@@ -8,8 +8,8 @@ use Rattle.std.proofs.lemmas.List.{length-replicate}
 use Rattle.std.proofs.lemmas.List.Elements.{All-replicate, All-head, All-tail, All-map, All-set}
 use Rattle.std.proofs.lemmas.Option.{slice_get-get_or}
 use Rattle.std.specs.Fmt.{signed_decimal}
-use Rattle.zpl_nums.specs.Integer.{is_true}
-use Rattle.zpl_nums.specs.declared.ends.End.{End}
+use Rattle.node_form.specs.of_zpl_nums.Integer.{is_true}
+use Rattle.node_form.specs.of_zpl_nums.declared.ends.End.{End}
 use Rattle.grid_links.specs.declared.messages.Message.{Message}
 use Rattle.grid_links.specs.Machine.{Ended, Blocked, Goes, Awaits, Moves, Waiting, Over, Stuck, Fed, Heads, Rooms, goes, over_links}
 use Rattle.grid_links.specs.Run as run

@@ -5,21 +5,21 @@ use Rattle.std.specs.List.{AllZip, Any, filter_map}
 use Rattle.std.proofs.lemmas.Bool.Decides.{nat_tests}
 use Rattle.std.specs.Option.{IfSome, IsNone, IsSomeAnd, option_map}
 use Rattle.std.proofs.lemmas.List.Sums.{fold-append}
-use Rattle.zpl_region.specs.Hull.{all_from}
+use Rattle.grid_layout.specs.of_zpl_region.Hull.{all_from}
 use Rattle.std.proofs.lemmas.List.{length-map, length-replicate, take-append-drop}
 use Rattle.std.proofs.lemmas.List.Elements.{All-nil, All-cons, All-append, All-head, All-tail, All-replicate}
 use Rattle.std.proofs.Math.ListN.{length-set}
 use Rattle.std.proofs.lemmas.Option.{get_or_from_slice_get, slice_get_within}
-use Rattle.zpl_nums.specs.declared.ends.End.{End}
-use Rattle.zpl_nums.specs.declared.ends.Border.{Border}
-use Rattle.zpl_nums.specs.declared.ends.TrapKind.{TrapKind}
-use Rattle.zpl_region.specs.declared.dims.Dim.{Dim}
-use Rattle.zpl_region.specs.declared.dims.Dim.TheVariants as dim
-use Rattle.zpl_region.specs.declared.regions.Region.{Region}
-use Rattle.zpl_region.specs.Dim.{HasStep}
-use Rattle.zpl_region.specs.Ends.{has_none}
-use Rattle.zpl_region.specs.Region.{components, members, padding, IsPadded, IsWithinLimit}
-use Rattle.zpl_region.specs.Tests.{is_within_limit}
+use Rattle.node_form.specs.of_zpl_nums.declared.ends.End.{End}
+use Rattle.node_form.specs.of_zpl_nums.declared.ends.Border.{Border}
+use Rattle.node_form.specs.of_zpl_nums.declared.ends.TrapKind.{TrapKind}
+use Rattle.grid_layout.specs.of_zpl_region.declared.dims.Dim.{Dim}
+use Rattle.grid_layout.specs.of_zpl_region.declared.dims.Dim.TheVariants as dim
+use Rattle.grid_layout.specs.of_zpl_region.declared.regions.Region.{Region}
+use Rattle.grid_layout.specs.of_zpl_region.Dim.{HasStep}
+use Rattle.grid_layout.specs.of_zpl_region.Ends.{has_none}
+use Rattle.grid_layout.specs.of_zpl_region.Region.{components, members, padding, IsPadded, IsWithinLimit}
+use Rattle.grid_layout.specs.of_zpl_region.Tests.{is_within_limit}
 use Rattle.grid_links.specs.declared.messages.Message.{Message}
 use Rattle.grid_links.specs.Machine.{Ended, Blocked, Goes, Awaits, Takes, Refuses}
 use Rattle.node_form.specs.declared.tables.Tables.{Tables}
@@ -36,10 +36,10 @@ use Rattle.node_form.specs.Control.{Registers, Control, Steps, Leaps, Ends, Outs
 use Rattle.node_form.specs.Control.{part_dim, part_dims, region_of, register_value, formed_by, with_slot}
 use Rattle.node_form.specs.declared.instructions.RegionForm.{RegionForm}
 use Rattle.node_form.specs.declared.instructions.RegionForm.TheVariants.{Of, Inside, At, By}
-use Rattle.zpl_nums.specs.Integer.{is_true}
-use Rattle.zpl_nums.specs.declared.folds.Fold.{Fold}
+use Rattle.node_form.specs.of_zpl_nums.Integer.{is_true}
+use Rattle.node_form.specs.of_zpl_nums.declared.folds.Fold.{Fold}
 use Rattle.grid_meaning.proofs.RegionLemmas.{HasStep-outside, HasStep-inside, HasStep-moved, HasStep-strided, steps-each, padded-each, padded-behind, length-each, no_steps, places_steps}
-use Rattle.zpl_arrays.specs.Array.{Array, array_of, has_place, updated}
+use Rattle.node_form.specs.of_zpl_arrays.Array.{Array, array_of, has_place, updated}
 use Rattle.grid_layout.specs.Layout.{laid_out}
 use Rattle.grid_meaning.specs.Stored.{arrangement_of, no_places}
 use Rattle.node_form.specs.declared.instructions.DimRow.{DimRow}

@@ -1,7 +1,7 @@
 -- What a processor does by itself, and what a message makes of its state.
 use Rattle.std.specs.Prelude.{ℕ, zero, suc, ◌+◌, ◌<◌, List, [], Some, None, ⊤}
 use Rattle.std.specs.Option.{IfSome}
-use Rattle.zpl_nums.specs.declared.ends.End.{End}
+use Rattle.node_form.specs.of_zpl_nums.declared.ends.End.{End}
 use Rattle.grid_links.specs.declared.messages.Message.{Message}
 use Rattle.grid_links.specs.Machine.{Act, Goes, Awaits, Fed}
 use Rattle.grid_meaning.specs.Local.{Local, left}

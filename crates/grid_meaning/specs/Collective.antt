@@ -6,10 +6,10 @@
 use Rattle.std.specs.Prelude.{ℕ, zero, suc, ◌+◌, ◌-◌, ◌*◌, ◌/◌, ◌==◌, nat_lt, not, Bool, ℤ, pos, neg_ℤ, int_lt, unsigned_abs, if◌then◌else◌, List, [], ◌∷◌, ◌++◌, filter, find, fold, map, option_and_then, slice_get, slice_set, slice_index_or, Option, Some, None}
 use Rattle.std.specs.Int.{int_min}
 use Rattle.std.specs.List.{range_with_len}
-use Rattle.zpl_nums.specs.declared.ends.End.TheVariants.{Trap}
-use Rattle.zpl_nums.specs.declared.ends.TrapKind.TheVariants.{DivideByZero}
-use Rattle.zpl_nums.specs.declared.folds.Fold.{Fold}
-use Rattle.zpl_nums.specs.Fold.{joined}
+use Rattle.node_form.specs.of_zpl_nums.declared.ends.End.TheVariants.{Trap}
+use Rattle.node_form.specs.of_zpl_nums.declared.ends.TrapKind.TheVariants.{DivideByZero}
+use Rattle.node_form.specs.of_zpl_nums.declared.folds.Fold.{Fold}
+use Rattle.node_form.specs.of_zpl_nums.Fold.{joined}
 use Rattle.node_form.specs.declared.members.Member.{Member}
 use Rattle.node_form.specs.declared.members.Member.TheVariants.{Put, Cell, Acc, OpenIf, Otherwise, CloseIf, OpenWhile, CloseWhile, OpenRepeat, Until}
 use Rattle.node_form.specs.declared.tables.Tables.{Tables}

@@ -6,15 +6,15 @@
 use Rattle.std.specs.Prelude.{ℕ, ◌==◌, ℤ, List, [], ◌∷◌, ◌++◌, filter, length, map, option_and_then, Option, Some}
 use Rattle.std.specs.List.{list_any}
 use Rattle.std.specs.Option.{option_map}
-use Rattle.zpl_nums.specs.declared.ends.Border.{Border}
-use Rattle.zpl_nums.specs.declared.folds.Fold.{Fold}
-use Rattle.zpl_nums.specs.Fold.{folded, joined}
-use Rattle.zpl_region.specs.Region.{outside_of}
-use Rattle.zpl_region.specs.declared.regions.Region.{Region}
-use Rattle.zpl_arrays.specs.Array.{Array}
-use Rattle.zpl_arrays.specs.Border.{border_source}
-use Rattle.zpl_arrays.specs.Flood.{flood_source}
-use Rattle.zpl_arrays.specs.Fold.{agrees}
+use Rattle.node_form.specs.of_zpl_nums.declared.ends.Border.{Border}
+use Rattle.node_form.specs.of_zpl_nums.declared.folds.Fold.{Fold}
+use Rattle.node_form.specs.of_zpl_nums.Fold.{folded, joined}
+use Rattle.grid_layout.specs.of_zpl_region.Region.{outside_of}
+use Rattle.grid_layout.specs.of_zpl_region.declared.regions.Region.{Region}
+use Rattle.node_form.specs.of_zpl_arrays.Array.{Array}
+use Rattle.node_form.specs.of_zpl_arrays.Border.{border_source}
+use Rattle.node_form.specs.of_zpl_arrays.Flood.{flood_source}
+use Rattle.node_form.specs.of_zpl_arrays.Fold.{agrees}
 use Rattle.node_form.specs.declared.tables.Tables.{Tables}
 use Rattle.grid_meaning.specs.Action.{moves, goes_on}
 use Rattle.grid_meaning.specs.Collective.{Collective, Alone, Sends, TakesFrom, Last, AtOnce, others_where, row_tag}

@@ -2,9 +2,9 @@
 -- them.
 use Rattle.std.specs.Prelude.{ℕ, ◌*◌, ◌==◌, ℤ, List, [], ◌∷◌, ◌++◌, drop, length, map, option_and_then, slice_get, sum_by, take, Option, Some, None}
 use Rattle.std.specs.Option.{option_map}
-use Rattle.zpl_region.specs.declared.regions.Region.{Region}
-use Rattle.zpl_region.specs.Region.{members}
-use Rattle.zpl_arrays.specs.Array.{Array}
+use Rattle.grid_layout.specs.of_zpl_region.declared.regions.Region.{Region}
+use Rattle.grid_layout.specs.of_zpl_region.Region.{members}
+use Rattle.node_form.specs.of_zpl_arrays.Array.{Array}
 use Rattle.grid_layout.specs.Piece.{piece_of}
 use Rattle.node_form.specs.declared.arrays.Item.{Item}
 use Rattle.node_form.specs.declared.tables.Tables.{Tables}

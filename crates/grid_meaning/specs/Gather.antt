@@ -1,9 +1,9 @@
 -- `gather`: processor 0 gets the values of an array over a region from all others, and prints it.
 use Rattle.std.specs.Prelude.{ℕ, zero, suc, ◌==◌, Bool, ℤ, pos, List, [], ◌∷◌, ◌++◌, find, length, map, slice_index_or, Option, Some, None, if◌then◌else◌}
 use Rattle.std.specs.Fmt.{signed_decimal}
-use Rattle.zpl_region.specs.declared.regions.Region.{Region}
-use Rattle.zpl_arrays.specs.Array.{place_among}
-use Rattle.zpl_arrays.specs.ArrayText.{array_text, truth_text}
+use Rattle.grid_layout.specs.of_zpl_region.declared.regions.Region.{Region}
+use Rattle.node_form.specs.of_zpl_arrays.Array.{place_among}
+use Rattle.node_form.specs.of_zpl_arrays.ArrayText.{array_text, truth_text}
 use Rattle.grid_links.specs.Machine.{Blocked}
 use Rattle.node_form.specs.declared.tables.Tables.{Tables}
 use Rattle.grid_meaning.specs.Action.{Action, Unheld, moves, goes_on}

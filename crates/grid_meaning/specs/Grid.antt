@@ -8,7 +8,7 @@
 --   after       the grid after an order of turns
 --   IsOver, EndsAs, IsStuck, Rests, IsIdle, HasEmptyLinks   what a grid shows
 use Rattle.std.specs.Prelude.{◌≡◌, ◌⊎◌, ℕ, zero, suc, ◌+◌, ◌<◌, ◌≤◌, List, [], ◌∷◌, ◌++◌, length, fold, sum_by, Option, Some, None, slice_get, option_and_then, IsSome, All, ⊤}
-use Rattle.zpl_nums.specs.declared.ends.End.{End}
+use Rattle.node_form.specs.of_zpl_nums.declared.ends.End.{End}
 use Rattle.grid_links.specs.declared.messages.Message.{Message}
 use Rattle.grid_links.specs.Machine.{Moves, Waiting, Over, Stuck}
 use Rattle.grid_links.specs.Laws.{system_of}

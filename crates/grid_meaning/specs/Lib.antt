@@ -17,3 +17,9 @@ pub mod Scan
 pub mod State
 pub mod Stored
 pub mod Turn
+pub use Rattle.grid_layout.specs as of_grid_layout
+pub use Rattle.grid_links.specs as of_grid_links
+pub use Rattle.node_form.specs as of_node_form
+pub use Rattle.node_form.specs.of_zpl_arrays as of_zpl_arrays
+pub use Rattle.node_form.specs.of_zpl_nums as of_zpl_nums
+pub use Rattle.grid_layout.specs.of_zpl_region as of_zpl_region

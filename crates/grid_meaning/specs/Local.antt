@@ -5,9 +5,9 @@
 --   start_local   the state before the first turn
 use Rattle.std.specs.Prelude.{ℕ, ℤ, pos, Bool, true, false, List, [], Option, None, map, replicate}
 use Rattle.std.specs.List.{range_with_len}
-use Rattle.zpl_nums.specs.declared.ends.End.{End}
-use Rattle.zpl_region.specs.declared.regions.Region.{Region}
-use Rattle.zpl_arrays.specs.Array.{Array, array_of}
+use Rattle.node_form.specs.of_zpl_nums.declared.ends.End.{End}
+use Rattle.grid_layout.specs.of_zpl_region.declared.regions.Region.{Region}
+use Rattle.node_form.specs.of_zpl_arrays.Array.{Array, array_of}
 use Rattle.grid_layout.specs.declared.blocks.Blocks.{Blocks}
 use Rattle.grid_layout.specs.Layout.{laid_out, held_of}
 use Rattle.node_form.specs.declared.arrays.ArrayRow.{ArrayRow}

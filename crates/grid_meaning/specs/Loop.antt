@@ -1,9 +1,9 @@
 -- A turn of `loop`: what the members of a group do at one index, or at a shattered member up to
 -- where it goes back.
 use Rattle.std.specs.Prelude.{ℕ, ◌+◌, nat_lt, ℤ, List, [], Option, Some, None, if◌then◌else◌, slice_get}
-use Rattle.zpl_region.specs.declared.regions.Region.{Region}
-use Rattle.zpl_region.specs.Region.{members}
-use Rattle.zpl_arrays.specs.Array.{Array}
+use Rattle.grid_layout.specs.of_zpl_region.declared.regions.Region.{Region}
+use Rattle.grid_layout.specs.of_zpl_region.Region.{members}
+use Rattle.node_form.specs.of_zpl_arrays.Array.{Array}
 use Rattle.grid_links.specs.Machine.{Blocked}
 use Rattle.node_form.specs.declared.members.Member.{Member}
 use Rattle.node_form.specs.declared.tables.Tables.{Tables}

@@ -4,8 +4,8 @@
 --   owner_for   the processor that owns a tuple of a region, for a receiver
 --   tuples_of   the tuples of a region within a processor's own block
 use Rattle.std.specs.Prelude.{ℕ, ℤ, List, slice_get, unwrap_or}
-use Rattle.zpl_region.specs.declared.regions.Region.{Region}
-use Rattle.zpl_region.specs.Region.{members}
+use Rattle.grid_layout.specs.of_zpl_region.declared.regions.Region.{Region}
+use Rattle.grid_layout.specs.of_zpl_region.Region.{members}
 use Rattle.grid_layout.specs.Layout.{laid_out}
 use Rattle.grid_layout.specs.Piece.{owner_for as owner_in}
 use Rattle.node_form.specs.declared.tables.Tables.{Tables}

@@ -8,9 +8,9 @@
 --   own_part       the part of a region within a processor's own block
 use Rattle.std.specs.Prelude.{ℕ, Bool, true, false, ℤ, ◌+ℤ◌, List, [], ◌∷◌, option_and_then, slice_get, slice_set, Option, Some, None}
 use Rattle.std.specs.Option.{option_map}
-use Rattle.zpl_region.specs.declared.regions.Region.{Region}
-use Rattle.zpl_region.specs.Region.{met}
-use Rattle.zpl_arrays.specs.Array.{Array, element, has_place, updated}
+use Rattle.grid_layout.specs.of_zpl_region.declared.regions.Region.{Region}
+use Rattle.grid_layout.specs.of_zpl_region.Region.{met}
+use Rattle.node_form.specs.of_zpl_arrays.Array.{Array, element, has_place, updated}
 use Rattle.grid_layout.specs.Layout.{laid_out, own_first, own_last}
 use Rattle.node_form.specs.declared.tables.Tables.{Tables}
 use Rattle.grid_meaning.specs.Stored.{arrangement_of}

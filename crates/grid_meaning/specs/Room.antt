@@ -1,12 +1,12 @@
 -- Rows on a store alone: `room` makes the places of a temporary, and `clear` sets those of a stored
 -- array to 0.
 use Rattle.std.specs.Prelude.{ℕ, Bool, true, false, pos, List, [], ◌∷◌, slice_set, Option, Some, None}
-use Rattle.zpl_region.specs.declared.dims.Dim.{Dim}
-use Rattle.zpl_region.specs.declared.dims.Dim.TheVariants as dim
-use Rattle.zpl_region.specs.declared.regions.Region.{Region}
-use Rattle.zpl_region.specs.Ends.{has_none}
-use Rattle.zpl_region.specs.Hull.{all_from, hull}
-use Rattle.zpl_arrays.specs.Array.{Array, array_of}
+use Rattle.grid_layout.specs.of_zpl_region.declared.dims.Dim.{Dim}
+use Rattle.grid_layout.specs.of_zpl_region.declared.dims.Dim.TheVariants as dim
+use Rattle.grid_layout.specs.of_zpl_region.declared.regions.Region.{Region}
+use Rattle.grid_layout.specs.of_zpl_region.Ends.{has_none}
+use Rattle.grid_layout.specs.of_zpl_region.Hull.{all_from, hull}
+use Rattle.node_form.specs.of_zpl_arrays.Array.{Array, array_of}
 use Rattle.grid_links.specs.Machine.{Blocked}
 use Rattle.node_form.specs.declared.arrays.ArrayDim.{ArrayDim}
 use Rattle.node_form.specs.declared.arrays.ArrayDim.TheVariants.{Range, Star}

@@ -2,14 +2,14 @@
 -- before its own values.
 use Rattle.std.specs.Prelude.{ℕ, zero, suc, ◌+◌, ◌-◌, ◌==◌, Bool, true, false, ◌&&◌, ◌||◌, ℤ, pos, List, [], ◌∷◌, ◌++◌, filter, fold, length, map, option_and_then, slice_index_or, Option, Some, None, if◌then◌else◌}
 use Rattle.std.specs.Option.{option_map}
-use Rattle.zpl_nums.specs.Integer.{is_true}
-use Rattle.zpl_nums.specs.declared.folds.Fold.{Fold}
-use Rattle.zpl_nums.specs.Fold.{folded, joined, unit_of}
-use Rattle.zpl_region.specs.declared.regions.Region.{Region}
-use Rattle.zpl_region.specs.Ends.{first_of}
-use Rattle.zpl_region.specs.Region.{dim_at}
-use Rattle.zpl_arrays.specs.Row.{kept_values, running}
-use Rattle.zpl_arrays.specs.Scan.{is_below, is_earlier_line, is_same_tuple}
+use Rattle.node_form.specs.of_zpl_nums.Integer.{is_true}
+use Rattle.node_form.specs.of_zpl_nums.declared.folds.Fold.{Fold}
+use Rattle.node_form.specs.of_zpl_nums.Fold.{folded, joined, unit_of}
+use Rattle.grid_layout.specs.of_zpl_region.declared.regions.Region.{Region}
+use Rattle.grid_layout.specs.of_zpl_region.Ends.{first_of}
+use Rattle.grid_layout.specs.of_zpl_region.Region.{dim_at}
+use Rattle.node_form.specs.of_zpl_arrays.Row.{kept_values, running}
+use Rattle.node_form.specs.of_zpl_arrays.Scan.{is_below, is_earlier_line, is_same_tuple}
 use Rattle.grid_links.specs.Machine.{Blocked}
 use Rattle.node_form.specs.declared.tables.Tables.{Tables}
 use Rattle.grid_meaning.specs.Action.{Action, Unheld, moves, goes_on}

@@ -5,12 +5,12 @@
 use Rattle.std.specs.Prelude.{◌≡◌, ◌⊎◌, ◌≢◌, ℕ, ◌-◌, ◌<◌, ◌≤◌, nat_lt, if◌then◌else◌, true, false, Bool, ℤ, pos, ◌≤ℤ◌, List, [], ◌∷◌, fold, length, map, take, slice_get, Option, Some, None, All, ⊤}
 use Rattle.std.specs.List.{AllZip, Any, filter_map}
 use Rattle.std.specs.Option.{IfSome, IsSomeAnd, IsSome}
-use Rattle.zpl_region.specs.declared.dims.Dim.{Dim}
-use Rattle.zpl_region.specs.declared.dims.Dim.TheVariants as dim
-use Rattle.zpl_region.specs.declared.regions.Region.{Region}
-use Rattle.zpl_region.specs.Hull.{all_from}
-use Rattle.zpl_region.specs.Region.{IsPadded, members}
-use Rattle.zpl_arrays.specs.Array.{Array, IsArray}
+use Rattle.grid_layout.specs.of_zpl_region.declared.dims.Dim.{Dim}
+use Rattle.grid_layout.specs.of_zpl_region.declared.dims.Dim.TheVariants as dim
+use Rattle.grid_layout.specs.of_zpl_region.declared.regions.Region.{Region}
+use Rattle.grid_layout.specs.of_zpl_region.Hull.{all_from}
+use Rattle.grid_layout.specs.of_zpl_region.Region.{IsPadded, members}
+use Rattle.node_form.specs.of_zpl_arrays.Array.{Array, IsArray}
 use Rattle.grid_layout.specs.Layout.{laid_out, held_of, own_first, own_last}
 use Rattle.node_form.specs.declared.arrays.ArrayDim.{ArrayDim}
 use Rattle.node_form.specs.declared.arrays.ArrayDim.TheVariants.{Range, Star}

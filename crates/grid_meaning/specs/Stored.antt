@@ -5,9 +5,9 @@
 --   arrangement_of   the grid of a program, and its stored arrays
 --   box_number       the number of a stored array among these
 use Rattle.std.specs.Prelude.{ℕ, ◌-◌, ℤ, pos, List, ◌++◌, filter, length, map, replicate, take}
-use Rattle.zpl_region.specs.declared.regions.Region.{Region}
-use Rattle.zpl_region.specs.Hull.{all_from}
-use Rattle.zpl_region.specs.Region.{padding}
+use Rattle.grid_layout.specs.of_zpl_region.declared.regions.Region.{Region}
+use Rattle.grid_layout.specs.of_zpl_region.Hull.{all_from}
+use Rattle.grid_layout.specs.of_zpl_region.Region.{padding}
 use Rattle.grid_layout.specs.declared.boxes.ArrayBox.{ArrayBox}
 use Rattle.grid_layout.specs.Layout.{Arrangement}
 use Rattle.node_form.specs.declared.arrays.ArrayDim.{ArrayDim}

@@ -7,10 +7,10 @@
 --   turn_at     its turn, by the messages for it and the room on its own links
 use Rattle.std.specs.Prelude.{ℕ, ◌+◌, ◌==◌, ℤ, List, [], length, Option, Some, None, slice_get, if◌then◌else◌}
 use Rattle.std.specs.Fmt.{signed_decimal}
-use Rattle.zpl_nums.specs.declared.ends.End.{End}
-use Rattle.zpl_nums.specs.declared.ends.End.TheVariants.{Done, Trap}
-use Rattle.zpl_nums.specs.declared.ends.TrapKind.TheVariants.{DivideByZero}
-use Rattle.zpl_arrays.specs.ArrayText.{truth_text}
+use Rattle.node_form.specs.of_zpl_nums.declared.ends.End.{End}
+use Rattle.node_form.specs.of_zpl_nums.declared.ends.End.TheVariants.{Done, Trap}
+use Rattle.node_form.specs.of_zpl_nums.declared.ends.TrapKind.TheVariants.{DivideByZero}
+use Rattle.node_form.specs.of_zpl_arrays.ArrayText.{truth_text}
 use Rattle.grid_links.specs.declared.messages.Message.{Message}
 use Rattle.grid_links.specs.Machine.{Ended, Blocked, Goes, Awaits, Takes, Refuses, Processes, Heads, Rooms, Turn as TurnOf, turn_of}
 use Rattle.node_form.specs.declared.tables.Tables.{Tables}

@@ -1,6 +1,6 @@
 //! The laws of the grid.
 ghost use Rattle.std.specs.Prelude.{◌≡◌, ◌+◌, ◌<◌, ◌↔◌, ℕ, List, [], ◌∷◌, ◌++◌, length, Option};
-ghost use Rattle.zpl_lists.specs.Front.{IsFrontOf};
+ghost use Rattle.grid_links.specs.of_zpl_lists.Front.{IsFrontOf};
 ghost use Rattle.node_form.specs.declared.tables.Tables.{Tables as Code};
 ghost use Rattle.grid_layout.specs.Grid.{processors_of as count_of_processors};
 ghost use Rattle.grid_links.specs.Run.{after as world_after};

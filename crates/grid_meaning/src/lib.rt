@@ -13,10 +13,15 @@ mod scalar;
 mod states;
 
 pub use every_order::{orders_are_dominated, orders_end_alike, small_links_are_enough};
+pub use grid_layout;
+pub use grid_layout::zpl_region;
+pub use grid_links;
 pub use laws::{
     given_turns_are_orders, grids_show_their_worlds, orders_go_on, over_stays, printing_grows,
     turns_count,
 };
+pub use node_form;
+pub use node_form::zpl_nums;
 pub use partners::partners_are_processors;
 pub use processors::Processors;
 pub use scalar::{scalar_code_goes_on, scalar_code_needs_no_links};

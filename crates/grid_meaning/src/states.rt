@@ -8,8 +8,8 @@ ghost use Rattle.grid_meaning.specs.Local.{Local, processors, start_local};
 ghost use Rattle.grid_meaning.specs.State.{IsLocal, NextHasThree};
 ghost use Rattle.grid_meaning.specs.Turn.{act, fed};
 
+use grid_layout::zpl_region::tests_tell_the_facts;
 use node_form::rows_fit;
-use zpl_region::tests_tell_the_facts;
 
 /// A processor starts in a state that it may have, and each move keeps it in one, alone and with
 /// a message that it awaits. What moves alone ask of a row is what a program's types give.

@@ -8,25 +8,25 @@ use Rattle.zpl_nums.specs.declared.ends.End.TheVariants.{Done, Trap, More}
 use Rattle.zpl_nums.specs.declared.ends.TrapKind.{TrapKind}
 use Rattle.zpl_nums.specs.declared.folds.Fold.{Fold}
 use Rattle.zpl_region.specs.declared.regions.Region.{Region}
-use Rattle.zpl_arrays.specs.Array.{Array}
+use Rattle.grid_meaning.specs.of_zpl_arrays.Array.{Array}
 use Rattle.grid_links.specs.declared.messages.Message.{Message}
 use Rattle.grid_links.specs.Machine.{Ended, Blocked, Goes, Awaits, Takes, Refuses, Heads, Rooms, Moves, Waiting, Over, Stuck, awaits, goes, over_links, takes_from, where_room}
 use Rattle.grid_links.specs.Run as run
-use Rattle.node_form.specs.declared.arrays.ArrayRow.{ArrayRow}
-use Rattle.node_form.specs.declared.arrays.Item.{Item}
-use Rattle.node_form.specs.declared.instructions.Instr.{Instr}
-use Rattle.node_form.specs.declared.instructions.Instr.TheVariants as instr
-use Rattle.node_form.specs.declared.members.Member.{Member}
-use Rattle.node_form.specs.declared.tables.Tables.{Tables}
+use Rattle.grid_meaning.specs.of_node_form.declared.arrays.ArrayRow.{ArrayRow}
+use Rattle.grid_meaning.specs.of_node_form.declared.arrays.Item.{Item}
+use Rattle.grid_meaning.specs.of_node_form.declared.instructions.Instr.{Instr}
+use Rattle.grid_meaning.specs.of_node_form.declared.instructions.Instr.TheVariants as instr
+use Rattle.grid_meaning.specs.of_node_form.declared.members.Member.{Member}
+use Rattle.grid_meaning.specs.of_node_form.declared.tables.Tables.{Tables}
 use Rattle.zpl_nums.specs.declared.ends.TrapKind.TheVariants.{OutsideStorage, RegionMismatch}
 use Rattle.zpl_nums.specs.Integer.{is_true}
 use Rattle.zpl_region.specs.Tests.{is_within_limit}
-use Rattle.zpl_arrays.specs.Border.{border_conforms}
-use Rattle.zpl_arrays.specs.Reference.{is_reference}
-use Rattle.node_form.specs.Fits.{storage_of}
-use Rattle.node_form.specs.Control.{Registers, Control, Steps, Leaps, Ends, Outside, conforms, control, formed_by, part_dims, region_of, register_value, with_computed, with_row, with_scalar, checked, limited, branched}
-use Rattle.node_form.specs.Group.{Ran, Through, Again, Divided, Unheld}
-use Rattle.node_form.specs.Value.{Computed, Gives, Divides, Lacks}
+use Rattle.grid_meaning.specs.of_zpl_arrays.Border.{border_conforms}
+use Rattle.grid_meaning.specs.of_zpl_arrays.Reference.{is_reference}
+use Rattle.grid_meaning.specs.of_node_form.Fits.{storage_of}
+use Rattle.grid_meaning.specs.of_node_form.Control.{Registers, Control, Steps, Leaps, Ends, Outside, conforms, control, formed_by, part_dims, region_of, register_value, with_computed, with_row, with_scalar, checked, limited, branched}
+use Rattle.grid_meaning.specs.of_node_form.Group.{Ran, Through, Again, Divided, Unheld}
+use Rattle.grid_meaning.specs.of_node_form.Value.{Computed, Gives, Divides, Lacks}
 use Rattle.grid_meaning.specs.Action.{Action, Feeding, StuckKind, prints}
 use Rattle.grid_meaning.specs.Collective.{Collective, Stage, Alone, Sends, TakesFrom, Last, Kin, decided, folded, keeping, voted}
 use Rattle.grid_meaning.specs.Delivery.{Delivery, delivered, each_word, edging, flooding, parting}
@@ -38,7 +38,7 @@ use Rattle.grid_meaning.specs.Loop.{after_members, looped, turn_at_index}
 use Rattle.grid_meaning.specs.Order.{given}
 use Rattle.grid_meaning.specs.Owner.{region_in}
 use Rattle.grid_meaning.specs.Place.{with_values}
-use Rattle.zpl_arrays.specs.Row.{running}
+use Rattle.grid_meaning.specs.of_zpl_arrays.Row.{running}
 use Rattle.grid_meaning.specs.Remap.{Want, first_values, remap_own, remapped, request_taken, wants, wants_at_once}
 use Rattle.grid_meaning.specs.Room.{cleared, roomed}
 use Rattle.grid_meaning.specs.Rows.{collective}

@@ -1,7 +1,7 @@
 -- Turns of a run.
 use Rattle.std.proofs.Common.{◌≡◌, ℕ, ◌+◌, List, [], ◌∷◌, length, Option, ap, ◌∙◌, arith, add-one}
 use Rattle.std.proofs.lemmas.List.Sums.{fold-append}
-use Rattle.node_form.specs.declared.tables.Tables.{Tables}
+use Rattle.grid_meaning.specs.of_node_form.declared.tables.Tables.{Tables}
 use Rattle.grid_meaning.specs.Grid.{Grid, after_from, given_turn, processors}
 use Rattle.grid_meaning.specs.Order.{given, turn_number}
 use Rattle.grid_meaning.proofs.GridLemmas.{length-given}

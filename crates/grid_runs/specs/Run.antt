@@ -11,7 +11,7 @@ use Rattle.std.specs.Prelude.{◌≡◌, ◌⊎◌, ℕ, ◌+◌, ◌<◌, List,
 use Rattle.std.specs.Option.{option_and_then}
 use Rattle.zpl_lists.specs.Front.{IsFrontOf}
 use Rattle.zpl_io.specs.Sink.{Takes}
-use Rattle.node_form.specs.declared.tables.Tables.{Tables}
+use Rattle.grid_meaning.specs.of_node_form.declared.tables.Tables.{Tables}
 use Rattle.grid_links.specs.Machine.{Stuck}
 use Rattle.grid_meaning.specs.Action.{StuckKind}
 use Rattle.grid_meaning.specs.Grid.{Grid, processors, after_from, next_turn, IsOver, IsIdle}

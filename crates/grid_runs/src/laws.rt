@@ -2,7 +2,7 @@
 ghost use Rattle.std.specs.Prelude.{◌≡◌, ◌≢◌, ◌+◌, ℕ, List, Option};
 ghost use Rattle.zpl_nums.specs.declared.ends.End.{End as Ending};
 ghost use Rattle.zpl_nums.specs.declared.ends.End.TheVariants.{More};
-ghost use Rattle.node_form.specs.declared.tables.Tables.{Tables as Code};
+ghost use Rattle.grid_meaning.specs.of_node_form.declared.tables.Tables.{Tables as Code};
 ghost use Rattle.grid_meaning.specs.Grid.{EndsAs, after, start_grid};
 ghost use Rattle.grid_runs.specs.Run.{Run, grid_at};
 

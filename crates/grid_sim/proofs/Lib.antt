@@ -8,3 +8,4 @@ pub mod RunLemmas
 mod PlaceLemmas
 mod TurnLemmas
 mod StartLemmas
+pub use Rattle.node_turn.proofs.of_row_turn as of_row_turn

@@ -11,8 +11,8 @@ use Rattle.grid_meaning.specs.Local.{Local, processor_numbers, processors, start
 use Rattle.grid_meaning.proofs.GridLemmas.{length-start_locals}
 use Rattle.node_local.specs.Workplace.{IsReady, Workplace}
 use Rattle.grid_sim.specs.declared.processors.Processors.{Processors}
-use Rattle.node_stages.specs.Known.{Known as Partners, nothing_known}
-use Rattle.row_turn.specs.Known.{Knows}
+use Rattle.node_turn.specs.of_node_stages.Known.{Known as Partners, nothing_known}
+use Rattle.node_turn.specs.of_row_turn.Known.{Knows}
 use Rattle.grid_sim.specs.Processors.{AllKnow, AllReady, HaveMarks, HaveStates, has_ended, state_of}
 use Rattle.grid_sim.proofs.ReadLemmas.{ending_at, has_ended-map}
 

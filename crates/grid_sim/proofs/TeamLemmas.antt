@@ -18,8 +18,8 @@ use Rattle.grid_meaning.specs.Local.{Local, processors, start_locals}
 use Rattle.grid_meaning.specs.Turn.{Turn, processes}
 use Rattle.grid_meaning.proofs.GridLemmas.{length-start_locals}
 use Rattle.node_local.specs.Workplace.{IsReady, Workplace}
-use Rattle.node_stages.specs.Known.{Known as Partners, nothing_known}
-use Rattle.row_turn.specs.Known.{Knows}
+use Rattle.node_turn.specs.of_node_stages.Known.{Known as Partners, nothing_known}
+use Rattle.node_turn.specs.of_row_turn.Known.{Knows}
 use Rattle.node_turn.specs.Turned.{IsTraffic, is_resting, links_behind, turn_over}
 use Rattle.node_turn.specs.declared.steps.Traffic.{Traffic}
 use Rattle.node_turn.specs.declared.steps.Traffic.TheVariants as traffic

@@ -8,3 +8,4 @@ pub mod Run
 pub mod Simulation
 pub mod Stop
 pub mod Telling
+pub use Rattle.node_turn.specs.of_row_turn as of_row_turn

@@ -23,8 +23,8 @@ use Rattle.grid_meaning.specs.Local.{Local, processors}
 use Rattle.grid_meaning.specs.Turn.{Turn}
 use Rattle.node_local.specs.Workplace.{IsReady, Workplace}
 use Rattle.node_turn.specs.Turned.{IsTraffic, is_resting, printing, IsPrinting}
-use Rattle.node_stages.specs.Known.{Known as Partners, nothing_known}
-use Rattle.row_turn.specs.Known.{Knows}
+use Rattle.node_turn.specs.of_node_stages.Known.{Known as Partners, nothing_known}
+use Rattle.node_turn.specs.of_row_turn.Known.{Knows}
 use Rattle.node_turn.specs.declared.steps.Step.{Step}
 use Rattle.node_turn.specs.declared.steps.Step.TheVariants as step
 use Rattle.node_turn.specs.declared.steps.Traffic.{Traffic}

@@ -14,7 +14,7 @@ mod turns;
 
 pub use counts::Counts;
 pub use faults::SimFault;
-pub use node_turn::{Local, StuckKind};
+pub use node_turn::{Local, StuckKind, row_turn};
 pub use runs::{Rounds, next_turn};
 pub use sims::Sim;
 pub use turns::{Told, Turned};

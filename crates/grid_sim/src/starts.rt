@@ -5,7 +5,7 @@ ghost use Rattle.grid_links.specs.Run.{start_world};
 ghost use Rattle.grid_meaning.specs.Grid.{system_over};
 ghost use Rattle.grid_meaning.specs.Local.{processors, start_locals};
 ghost use Rattle.grid_meaning.specs.Stored.{arrangement_of};
-ghost use Rattle.node_stages.specs.Known.{nothing_known};
+ghost use Rattle.node_turn.specs.of_node_stages.Known.{nothing_known};
 ghost use Rattle.grid_sim.specs.Processors.{AllReady, AreProcessors, state_of, world_of};
 
 use crate::marks::Marks;

@@ -2,13 +2,13 @@
 //! its grid and writes a line for each turn.
 #![tactic(auto)]
 
-use call_answers::{Answer, told};
 use call_words::{Command, command_of};
 use std::alloc::AllocError;
 use std::io::ErrorKind;
 use std::process::ExitCode;
 use std::rt::Env;
 use std::{env, io};
+use trace_call::call_answers::{Answer, told};
 use trace_call::trace;
 use zpl_io::{DiskFiles, StdSink, put_piece};
 

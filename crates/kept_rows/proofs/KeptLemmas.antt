@@ -2,9 +2,9 @@
 use Rattle.std.proofs.Common.{◌≡◌, Bool, true, false, if◌then◌else◌, List, [], ◌∷◌, length, map, replicate, get_or, ℤ, pos, refl, sym, ◌∙◌, ap}
 use Rattle.zpl_nums.specs.Integer.{is_true}
 use Rattle.zpl_arrays.specs.Array.{Array, element, has_place, place_among}
-use Rattle.zpl_meaning.specs.Context.{lets_in}
-use Rattle.zpl_meaning.specs.Fields.{everywhere}
-use Rattle.zpl_meaning.specs.Store.{no_array}
+use Rattle.array_terms.specs.of_zpl_meaning.Context.{lets_in}
+use Rattle.array_terms.specs.of_zpl_meaning.Fields.{everywhere}
+use Rattle.array_terms.specs.of_zpl_meaning.Store.{no_array}
 use Rattle.kept_rows.specs.Kept.{let_in}
 
 pub everywhere_is : (ts : List (List ℤ)) → replicate (length ts) true ≡ map everywhere ts

@@ -1,1 +1,2 @@
 pub mod Kept
+pub use Rattle.array_terms.specs as of_array_terms

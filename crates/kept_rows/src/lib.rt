@@ -3,4 +3,5 @@
 
 mod masks;
 
+pub use array_terms;
 pub use masks::{push_everywhere, push_kept};

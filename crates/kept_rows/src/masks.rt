@@ -4,13 +4,13 @@ ghost use Rattle.zpl_nums.specs.Integer.{is_true};
 ghost use Rattle.zpl_region.specs.Ends.{tuple_count};
 ghost use Rattle.zpl_region.specs.Region.{IsRegion, members};
 ghost use Rattle.zpl_arrays.specs.Array.{element};
-ghost use Rattle.zpl_meaning.specs.Context.{is_kept, lets_in};
-ghost use Rattle.zpl_meaning.specs.Fields.{everywhere, is_kept_in};
+ghost use Rattle.array_terms.specs.of_zpl_meaning.Context.{is_kept, lets_in};
+ghost use Rattle.array_terms.specs.of_zpl_meaning.Fields.{everywhere, is_kept_in};
 ghost use Rattle.array_terms.specs.Sound.{IsSmall};
 ghost use Rattle.array_terms.specs.View.{mask_of, over_of};
 ghost use Rattle.kept_rows.specs.Kept.{let_in};
 
-use array_store::{Array, Store};
+use array_terms::array_store::{Array, Store};
 use array_terms::{Mask, Over};
 use std::alloc::{AllocError, Global};
 use zpl_region::Region;

@@ -2,7 +2,7 @@
 use Rattle.std.specs.Prelude.{◌≡◌, ℕ, ◌==◌, Bool, if◌then◌else◌, List, max, nat_eq, unwrap_or}
 use Rattle.std.specs.List.{list_any}
 use Rattle.std.specs.HashMap.{get}
-use Rattle.node_form.specs.declared.arrays.Item.{Item}
+use Rattle.plan_form.specs.of_node_form.declared.arrays.Item.{Item}
 use Rattle.last_writes.specs.declared.numbers.Noted.{Noted}
 use Rattle.last_writes.specs.declared.writes.LastWrites.{LastWrites}
 

@@ -8,4 +8,6 @@ mod numbers;
 mod writes;
 
 pub use numbers::Noted;
+pub use plan_form;
+pub use plan_form::{flat_passes, node_form};
 pub use writes::LastWrites;

@@ -1,9 +1,9 @@
 //! What is noted for numbers.
 ghost use Rattle.std.specs.Prelude.{◌≡◌, ◌∷◌, ℕ, [], OnOk, flat_map};
-ghost use Rattle.code_parts.specs.Uses.{arrays_of_items, put_by};
+ghost use Rattle.plan_form.specs.of_code_parts.Uses.{arrays_of_items, put_by};
 ghost use Rattle.last_writes.specs.Last.{AreNoted, noted};
 
-use node_form::{Item, Member};
+use plan_form::node_form::{Item, Member};
 use std::alloc::{AllocError, Global};
 use std::collections::HashMap;
 

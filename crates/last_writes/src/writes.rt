@@ -1,10 +1,10 @@
 //! The last writes of arrays and slots.
 ghost use Rattle.std.specs.Prelude.{◌≡◌, ℕ, OnOk};
-ghost use Rattle.code_parts.specs.Uses.{written_arrays, written_slots};
+ghost use Rattle.plan_form.specs.of_code_parts.Uses.{written_arrays, written_slots};
 ghost use Rattle.last_writes.specs.Last.{AreNoted, last_change, noted};
 
 use crate::numbers::Noted;
-use node_form::{Instr, Item, Tables};
+use plan_form::node_form::{Instr, Item, Tables};
 use plan_form::{items_of, members_of};
 use std::alloc::{AllocError, Global};
 

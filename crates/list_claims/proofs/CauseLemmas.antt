@@ -1,7 +1,7 @@
 -- A status of `list` with its cause comes just where that cause is.
 use Rattle.std.proofs.Common.{◌≡◌, ◌≢◌, ℕ, List, codes, refl, arith, inl, inr}
 use Rattle.node_form.specs.declared.tables.Tables.{Tables}
-use Rattle.zpl_claims.specs.Build.{Build}
+use Rattle.call_claims.specs.of_zpl_claims.Build.{Build}
 use Rattle.call_claims.specs.Call.{Call}
 use Rattle.list_claims.specs.Cause.{CodeCause, ListCause, IsListed, Lists, Cause}
 use Rattle.call_claims.specs.Cause.{IsTooLong}

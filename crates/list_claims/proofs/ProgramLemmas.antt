@@ -1,7 +1,7 @@
 -- Of a program's file: when its status is the file's, or that of its text.
 use Rattle.std.proofs.Common.{◌≡◌, ◌≢◌, ℕ, ◌⊎◌, List, length, Some, None, refl, sym, ◌∙◌, ap, subst, arith, inl, inr}
 use Rattle.node_form.specs.declared.tables.Tables.{Tables}
-use Rattle.zpl_claims.specs.Build.{Build}
+use Rattle.call_claims.specs.of_zpl_claims.Build.{Build}
 use Rattle.call_claims.specs.Call.{Call}
 use Rattle.list_claims.specs.Cause.{TextFault, CodeCause, ProgramCause}
 use Rattle.call_claims.specs.Cause.{IsTooLong}

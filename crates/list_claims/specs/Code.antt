@@ -9,10 +9,10 @@ use Rattle.zpl_tree.specs.Syntax.{Program}
 use Rattle.zpl_binding.specs.Declarations.{known_of}
 use Rattle.node_form.specs.Grid.{IsGrid}
 use Rattle.node_form.specs.declared.tables.Tables.{Tables}
-use Rattle.zpl_claims.specs.Boxes.{HasTooMuchStorage, boxes_of}
-use Rattle.zpl_claims.specs.Build.{Build}
-use Rattle.zpl_claims.specs.Compiled.{IsCompiled}
-use Rattle.zpl_claims.specs.Origin.{Origin, origin_of}
+use Rattle.call_claims.specs.of_zpl_claims.Boxes.{HasTooMuchStorage, boxes_of}
+use Rattle.call_claims.specs.of_zpl_claims.Build.{Build}
+use Rattle.call_claims.specs.of_zpl_claims.Compiled.{IsCompiled}
+use Rattle.call_claims.specs.of_zpl_claims.Origin.{Origin, origin_of}
 use Rattle.zpl_compile.specs.Compilable.{IsCounted}
 use Rattle.zpl_compile.specs.Compile.{compiled}
 use Rattle.call_claims.specs.Accepted.{IsAcceptedUnder}

@@ -1,6 +1,6 @@
 -- When each status comes.
 use Rattle.std.specs.Prelude.{◌≡◌, ◌↔◌, ℕ, List}
-use Rattle.zpl_claims.specs.Build.{Build}
+use Rattle.call_claims.specs.of_zpl_claims.Build.{Build}
 use Rattle.call_claims.specs.Call.{Call}
 use Rattle.call_claims.specs.Cause.{IsTooLong}
 use Rattle.call_claims.specs.Command.{build_of}

@@ -3,7 +3,7 @@ use Rattle.std.specs.Prelude.{◌≡◌, ◌≢◌, ℕ, List, [], Some}
 use Rattle.zpl_io.specs.Sink.{Takes, TakesFront}
 use Rattle.node_form.specs.declared.tables.Tables.{Tables}
 use Rattle.listing_rows.specs.Listing.{listing_of}
-use Rattle.zpl_claims.specs.Build.{Build}
+use Rattle.call_claims.specs.of_zpl_claims.Build.{Build}
 use Rattle.call_claims.specs.Call.{Call}
 use Rattle.call_claims.specs.Execution.{Execution}
 use Rattle.call_claims.specs.Source.{Source}

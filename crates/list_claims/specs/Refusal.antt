@@ -8,7 +8,7 @@ use Rattle.zpl_names.specs.Accepted.{HasTooManyNodes, HasTooManyStatements}
 use Rattle.zpl_binding.specs.Outcome.{BindFault}
 use Rattle.zpl_binding.specs.Bound.{HasBindFault}
 use Rattle.node_form.specs.Grid.{IsGrid}
-use Rattle.zpl_claims.specs.Build.{Build}
+use Rattle.call_claims.specs.of_zpl_claims.Build.{Build}
 use Rattle.zpl_compile.specs.Compilable.{IsCounted}
 use Rattle.call_claims.specs.Accepted.{IsAccepted, IsAcceptedUnder}
 use Rattle.call_claims.specs.Refusal.{IsFault}

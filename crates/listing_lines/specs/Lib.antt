@@ -7,3 +7,4 @@ pub mod Listing
 pub mod Name
 pub mod Place
 pub mod Reading
+pub use Rattle.node_form.specs as of_node_form

@@ -22,3 +22,4 @@ pub use laws::{bytes_have_one_reading, lines_are_told_apart};
 pub use lines::Line;
 pub use listings::{LinesFault, read_lines, write_lines};
 pub use names::Name;
+pub use node_form;

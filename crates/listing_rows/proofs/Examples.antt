@@ -7,12 +7,12 @@ use Rattle.zpl_nums.specs.declared.folds.Fold.TheVariants as fold
 use Rattle.zpl_nums.specs.declared.operators.Op.TheVariants as op
 use Rattle.zpl_region.specs.declared.dims.Dim.TheVariants as dim
 use Rattle.zpl_region.specs.Region.{padding}
-use Rattle.node_form.specs.declared.arrays.ArrayDim.TheVariants as axis
-use Rattle.node_form.specs.declared.instructions.DimRow.TheVariants.{Span, Star, Copied}
-use Rattle.node_form.specs.declared.instructions.Instr.TheVariants as instr
-use Rattle.node_form.specs.declared.members.Member.TheVariants as member
-use Rattle.node_form.specs.declared.tables.Tables.{Tables}
-use Rattle.node_form.specs.declared.words.ExprOp.TheVariants.{Const, Scalar, Shifted, Pair}
+use Rattle.listing_lines.specs.of_node_form.declared.arrays.ArrayDim.TheVariants as axis
+use Rattle.listing_lines.specs.of_node_form.declared.instructions.DimRow.TheVariants.{Span, Star, Copied}
+use Rattle.listing_lines.specs.of_node_form.declared.instructions.Instr.TheVariants as instr
+use Rattle.listing_lines.specs.of_node_form.declared.members.Member.TheVariants as member
+use Rattle.listing_lines.specs.of_node_form.declared.tables.Tables.{Tables}
+use Rattle.listing_lines.specs.of_node_form.declared.words.ExprOp.TheVariants.{Const, Scalar, Shifted, Pair}
 use Rattle.listing_lines.specs.Line.{line_text}
 use Rattle.listing_rows.specs.Listing.{lines_of, listing_of}
 use Rattle.listing_rows.specs.Rows.{array_line, expr_line, instr_line, member_line}

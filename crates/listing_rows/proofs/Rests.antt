@@ -3,7 +3,7 @@ use Rattle.std.proofs.Common.{◌≡◌, ℕ, zero, suc, ◌+◌, List, [], ◌�
 use Rattle.std.specs.Prelude.{Option, Some, None, slice_get}
 use Rattle.std.specs.List.{flat_map}
 use Rattle.std.proofs.lemmas.List.{append_assoc}
-use Rattle.node_form.specs.Grid.{factors_of}
+use Rattle.listing_lines.specs.of_node_form.Grid.{factors_of}
 use Rattle.listing_lines.specs.declared.fields.Field.{Field}
 use Rattle.listing_rows.specs.declared.fields.Said.{Said}
 use Rattle.listing_rows.specs.Fields.{added, field_of, fields_of}

@@ -6,12 +6,12 @@ use Rattle.zpl_nums.specs.declared.operators.Op.{Op}
 use Rattle.zpl_nums.specs.declared.operators.Op.TheVariants as op
 use Rattle.zpl_region.specs.declared.dims.Dim.{Dim}
 use Rattle.zpl_region.specs.declared.dims.Dim.TheVariants as dim
-use Rattle.node_form.specs.declared.arrays.ArrayDim.{ArrayDim}
-use Rattle.node_form.specs.declared.arrays.ArrayDim.TheVariants as axis
-use Rattle.node_form.specs.declared.instructions.DimRow.{DimRow}
-use Rattle.node_form.specs.declared.instructions.DimRow.TheVariants as made
-use Rattle.node_form.specs.declared.words.ExprOp.{ExprOp}
-use Rattle.node_form.specs.declared.words.ExprOp.TheVariants as word
+use Rattle.listing_lines.specs.of_node_form.declared.arrays.ArrayDim.{ArrayDim}
+use Rattle.listing_lines.specs.of_node_form.declared.arrays.ArrayDim.TheVariants as axis
+use Rattle.listing_lines.specs.of_node_form.declared.instructions.DimRow.{DimRow}
+use Rattle.listing_lines.specs.of_node_form.declared.instructions.DimRow.TheVariants as made
+use Rattle.listing_lines.specs.of_node_form.declared.words.ExprOp.{ExprOp}
+use Rattle.listing_lines.specs.of_node_form.declared.words.ExprOp.TheVariants as word
 use Rattle.listing_lines.specs.declared.fields.Field.{Field}
 use Rattle.listing_lines.specs.declared.fields.Field.TheVariants as field
 use Rattle.listing_lines.specs.declared.fields.Mark.TheVariants as mark

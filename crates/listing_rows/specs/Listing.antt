@@ -1,8 +1,8 @@
 -- The listing of a program.
 use Rattle.std.specs.Prelude.{ℕ, List, [], ◌∷◌, ◌++◌, map}
 use Rattle.std.specs.List.{flat_map}
-use Rattle.node_form.specs.declared.tables.Tables.{Tables}
-use Rattle.node_form.specs.Grid.{factors_of}
+use Rattle.listing_lines.specs.of_node_form.declared.tables.Tables.{Tables}
+use Rattle.listing_lines.specs.of_node_form.Grid.{factors_of}
 use Rattle.listing_lines.specs.declared.keywords.Keyword.TheVariants as key
 use Rattle.listing_lines.specs.declared.lines.Line.{Line}
 use Rattle.listing_lines.specs.Line.{lines_text}

@@ -5,20 +5,20 @@ use Rattle.zpl_nums.specs.declared.ends.Border.{Border}
 use Rattle.zpl_nums.specs.declared.ends.Border.TheVariants as border
 use Rattle.zpl_nums.specs.declared.ends.TrapKind.{TrapKind}
 use Rattle.zpl_nums.specs.declared.ends.TrapKind.TheVariants as trap
-use Rattle.node_form.specs.declared.arrays.ArrayRow.{ArrayRow}
-use Rattle.node_form.specs.declared.arrays.ArrayDim.{ArrayDim}
-use Rattle.node_form.specs.declared.arrays.Item.{Item}
-use Rattle.node_form.specs.declared.instructions.Instr.{Instr}
-use Rattle.node_form.specs.declared.instructions.Instr.TheVariants as instr
-use Rattle.node_form.specs.declared.instructions.RegionForm.{RegionForm}
-use Rattle.node_form.specs.declared.instructions.RegionForm.TheVariants as form
-use Rattle.node_form.specs.declared.instructions.SameKind.{SameKind}
-use Rattle.node_form.specs.declared.instructions.SameKind.TheVariants as same
-use Rattle.node_form.specs.declared.members.Member.{Member}
-use Rattle.node_form.specs.declared.members.Member.TheVariants as member
-use Rattle.node_form.specs.declared.tables.Tables.{Tables}
-use Rattle.node_form.specs.declared.words.ExprOp.{ExprOp}
-use Rattle.node_form.specs.declared.words.ExprOp.TheVariants as word
+use Rattle.listing_lines.specs.of_node_form.declared.arrays.ArrayRow.{ArrayRow}
+use Rattle.listing_lines.specs.of_node_form.declared.arrays.ArrayDim.{ArrayDim}
+use Rattle.listing_lines.specs.of_node_form.declared.arrays.Item.{Item}
+use Rattle.listing_lines.specs.of_node_form.declared.instructions.Instr.{Instr}
+use Rattle.listing_lines.specs.of_node_form.declared.instructions.Instr.TheVariants as instr
+use Rattle.listing_lines.specs.of_node_form.declared.instructions.RegionForm.{RegionForm}
+use Rattle.listing_lines.specs.of_node_form.declared.instructions.RegionForm.TheVariants as form
+use Rattle.listing_lines.specs.of_node_form.declared.instructions.SameKind.{SameKind}
+use Rattle.listing_lines.specs.of_node_form.declared.instructions.SameKind.TheVariants as same
+use Rattle.listing_lines.specs.of_node_form.declared.members.Member.{Member}
+use Rattle.listing_lines.specs.of_node_form.declared.members.Member.TheVariants as member
+use Rattle.listing_lines.specs.of_node_form.declared.tables.Tables.{Tables}
+use Rattle.listing_lines.specs.of_node_form.declared.words.ExprOp.{ExprOp}
+use Rattle.listing_lines.specs.of_node_form.declared.words.ExprOp.TheVariants as word
 use Rattle.listing_lines.specs.declared.fields.Field.TheVariants as field
 use Rattle.listing_lines.specs.declared.keywords.Keyword.{Keyword}
 use Rattle.listing_lines.specs.declared.keywords.Keyword.TheVariants as key

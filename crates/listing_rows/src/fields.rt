@@ -15,8 +15,8 @@ ghost use Rattle.listing_rows.specs.Fields.{
 };
 ghost use Rattle.listing_rows.specs.Rows.{line_of};
 
+use listing_lines::node_form::{ArrayDim, DimRow, ExprOp, Row};
 use listing_lines::{Field, Keyword, Line, Mark, Name};
-use node_form::{ArrayDim, DimRow, ExprOp, Row};
 use std::alloc::{AllocError, Global};
 use zpl_nums::{Fold, Op};
 use zpl_region::{Dim, Vec3};

@@ -15,8 +15,8 @@ ghost use Rattle.listing_rows.specs.Rows.{
 
 use crate::fields::{Said, fold_name, front, line_of, push_said};
 use crate::rows::slot_rank;
+use listing_lines::node_form::{DimRow, Instr, RegionForm, Row, SameKind, Tables};
 use listing_lines::{Field, Keyword, Line, Name};
-use node_form::{DimRow, Instr, RegionForm, Row, SameKind, Tables};
 use std::alloc::{AllocError, Global};
 use zpl_nums::{Border, TrapKind};
 use zpl_region::{Dim, Region};

@@ -10,5 +10,6 @@ mod rows;
 
 pub use fields::{Said, line_of};
 pub use instructions::instr_line;
+pub use listing_lines;
 pub use listings::{grid_line, slots_line, write_listing};
 pub use rows::{array_line, expr_line, item_line, member_line, text_line};

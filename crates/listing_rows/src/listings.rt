@@ -1,7 +1,7 @@
 //! Listings.
 ghost use Rattle.std.specs.Prelude.{◌≡◌, ◌++◌, [], ◌∷◌, IfOk, OnErr, OnOk, map};
 ghost use Rattle.std.specs.List.{flat_map};
-ghost use Rattle.node_form.specs.Grid.{factors_of};
+ghost use Rattle.listing_lines.specs.of_node_form.Grid.{factors_of};
 ghost use Rattle.listing_rows.specs.Fields.{fields_of};
 ghost use Rattle.listing_rows.specs.Listing.{body_lines, code_lines, head_lines, lines_of};
 ghost use Rattle.listing_rows.specs.Listing.{listing_of};
@@ -20,8 +20,8 @@ ghost use Rattle.listing_rows.specs.Rows.{
 use crate::fields::{Said, line_of, push_said};
 use crate::instructions::instr_line;
 use crate::rows::{array_line, expr_line, item_line, member_line, text_line};
+use listing_lines::node_form::{Grid3, Item, Member, NodeProgram, Row, Slots, Tables};
 use listing_lines::{Keyword, Line, write_lines};
-use node_form::{Grid3, Item, Member, NodeProgram, Row, Slots, Tables};
 use std::alloc::{AllocError, Global};
 
 /// Appends the program's listing. Where memory runs out nothing is appended.

@@ -15,8 +15,8 @@ ghost use Rattle.listing_rows.specs.Rows.{
 };
 
 use crate::fields::{Said, fold_name, front, line_of, push_said};
+use listing_lines::node_form::{ArrayDim, ArrayRow, ExprOp, Item, Member, Row, Tables};
 use listing_lines::{Field, Keyword, Line};
-use node_form::{ArrayDim, ArrayRow, ExprOp, Item, Member, Row, Tables};
 use std::alloc::{AllocError, Global};
 
 /// The rank of a slot, or 0 where there is no such slot.

@@ -1,8 +1,8 @@
 -- Blocks, and why there is none.
 use Rattle.std.proofs.Common.{◌≡◌, Bool, true, false, List, [], ◌∷◌, sym, subst, refl}
 use Rattle.std.specs.Prelude.{IsTrue, ◌↔◌}
-use Rattle.listing_lines.specs.declared.keywords.Keyword.{Keyword}
-use Rattle.listing_lines.specs.declared.lines.Line.{Line}
+use Rattle.listing_rows.specs.of_listing_lines.declared.keywords.Keyword.{Keyword}
+use Rattle.listing_rows.specs.of_listing_lines.declared.lines.Line.{Line}
 use Rattle.listing_rules.specs.Blocks.{NoBlock, Unheaded, Stopped, Unfinished}
 use Rattle.listing_rules.specs.Reads.{Reads, Stops}
 

@@ -8,3 +8,4 @@ pub mod RoomLemmas
 pub mod SameLemmas
 pub mod Sound
 pub mod TablesLemmas
+pub use Rattle.listing_rows.proofs.of_listing_lines as of_listing_lines

@@ -1,7 +1,7 @@
 -- Lines are those of one list of rows at most, and not both of rows and of none.
 use Rattle.std.proofs.Common.{◌≡◌, Bool, true, false, List, [], ◌∷◌, ◌++◌, sym, ◌∙◌, subst, refl}
-use Rattle.listing_lines.specs.declared.keywords.Keyword.{Keyword}
-use Rattle.listing_lines.specs.declared.lines.Line.{Line}
+use Rattle.listing_rows.specs.of_listing_lines.declared.keywords.Keyword.{Keyword}
+use Rattle.listing_rows.specs.of_listing_lines.declared.lines.Line.{Line}
 use Rattle.listing_rules.specs.Blocks.{Block, NoBlock, Unheaded, Stopped, Unfinished, Blocks, Ended, Another, BlocksStop, AtOnce, Further}
 use Rattle.listing_rules.specs.Reads.{begins, Reads, Over, More, Stops, Here, Later, First, NoFirst}
 

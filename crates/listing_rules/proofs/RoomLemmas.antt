@@ -10,7 +10,7 @@ use Rattle.grid_layout.specs.Layout.{IsArrayBox}
 use Rattle.grid_layout.specs.declared.boxes.ArrayBox.{ArrayBox}
 use Rattle.grid_layout.specs.Words.{box_words}
 use Rattle.node_form.specs.declared.tables.Tables.{Tables}
-use Rattle.listing_lines.specs.declared.lines.Line.{Line}
+use Rattle.listing_rows.specs.of_listing_lines.declared.lines.Line.{Line}
 use Rattle.listing_rules.proofs.FactsLemmas.{take_at}
 use Rattle.grid_meaning.specs.Stored.{box_of}
 use Rattle.grid_meaning.proofs.BoxLemmas.{box_is}

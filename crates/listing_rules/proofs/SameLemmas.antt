@@ -1,11 +1,11 @@
 -- Lines and fields by their parts.
 use Rattle.std.proofs.Common.{◌≡◌, Bool, true, List, sym, ◌∙◌, ap}
 use Rattle.std.specs.Prelude.{IsTrue, ◌↔◌, ℤ}
-use Rattle.listing_lines.specs.declared.fields.Field.{Field}
-use Rattle.listing_lines.specs.declared.fields.Field.TheVariants as field
-use Rattle.listing_lines.specs.declared.fields.Mark.{Mark}
-use Rattle.listing_lines.specs.declared.keywords.Keyword.{Keyword}
-use Rattle.listing_lines.specs.declared.lines.Line.{Line}
+use Rattle.listing_rows.specs.of_listing_lines.declared.fields.Field.{Field}
+use Rattle.listing_rows.specs.of_listing_lines.declared.fields.Field.TheVariants as field
+use Rattle.listing_rows.specs.of_listing_lines.declared.fields.Mark.{Mark}
+use Rattle.listing_rows.specs.of_listing_lines.declared.keywords.Keyword.{Keyword}
+use Rattle.listing_rows.specs.of_listing_lines.declared.lines.Line.{Line}
 
 numbers_eq : (m n : Mark) (a b : List ℤ) → m ≡ n → a ≡ b → field.Numbers m a ≡ field.Numbers n b
 numbers_eq m n a b e f = cc

@@ -14,9 +14,9 @@ use Rattle.node_form.specs.declared.words.ExprOp.{ExprOp}
 use Rattle.node_form.specs.Fits.{IsRank, FitsArray, FitsExpr, FitsGroup, FitsItem, FitsExchange, FitsInstr, Fits, Keeps, Grows}
 use Rattle.node_form.specs.Grid.{IsGrid}
 use Rattle.node_form.proofs.GrowthLemmas.{Keeps-same, FitsExpr-grows, FitsGroup-grows, FitsExchange-grows, FitsInstr-grows}
-use Rattle.listing_lines.specs.declared.keywords.Keyword.{Keyword}
-use Rattle.listing_lines.specs.declared.keywords.Keyword.TheVariants as key
-use Rattle.listing_lines.specs.declared.lines.Line.{Line}
+use Rattle.listing_rows.specs.of_listing_lines.declared.keywords.Keyword.{Keyword}
+use Rattle.listing_rows.specs.of_listing_lines.declared.keywords.Keyword.TheVariants as key
+use Rattle.listing_rows.specs.of_listing_lines.declared.lines.Line.{Line}
 use Rattle.listing_rows.specs.Listing.{head_lines, code_lines, lines_of}
 use Rattle.listing_rows.specs.Rows.{line_of, array_line, text_line, expr_line, member_line, group_lines, item_line, exchange_lines, instr_line}
 use Rattle.listing_rules.specs.Blocks.{Block, Blocks, Ended, Another}

@@ -8,7 +8,7 @@ use Rattle.node_form.specs.declared.members.Member.{Member}
 use Rattle.node_form.specs.declared.tables.Tables.{Tables}
 use Rattle.node_form.specs.Fits.{IsRank, FitsArray}
 use Rattle.node_form.specs.Grid.{IsGrid}
-use Rattle.listing_lines.specs.declared.lines.Line.{Line}
+use Rattle.listing_rows.specs.of_listing_lines.declared.lines.Line.{Line}
 use Rattle.listing_rules.specs.declared.facts.Known.{Known}
 use Rattle.listing_rules.specs.declared.facts.Ranks.{Ranks}
 use Rattle.listing_rules.specs.declared.parts.Part.TheVariants as part

@@ -1,7 +1,7 @@
 -- Blocks of lines: a heading, and the lines below it.
 use Rattle.std.specs.Prelude.{◌≡◌, Bool, true, false, List, [], ◌∷◌}
-use Rattle.listing_lines.specs.declared.keywords.Keyword.{Keyword}
-use Rattle.listing_lines.specs.declared.lines.Line.{Line}
+use Rattle.listing_rows.specs.of_listing_lines.declared.keywords.Keyword.{Keyword}
+use Rattle.listing_rows.specs.of_listing_lines.declared.lines.Line.{Line}
 use Rattle.listing_rules.specs.Reads.{begins, Reads, Stops}
 
 -- a line without fields, and behind it the lines of rows

@@ -7,7 +7,7 @@ use Rattle.node_form.specs.declared.tables.Tables.{Tables}
 use Rattle.node_form.specs.declared.words.ExprOp.{ExprOp}
 use Rattle.node_form.specs.Fits.{IsRank, IsScalarWord, FitsMember, FitsWord}
 use Rattle.node_form.specs.Nest.{opened}
-use Rattle.listing_lines.specs.declared.lines.Line.{Line}
+use Rattle.listing_rows.specs.of_listing_lines.declared.lines.Line.{Line}
 use Rattle.listing_rules.specs.Rules.{IsMemberLine}
 use Rattle.listing_rules.specs.declared.facts.ExprFacts.{ExprFacts}
 use Rattle.listing_rules.specs.declared.facts.Known.{Known}

@@ -25,14 +25,14 @@ use Rattle.node_form.specs.declared.members.Member.{Member}
 use Rattle.node_form.specs.declared.members.Member.TheVariants as member
 use Rattle.node_form.specs.declared.words.ExprOp.{ExprOp}
 use Rattle.node_form.specs.declared.words.ExprOp.TheVariants as word
-use Rattle.listing_lines.specs.declared.fields.Field.{Field}
-use Rattle.listing_lines.specs.declared.fields.Field.TheVariants as field
-use Rattle.listing_lines.specs.declared.fields.Mark.{Mark}
-use Rattle.listing_lines.specs.declared.fields.Mark.TheVariants as mark
-use Rattle.listing_lines.specs.declared.keywords.Keyword.{Keyword}
-use Rattle.listing_lines.specs.declared.keywords.Keyword.TheVariants as key
-use Rattle.listing_lines.specs.declared.names.Name.{Name}
-use Rattle.listing_lines.specs.declared.names.Name.TheVariants as name
+use Rattle.listing_rows.specs.of_listing_lines.declared.fields.Field.{Field}
+use Rattle.listing_rows.specs.of_listing_lines.declared.fields.Field.TheVariants as field
+use Rattle.listing_rows.specs.of_listing_lines.declared.fields.Mark.{Mark}
+use Rattle.listing_rows.specs.of_listing_lines.declared.fields.Mark.TheVariants as mark
+use Rattle.listing_rows.specs.of_listing_lines.declared.keywords.Keyword.{Keyword}
+use Rattle.listing_rows.specs.of_listing_lines.declared.keywords.Keyword.TheVariants as key
+use Rattle.listing_rows.specs.of_listing_lines.declared.names.Name.{Name}
+use Rattle.listing_rows.specs.of_listing_lines.declared.names.Name.TheVariants as name
 
 -- ---- numbers
 -- the number, or 0 where it isn't one of 32 bits

@@ -7,7 +7,7 @@ use Rattle.grid_layout.specs.declared.boxes.ArrayBox.{ArrayBox}
 use Rattle.grid_layout.specs.Layout.{blocks_of}
 use Rattle.grid_layout.specs.Words.{box_words}
 use Rattle.grid_meaning.specs.Stored.{box_of}
-use Rattle.listing_lines.specs.declared.lines.Line.{Line}
+use Rattle.listing_rows.specs.of_listing_lines.declared.lines.Line.{Line}
 
 -- the box of an array, if it is a stored one
 abbrev pub stored_box : Bool → ArrayRow → List ArrayBox

@@ -12,9 +12,9 @@ use Rattle.node_form.specs.declared.words.ExprOp.{ExprOp}
 use Rattle.node_form.specs.Fits.{IsRank, FitsArray, FitsExpr, FitsMember, FitsItem, FitsInstr}
 use Rattle.node_form.specs.Grid.{IsGrid, factors_of}
 use Rattle.node_form.specs.Nest.{opened}
-use Rattle.listing_lines.specs.declared.keywords.Keyword.{Keyword}
-use Rattle.listing_lines.specs.declared.keywords.Keyword.TheVariants as key
-use Rattle.listing_lines.specs.declared.lines.Line.{Line}
+use Rattle.listing_rows.specs.of_listing_lines.declared.keywords.Keyword.{Keyword}
+use Rattle.listing_rows.specs.of_listing_lines.declared.keywords.Keyword.TheVariants as key
+use Rattle.listing_rows.specs.of_listing_lines.declared.lines.Line.{Line}
 use Rattle.listing_rows.specs.declared.fields.Said.TheVariants.{Number}
 use Rattle.listing_rows.specs.Rows.{line_of, array_line, text_line, expr_line, member_line, item_line, instr_line}
 use Rattle.listing_rules.specs.declared.parts.Part.{Part}

@@ -7,8 +7,8 @@ use Rattle.node_form.specs.declared.members.Member.{Member}
 use Rattle.node_form.specs.declared.tables.Tables.{Tables}
 use Rattle.node_form.specs.declared.words.ExprOp.{ExprOp}
 use Rattle.node_form.specs.Fits.{FitsGroup}
-use Rattle.listing_lines.specs.declared.keywords.Keyword.TheVariants as key
-use Rattle.listing_lines.specs.declared.lines.Line.{Line}
+use Rattle.listing_rows.specs.of_listing_lines.declared.keywords.Keyword.TheVariants as key
+use Rattle.listing_rows.specs.of_listing_lines.declared.lines.Line.{Line}
 use Rattle.listing_rows.specs.Rows.{line_of}
 use Rattle.listing_rules.specs.declared.parts.Part.TheVariants as part
 use Rattle.listing_rules.specs.Blocks.{Blocks, BlocksStop}

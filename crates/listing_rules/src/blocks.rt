@@ -14,7 +14,7 @@ use crate::groups::Group;
 use crate::lines::is_heading;
 use crate::parts::{Part, next_of};
 use crate::reads::{read_items, read_members};
-use listing_lines::{Keyword, Line};
+use listing_rows::listing_lines::{Keyword, Line};
 use node_form::{Exchanges, Groups, Item, Row, Rows};
 use std::alloc::Global;
 

@@ -39,7 +39,7 @@ ghost use Rattle.listing_rules.specs.Found.{
   words_in,
 };
 
-use listing_lines::{Field, Keyword, Mark, Name};
+use listing_rows::listing_lines::{Field, Keyword, Mark, Name};
 use node_form::{
     ArrayDim, ArrayRow, DimRow, ExprOp, Grid3, Instr, Item, Member, RegionForm, SameKind,
 };

@@ -11,7 +11,7 @@ ghost use Rattle.listing_rules.specs.Rules.{IsMemberLine};
 use crate::facts::{Known, Ranks};
 use crate::found::member_in;
 use crate::same::same_line;
-use listing_lines::Line;
+use listing_rows::listing_lines::Line;
 use listing_rows::member_line;
 use node_form::Member;
 use std::alloc::{AllocError, Global};

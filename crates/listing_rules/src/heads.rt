@@ -13,7 +13,7 @@ ghost use Rattle.listing_rules.specs.Stages.{Breaks, ReadHead};
 use crate::faults::{ListFault, bad_table};
 use crate::lines::{is_code, is_version, read_count, read_grid, read_slots};
 use crate::parts::line_at;
-use listing_lines::{Keyword, Line};
+use listing_rows::listing_lines::{Keyword, Line};
 use node_form::{Grid3, Slots, Tables};
 use std::alloc::Global;
 

@@ -4,7 +4,7 @@
 ghost use Rattle.std.specs.Prelude.{◌≡◌, List};
 ghost use Rattle.node_form.specs.declared.tables.Tables.{Tables};
 ghost use Rattle.node_form.specs.Fits.{Fits};
-ghost use Rattle.listing_lines.specs.declared.lines.Line.{Line};
+ghost use Rattle.listing_rows.specs.of_listing_lines.declared.lines.Line.{Line};
 ghost use Rattle.listing_rows.specs.Listing.{lines_of};
 ghost use Rattle.listing_rules.specs.Room.{HasRoom};
 ghost use Rattle.listing_rules.specs.Stages.{AreTables, Breaks};

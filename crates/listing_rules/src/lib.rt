@@ -19,4 +19,6 @@ mod tables;
 
 pub use faults::ListFault;
 pub use laws::{lines_have_one_reading, told_tables_fit};
+pub use listing_rows;
+pub use listing_rows::listing_lines;
 pub use tables::read_tables;

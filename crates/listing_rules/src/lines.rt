@@ -23,7 +23,7 @@ ghost use Rattle.listing_rules.specs.Rules.{
 use crate::facts::Known;
 use crate::found::{array_in, bytes_in, grid_in, instr_in, item_in, number_at, ranks_in, words_in};
 use crate::same::same_line;
-use listing_lines::{Keyword, Line};
+use listing_rows::listing_lines::{Keyword, Line};
 use listing_rows::{
     Said, array_line, expr_line, grid_line, instr_line, item_line, line_of, slots_line, text_line,
 };

@@ -3,7 +3,7 @@ ghost use Rattle.std.specs.Prelude.{◌≡◌, ◌+◌, ◌<◌, [], ◌∷◌, 
 ghost use Rattle.listing_rules.specs.Reads.{begins};
 ghost use Rattle.listing_rules.specs.Rules.{belongs};
 
-use listing_lines::{Keyword, Line};
+use listing_rows::listing_lines::{Keyword, Line};
 
 /// A part of a listing, or of a group or an exchange.
 #[derive(Clone, Copy, Debug)]

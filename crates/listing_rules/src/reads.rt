@@ -18,7 +18,7 @@ use crate::faults::{ListFault, bad_table};
 use crate::groups::Group;
 use crate::lines::{read_array, read_expr, read_instr, read_item, read_text};
 use crate::parts::{Part, next_of};
-use listing_lines::Line;
+use listing_rows::listing_lines::Line;
 use node_form::{Arrays, Code, Exprs, Item, Rows, Texts};
 use std::alloc::{AllocError, Global};
 

@@ -18,7 +18,7 @@ ghost use Rattle.listing_rules.specs.Room.{
 
 use crate::faults::{ListFault, bad_table};
 use grid_layout::{ArrayBox, Blocks, Grid};
-use listing_lines::Line;
+use listing_rows::listing_lines::Line;
 use node_form::{ArrayDim, ArrayRow, Grid3, Rows, Tables, storage_dim};
 use std::alloc::{AllocError, Global};
 use zpl_region::Region;

@@ -1,7 +1,7 @@
 //! Whether two lines are the same.
 ghost use Rattle.std.specs.Prelude.{◌≡◌, ◌↔◌, IsTrue};
 
-use listing_lines::{Field, Keyword, Line, Mark};
+use listing_rows::listing_lines::{Field, Keyword, Line, Mark};
 use node_form::Row;
 
 fn same_mark(one: Mark, other: Mark) -> bool

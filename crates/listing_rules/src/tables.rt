@@ -18,7 +18,7 @@ use crate::faults::ListFault;
 use crate::heads::{read_head, take_code};
 use crate::reads::{read_arrays, read_exprs, read_instrs, read_texts};
 use crate::rooms::check_room;
-use listing_lines::Line;
+use listing_rows::listing_lines::Line;
 use node_form::{Rows, Tables};
 use std::alloc::{AllocError, Global};
 

@@ -8,8 +8,8 @@ use Rattle.grid_layout.specs.Layout.{blocks_of}
 use Rattle.grid_layout.specs.Words.{box_words}
 use Rattle.grid_meaning.specs.Stored.{box_of, stored}
 use Rattle.code_layout.specs.Room.{HasRoom}
-use Rattle.listing_rules.specs.Room.{boxes_of, stored_box}
-use Rattle.listing_rules.specs.Room as listing
+use Rattle.node_text.specs.of_listing_rules.Room.{boxes_of, stored_box}
+use Rattle.node_text.specs.of_listing_rules.Room as listing
 
 -- ---- the boxes of stored arrays
 one_more : (row : ArrayRow) (rows : List ArrayRow) (stays : Bool) → boxes_of rows ≡ map box_of (stored rows)

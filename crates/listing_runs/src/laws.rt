@@ -5,7 +5,7 @@ ghost use Rattle.code_layout.specs.Room.{HasRoom};
 ghost use Rattle.grid_meaning.specs.Local.{processors};
 ghost use Rattle.grid_meaning.specs.Order.{IsOrder};
 ghost use Rattle.grid_order.specs.Reading.{reading};
-ghost use Rattle.listing_rules.specs.Room.{HasRoom as HasListedRoom};
+ghost use Rattle.node_text.specs.of_listing_rules.Room.{HasRoom as HasListedRoom};
 ghost use Rattle.node_text.specs.Listing.{IsListing};
 
 use grid_order::orders_have_their_bounds;

@@ -17,10 +17,10 @@ use Rattle.flat_form.specs.Act.{flat_run}
 use Rattle.zpl_claims.specs.LockStep.{HasLockSteps, IsLockStep}
 use Rattle.every_order.specs.InFew.{EndsInFew, EndsWithin, move_bound}
 use Rattle.lowering_runs.specs.Shown.{Few, IsBound, Many, Shattered, shown}
-use Rattle.plan_meaning.specs.Abreast.{start_abreast}
-use Rattle.plan_meaning.specs.Act.{plan_act, plan_rows, plan_run}
-use Rattle.plan_orders.specs.Brings.{most_loops}
-use Rattle.plan_orders.specs.InStep.{IsInStep, least_moves, run_most, some_turns, stops_within}
+use Rattle.emitted_orders.specs.of_plan_meaning.Abreast.{start_abreast}
+use Rattle.emitted_orders.specs.of_plan_meaning.Act.{plan_act, plan_rows, plan_run}
+use Rattle.emitted_orders.specs.of_plan_orders.Brings.{most_loops}
+use Rattle.emitted_orders.specs.of_plan_orders.InStep.{IsInStep, least_moves, run_most, some_turns, stops_within}
 use Rattle.lock_steps.specs.Meant.{ComesInOrder, IsMeant, IsPlanOf, meanings, steps_in}
 
 -- ---- what is kept of what isn't wrong is the same

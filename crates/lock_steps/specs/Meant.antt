@@ -14,7 +14,7 @@ use Rattle.row_runs.specs.Run.{Wrong}
 use Rattle.row_runs.specs.Segments.{Keeps}
 use Rattle.flat_form.specs.Act.{flat_run}
 use Rattle.lowering_runs.specs.Shown.{Shows}
-use Rattle.plan_meaning.specs.Act.{plan_run}
+use Rattle.emitted_orders.specs.of_plan_meaning.Act.{plan_run}
 use Rattle.emitted_orders.specs.AsPlanned.{ComesAsPlanned}
 
 -- ---- outcomes

@@ -8,7 +8,7 @@ ghost use Rattle.grid_meaning.specs.State.{HasThree};
 ghost use Rattle.zpl_claims.specs.Bound.{EndsInBound};
 ghost use Rattle.zpl_claims.specs.Good.{IsGood};
 ghost use Rattle.zpl_claims.specs.LockStep.{HasLockSteps};
-ghost use Rattle.plan_orders.specs.Brings.{most_loops};
+ghost use Rattle.emitted_orders.specs.of_plan_orders.Brings.{most_loops};
 ghost use Rattle.node_emit.specs.Emit.{emitted};
 ghost use Rattle.lock_steps.specs.Meant.{ComesInOrder, IsMeant, IsPlanOf, meanings, steps_in};
 

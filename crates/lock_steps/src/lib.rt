@@ -6,4 +6,5 @@
 
 mod laws;
 
+pub use emitted_orders;
 pub use laws::{emitted_code_comes_in_order, emitted_code_comes_in_step, flat_runs_come_in_step};

@@ -25,7 +25,7 @@ use Rattle.flat_form.specs.Right.{is_among, is_settled, matches}
 use Rattle.flat_form.specs.Row.{member_inlined}
 use Rattle.flat_form.specs.States.{IsWhole}
 use Rattle.flat_form.specs.Whole.{Whole}
-use Rattle.plan_meaning.specs.Abreast.{Abreast, Share, locals_of}
+use Rattle.needs_runs.specs.of_plan_meaning.Abreast.{Abreast, Share, locals_of}
 use Rattle.needs_runs.specs.Holds.{HasFloodsOf, Holds, HoldsOwn}
 use Rattle.needs_runs.proofs.HoldsLemmas.{joined_same, some_processors}
 use Rattle.needs_runs.proofs.OwnerLemmas.{processors_are}

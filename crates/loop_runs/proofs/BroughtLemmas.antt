@@ -26,7 +26,7 @@ use Rattle.flat_form.specs.Row.{Loop, Member, group_coded, inlined, member_inlin
 use Rattle.flat_form.specs.Whole.{Whole}
 use Rattle.nest_meaning.specs.Tree.{nest_of}
 use Rattle.comm_needs.specs.Needs.{needs_of}
-use Rattle.plan_meaning.specs.Abreast.{Abreast}
+use Rattle.needs_runs.specs.of_plan_meaning.Abreast.{Abreast}
 use Rattle.needs_runs.specs.Agree.{HasLayout}
 use Rattle.needs_runs.specs.Holds.{Holds, lies_in_own}
 use Rattle.needs_runs.specs.Sharable.{IsSharable}

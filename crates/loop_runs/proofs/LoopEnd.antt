@@ -25,8 +25,8 @@ use Rattle.grid_meaning.specs.Local.{processors}
 use Rattle.grid_meaning.specs.Place.{own_part, value_at}
 use Rattle.flat_form.specs.Loop.{Column, Log, Point, log_ways, logged}
 use Rattle.flat_form.specs.Whole.{Whole}
-use Rattle.plan_meaning.specs.Abreast.{Abreast}
-use Rattle.plan_meaning.specs.Loops.{point_of}
+use Rattle.needs_runs.specs.of_plan_meaning.Abreast.{Abreast}
+use Rattle.needs_runs.specs.of_plan_meaning.Loops.{point_of}
 use Rattle.normal_runs.proofs.PlaceLemmas.{members_apart}
 use Rattle.normal_runs.proofs.PlaceLemmas.{Apart as AreApart}
 use Rattle.needs_runs.specs.Holds.{HasPart, lies_in_own}

@@ -47,7 +47,7 @@ use Rattle.flat_form.proofs.WordLemmas.{every_flat}
 use Rattle.plan_form.specs.Units.{Other, PlanRow, Single, unit_rows, with_item}
 use Rattle.comm_needs.specs.Needs.{is_voted_on, loop_with_needs, needed_alone, needed_by, needs_of}
 use Rattle.comm_needs.specs.Needs.{vote_if}
-use Rattle.plan_meaning.specs.Abreast.{Abreast}
+use Rattle.needs_runs.specs.of_plan_meaning.Abreast.{Abreast}
 use Rattle.needs_runs.specs.Agree.{HasLayout}
 use Rattle.needs_runs.specs.Holds.{Holds}
 use Rattle.needs_runs.specs.Planned.{LoopAgrees, planned_does}

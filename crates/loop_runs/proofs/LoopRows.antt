@@ -28,12 +28,12 @@ use Rattle.flat_form.specs.States.{IsWhole}
 use Rattle.flat_form.specs.Whole.{Whole}
 use Rattle.plan_form.specs.Units.{PlanRow, unit_rows}
 use Rattle.comm_needs.specs.Needs.{is_voted_on, vote_if}
-use Rattle.plan_meaning.specs.Abreast.{Abreast, Share, every, is_quiet, locals_of, standing}
-use Rattle.plan_meaning.specs.Abreast.{are_none, go_where, of_processors}
-use Rattle.plan_meaning.proofs.ThereLemmas.{there_is}
-use Rattle.plan_meaning.specs.Act.{ends_where, found, is_vote_of, loop_does, voted, voted_as}
-use Rattle.plan_meaning.specs.Loops.{Shared, Through, all_shared, lacks}
-use Rattle.plan_meaning.specs.Loops.{looped, share_behind, shared, tree_looped, wants}
+use Rattle.needs_runs.specs.of_plan_meaning.Abreast.{Abreast, Share, every, is_quiet, locals_of, standing}
+use Rattle.needs_runs.specs.of_plan_meaning.Abreast.{are_none, go_where, of_processors}
+use Rattle.needs_runs.proofs.of_plan_meaning.ThereLemmas.{there_is}
+use Rattle.needs_runs.specs.of_plan_meaning.Act.{ends_where, found, is_vote_of, loop_does, voted, voted_as}
+use Rattle.needs_runs.specs.of_plan_meaning.Loops.{Shared, Through, all_shared, lacks}
+use Rattle.needs_runs.specs.of_plan_meaning.Loops.{looped, share_behind, shared, tree_looped, wants}
 use Rattle.needs_runs.specs.Holds.{Holds}
 use Rattle.needs_runs.specs.Planned.{planned_does, vote_behind, vote_where}
 use Rattle.needs_runs.proofs.HoldsLemmas.{every_all, same_number, some_processors}

@@ -36,8 +36,8 @@ use Rattle.flat_form.specs.Right.{are_settled, is_unmoved, is_value}
 use Rattle.flat_form.specs.Row.{Loop, Member, member_inlined}
 use Rattle.flat_form.specs.Static.{keeps_from}
 use Rattle.flat_form.specs.Whole.{Whole}
-use Rattle.plan_meaning.specs.Abreast.{Abreast}
-use Rattle.plan_meaning.specs.Loops.{Shared, part_shared, point_of, shared, tuples_shared}
+use Rattle.needs_runs.specs.of_plan_meaning.Abreast.{Abreast}
+use Rattle.needs_runs.specs.of_plan_meaning.Loops.{Shared, part_shared, point_of, shared, tuples_shared}
 use Rattle.normal_runs.proofs.PlaceLemmas.{members_apart, moved_none}
 use Rattle.needs_runs.specs.Agree.{HasLayout}
 use Rattle.needs_runs.specs.Holds.{Holds}

@@ -26,7 +26,7 @@ use Rattle.grid_meaning.specs.State.{IsSlot, IsStore}
 use Rattle.grid_meaning.specs.Stored.{arrangement_of}
 use Rattle.flat_form.specs.Right.{each_covers, each_matches}
 use Rattle.flat_form.specs.Whole.{Whole}
-use Rattle.plan_meaning.specs.Abreast.{Abreast}
+use Rattle.needs_runs.specs.of_plan_meaning.Abreast.{Abreast}
 use Rattle.needs_runs.specs.Agree.{HasLayout}
 use Rattle.needs_runs.specs.Holds.{Holds, lies_in_own}
 use Rattle.needs_runs.proofs.BringLemmas.{value_held}

@@ -28,7 +28,7 @@ use Rattle.flat_form.specs.Right.{are_settled, can_read, can_write, each_covers,
 use Rattle.flat_form.specs.Right.{matches, may_read, reads_well, writes_well}
 use Rattle.flat_form.specs.Row.{Loop}
 use Rattle.flat_form.specs.Whole.{Whole}
-use Rattle.plan_meaning.specs.Abreast.{Abreast, Share}
+use Rattle.needs_runs.specs.of_plan_meaning.Abreast.{Abreast, Share}
 use Rattle.normal_runs.proofs.PlaceLemmas.{moved_none}
 use Rattle.needs_runs.specs.Agree.{HasLayout}
 use Rattle.needs_runs.specs.Holds.{Holds}

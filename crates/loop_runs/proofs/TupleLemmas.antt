@@ -20,8 +20,8 @@ use Rattle.nest_meaning.specs.Nested.{Told, Fine, Zero, Wants, Lost, nested, way
 use Rattle.flat_form.specs.Loop.{Column, Point, all_written, log_ways, log_written}
 use Rattle.flat_form.specs.Right.{is_unmoved}
 use Rattle.flat_form.specs.Whole.{Whole}
-use Rattle.plan_meaning.specs.Loops.{LacksPlace, Shared, Through, WantsTurn, least_of, tuple_next}
-use Rattle.plan_meaning.specs.Loops.{tuples_shared, unit_next, units_shared}
+use Rattle.needs_runs.specs.of_plan_meaning.Loops.{LacksPlace, Shared, Through, WantsTurn, least_of, tuple_next}
+use Rattle.needs_runs.specs.of_plan_meaning.Loops.{tuples_shared, unit_next, units_shared}
 use Rattle.loop_runs.proofs.ColumnLemmas.{AnyOf, Gone, Keeps, Own, Waits, own_next, own_run}
 use Rattle.loop_runs.proofs.NestLemmas.{NestOf}
 use Rattle.loop_runs.proofs.ShareLemmas.{AreUnitsOf, BothGone, BothKeep, BothWait, ExprGood, GoodFlag}

@@ -14,7 +14,7 @@ use Rattle.row_runs.specs.Straight.{Every}
 use Rattle.grid_meaning.specs.Collective.{flag_word, least_flag, word_flag}
 use Rattle.grid_meaning.specs.Local.{Local}
 use Rattle.row_orders.specs.Agreement.{joined_over}
-use Rattle.plan_meaning.specs.Loops.{least_of}
+use Rattle.needs_runs.specs.of_plan_meaning.Loops.{least_of}
 use Rattle.loop_runs.proofs.ColumnLemmas.{AnyOf, FlagFrom}
 
 -- ---- two flags

@@ -20,7 +20,7 @@ use Rattle.flat_form.specs.Row.{inlined}
 use Rattle.flat_form.specs.Whole.{Whole}
 use Rattle.plan_form.specs.Units.{unit_rows}
 use Rattle.comm_needs.specs.Needs.{needed_alone, needs_of}
-use Rattle.plan_meaning.specs.Abreast.{Abreast}
+use Rattle.needs_runs.specs.of_plan_meaning.Abreast.{Abreast}
 use Rattle.needs_runs.specs.Holds.{Holds, lies_in_own}
 use Rattle.needs_runs.specs.Planned.{planned_does}
 

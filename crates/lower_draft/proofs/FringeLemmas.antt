@@ -4,7 +4,7 @@ use Rattle.std.proofs.Common.{refl, sym, ap, ◌∙◌, arith}
 use Rattle.std.specs.Int.{int_max}
 use Rattle.zpl_region.specs.declared.dims.Dim.{Dim}
 use Rattle.zpl_region.specs.declared.dims.Dim.TheVariants as dim
-use Rattle.node_form.specs.declared.arrays.ArrayDim.{ArrayDim}
+use Rattle.zpl_lowering.specs.of_node_form.declared.arrays.ArrayDim.{ArrayDim}
 use Rattle.zpl_lowering.specs.Tables.{Fringe, all_wider, no_fringe, no_range, stored_dim}
 use Rattle.zpl_lowering.specs.Tables.{stored_dims, wider}
 use Rattle.lower_draft.proofs.PushLemmas.{three_of}

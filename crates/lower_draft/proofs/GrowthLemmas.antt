@@ -2,13 +2,13 @@
 use Rattle.std.proofs.Common.{◌≡◌, ℕ, ◌+◌, Bool, List, [], ◌∷◌, ◌++◌, length, take, drop, refl, sym}
 use Rattle.std.proofs.Common.{ap, ◌∙◌, arith, append_assoc, append-nil, length-append}
 use Rattle.zpl_region.specs.declared.regions.Region.{Region}
-use Rattle.node_form.specs.declared.instructions.Instr.TheVariants as instr
-use Rattle.node_form.specs.declared.arrays.ArrayRow.{ArrayRow}
-use Rattle.node_form.specs.declared.tables.Tables.{Tables}
-use Rattle.row_runs.specs.Structured as piece
-use Rattle.row_runs.specs.Structured.{Piece}
-use Rattle.flat_form.specs.Row as row
-use Rattle.flat_form.specs.Row.{Row, with_row, with_rows}
+use Rattle.zpl_lowering.specs.of_node_form.declared.instructions.Instr.TheVariants as instr
+use Rattle.zpl_lowering.specs.of_node_form.declared.arrays.ArrayRow.{ArrayRow}
+use Rattle.zpl_lowering.specs.of_node_form.declared.tables.Tables.{Tables}
+use Rattle.zpl_lowering.specs.of_row_runs.Structured as piece
+use Rattle.zpl_lowering.specs.of_row_runs.Structured.{Piece}
+use Rattle.zpl_lowering.specs.of_flat_form.Row as row
+use Rattle.zpl_lowering.specs.of_flat_form.Row.{Row, with_row, with_rows}
 use Rattle.zpl_lowering.specs.Check.{Check}
 use Rattle.zpl_lowering.specs.Where.{Next}
 use Rattle.zpl_lowering.specs.Hoist.{Shifted}

@@ -1,15 +1,15 @@
 -- Code that is laid out behind the rows of tables, part by part.
 use Rattle.std.proofs.Common.{◌≡◌, ℕ, suc, ◌+◌, List, [], ◌∷◌, ◌++◌, length, map, refl, sym, ap}
 use Rattle.std.proofs.Common.{◌∙◌, arith, append_assoc, length-append}
-use Rattle.node_form.specs.declared.instructions.Instr.TheVariants as instr
-use Rattle.node_form.specs.declared.tables.Tables.{Tables}
-use Rattle.row_runs.specs.Code.{CodeRow, Straight, Jump, Unless}
-use Rattle.row_runs.specs.Structured.{Piece, Rows, Then, When, Choose, While, Repeat, size}
-use Rattle.row_runs.specs.Structured.{flattened}
-use Rattle.row_runs.proofs.PlaceLemmas.{flat_length}
-use Rattle.flat_form.specs.Row as row
-use Rattle.flat_form.specs.Row.{Row, coded, patched, with_row, with_rows}
-use Rattle.flat_form.proofs.ReadLemmas.{patch}
+use Rattle.zpl_lowering.specs.of_node_form.declared.instructions.Instr.TheVariants as instr
+use Rattle.zpl_lowering.specs.of_node_form.declared.tables.Tables.{Tables}
+use Rattle.zpl_lowering.specs.of_row_runs.Code.{CodeRow, Straight, Jump, Unless}
+use Rattle.zpl_lowering.specs.of_row_runs.Structured.{Piece, Rows, Then, When, Choose, While, Repeat, size}
+use Rattle.zpl_lowering.specs.of_row_runs.Structured.{flattened}
+use Rattle.zpl_lowering.proofs.of_row_runs.PlaceLemmas.{flat_length}
+use Rattle.zpl_lowering.specs.of_flat_form.Row as row
+use Rattle.zpl_lowering.specs.of_flat_form.Row.{Row, coded, patched, with_row, with_rows}
+use Rattle.zpl_lowering.proofs.of_flat_form.ReadLemmas.{patch}
 use Rattle.zpl_lowering.specs.Check.{Check, flat_row}
 use Rattle.lower_draft.specs.Drafted.{rows_from}
 

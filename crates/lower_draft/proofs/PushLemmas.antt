@@ -2,14 +2,14 @@
 use Rattle.std.proofs.Common.{◌≡◌, ℕ, suc, ◌+◌, List, [], ◌∷◌, ◌++◌, length, map, get_or, refl, sym}
 use Rattle.std.proofs.Common.{ap, ◌∙◌, arith, append_assoc, append-nil, length-append}
 use Rattle.std.specs.Prelude.{flat_map}
-use Rattle.node_form.specs.declared.members.Member as number
-use Rattle.node_form.specs.declared.instructions.DimRow.{DimRow}
-use Rattle.node_form.specs.declared.instructions.Instr.{Instr}
-use Rattle.node_form.specs.declared.instructions.Instr.TheVariants as instr
-use Rattle.flat_form.specs.Row as row
-use Rattle.flat_form.specs.Row.{Row, Words, Member, all_coded, coded, group_coded, member_coded}
-use Rattle.flat_form.specs.Row.{member_words, part_coded, part_words, row_groups, row_texts}
-use Rattle.flat_form.specs.Row.{row_words}
+use Rattle.zpl_lowering.specs.of_node_form.declared.members.Member as number
+use Rattle.zpl_lowering.specs.of_node_form.declared.instructions.DimRow.{DimRow}
+use Rattle.zpl_lowering.specs.of_node_form.declared.instructions.Instr.{Instr}
+use Rattle.zpl_lowering.specs.of_node_form.declared.instructions.Instr.TheVariants as instr
+use Rattle.zpl_lowering.specs.of_flat_form.Row as row
+use Rattle.zpl_lowering.specs.of_flat_form.Row.{Row, Words, Member, all_coded, coded, group_coded, member_coded}
+use Rattle.zpl_lowering.specs.of_flat_form.Row.{member_words, part_coded, part_words, row_groups, row_texts}
+use Rattle.zpl_lowering.specs.of_flat_form.Row.{row_words}
 use Rattle.lower_draft.specs.declared.rows.FlatPart.{FlatPart}
 use Rattle.lower_draft.specs.Inline.{part_of}
 use Rattle.lower_draft.proofs.LaidLemmas.{map_length}

@@ -5,7 +5,7 @@ use Rattle.std.proofs.Common.{replicate}
 use Rattle.std.specs.Prelude.{slice_index_or}
 use Rattle.std.proofs.lemmas.Bool.Decides.{nat_tests}
 use Rattle.zpl_region.specs.declared.regions.Region.{Region}
-use Rattle.node_form.specs.declared.arrays.ArrayRow.{ArrayRow}
+use Rattle.zpl_lowering.specs.of_node_form.declared.arrays.ArrayRow.{ArrayRow}
 use Rattle.zpl_lowering.specs.Hoist.{Shifted}
 use Rattle.zpl_lowering.specs.Tables.{Fringe, all_wider, fringes_of, stored_rows, widened}
 use Rattle.lower_draft.specs.Spread.{fringed_row, fringed_rows, no_fringes, spread, spread_over}

@@ -1,13 +1,13 @@
 -- What a draft is, and how it grows.
 use Rattle.std.specs.Prelude.{ℕ, ◌+◌, Bool, List, [], ◌∷◌, ◌++◌, map, length}
 use Rattle.zpl_region.specs.declared.regions.Region.{Region}
-use Rattle.node_form.specs.declared.members.Member.{Member}
-use Rattle.node_form.specs.declared.instructions.Instr.{Instr}
-use Rattle.node_form.specs.declared.instructions.Instr.TheVariants as instr
-use Rattle.node_form.specs.declared.tables.Tables.{Tables}
-use Rattle.row_runs.specs.Structured.{Piece, flattened}
-use Rattle.flat_form.specs.Row as row
-use Rattle.flat_form.specs.Row.{Row, Words, with_row, with_rows, patched}
+use Rattle.zpl_lowering.specs.of_node_form.declared.members.Member.{Member}
+use Rattle.zpl_lowering.specs.of_node_form.declared.instructions.Instr.{Instr}
+use Rattle.zpl_lowering.specs.of_node_form.declared.instructions.Instr.TheVariants as instr
+use Rattle.zpl_lowering.specs.of_node_form.declared.tables.Tables.{Tables}
+use Rattle.zpl_lowering.specs.of_row_runs.Structured.{Piece, flattened}
+use Rattle.zpl_lowering.specs.of_flat_form.Row as row
+use Rattle.zpl_lowering.specs.of_flat_form.Row.{Row, Words, with_row, with_rows, patched}
 use Rattle.zpl_lowering.specs.Check.{Check, flat_row}
 use Rattle.zpl_lowering.specs.Where.{Next}
 use Rattle.zpl_lowering.specs.Hoist.{Shifted}

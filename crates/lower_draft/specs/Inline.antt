@@ -1,7 +1,7 @@
 -- Rows of the code, seen as rows inline.
 use Rattle.std.specs.Prelude.{map}
-use Rattle.flat_form.specs.Row as row
-use Rattle.flat_form.specs.Row.{Row, Member, Part}
+use Rattle.zpl_lowering.specs.of_flat_form.Row as row
+use Rattle.zpl_lowering.specs.of_flat_form.Row.{Row, Member, Part}
 use Rattle.lower_draft.specs.declared.rows.FlatRow.{FlatRow}
 use Rattle.lower_draft.specs.declared.rows.FlatRow.TheVariants as flat
 use Rattle.lower_draft.specs.declared.rows.FlatPart.{FlatPart}

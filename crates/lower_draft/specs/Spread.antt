@@ -1,7 +1,7 @@
 -- Fringes of all arrays in one walk over the shifts.
 use Rattle.std.specs.Prelude.{ℕ, suc, true, List, [], ◌∷◌, set, replicate, slice_index_or}
 use Rattle.zpl_region.specs.declared.regions.Region.{Region}
-use Rattle.node_form.specs.declared.arrays.ArrayRow.{ArrayRow}
+use Rattle.zpl_lowering.specs.of_node_form.declared.arrays.ArrayRow.{ArrayRow}
 use Rattle.zpl_lowering.specs.Hoist.{Shifted}
 use Rattle.zpl_lowering.specs.Tables.{Fringe, all_wider, no_fringe, stored_dims}
 

@@ -8,9 +8,9 @@ ghost use Rattle.lower_draft.specs.Drafted.{with_slot, with_temp, with_text};
 use crate::floods::Flood;
 use crate::numbers::Next;
 use crate::shifts::Shifted;
-use node_form::{ExprRow, GroupRow, Instr, Tables, TextRow};
 use std::alloc::{AllocError, Global};
 use std::marker::Model;
+use zpl_lowering::node_form::{ExprRow, GroupRow, Instr, Tables, TextRow};
 use zpl_region::{Region, Vec3};
 
 /// The tables of a program while they grow, and what its code has of its own.

@@ -4,8 +4,8 @@ ghost use Rattle.zpl_lowering.specs.Tables.{temp_dim, temp_row};
 ghost use Rattle.zpl_lowering.specs.Where.{flood_of, is_flood};
 
 use crate::fringes::NO_RANGE;
-use node_form::{ArrayDim, ArrayRow};
 use std::marker::Model;
+use zpl_lowering::node_form::{ArrayDim, ArrayRow};
 use zpl_region::{Dim, Region};
 
 /// Whether each of at most three dimensions is a flood dimension.

@@ -5,9 +5,9 @@ ghost use Rattle.zpl_lowering.specs.Tables.{all_wider, stored_dim, stored_dims, 
 ghost use Rattle.lower_draft.specs.Spread.{fringed_row, no_fringes, spread_over};
 
 use crate::shifts::Shifted;
-use node_form::{ArrayDim, ArrayRow};
 use std::alloc::{AllocError, Global};
 use std::marker::Model;
+use zpl_lowering::node_form::{ArrayDim, ArrayRow};
 use zpl_region::{Dim, Region, Vec3};
 
 /// The greatest shifts downward and upward in a dimension.

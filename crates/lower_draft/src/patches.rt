@@ -1,12 +1,12 @@
 //! Tests and jumps, whose goals are filled in later.
 ghost use Rattle.std.specs.Prelude.{◌≡◌, ◌+◌, IfOk, OnOk, length};
-ghost use Rattle.flat_form.specs.Row as flat;
+ghost use Rattle.zpl_lowering.specs.of_flat_form.Row as flat;
 ghost use Rattle.lower_draft.specs.Drafted.{begun, closed, looped, opened, pushed, turned, until};
 
 use crate::draft::{Draft, more, number_of};
 use crate::rows::FlatRow;
-use node_form::{ExprRow, Instr};
 use std::alloc::AllocError;
+use zpl_lowering::node_form::{ExprRow, Instr};
 
 /// A test or a jump that has no goal yet.
 #[derive(Clone, Copy, Debug)]

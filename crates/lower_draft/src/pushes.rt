@@ -1,15 +1,15 @@
 //! Rows that are pushed with their expressions, groups and texts.
 ghost use Rattle.std.specs.Prelude.{◌≡◌, ◌+◌, ◌∷◌, IfOk, OnOk, length, flat_map, map};
-ghost use Rattle.flat_form.specs.Row as row;
-ghost use Rattle.flat_form.specs.Row.{all_coded, group_coded, mask_words, member_coded};
-ghost use Rattle.flat_form.specs.Row.{member_words, numbered, part_coded, part_words};
+ghost use Rattle.zpl_lowering.specs.of_flat_form.Row as row;
+ghost use Rattle.zpl_lowering.specs.of_flat_form.Row.{all_coded, group_coded, mask_words, member_coded};
+ghost use Rattle.zpl_lowering.specs.of_flat_form.Row.{member_words, numbered, part_coded, part_words};
 ghost use Rattle.lower_draft.specs.Drafted.{pushed, with_exprs};
 ghost use Rattle.lower_draft.specs.Inline.{member_of, part_of, row_of};
 
 use crate::draft::Draft;
 use crate::rows::{FlatMember, FlatPart, FlatRow};
-use node_form::{DimRow, ExprRow, GroupRow, Instr, Member};
 use std::alloc::AllocError;
+use zpl_lowering::node_form::{DimRow, ExprRow, GroupRow, Instr, Member};
 
 impl Draft {
     /// Appends a row.

@@ -1,5 +1,5 @@
 //! Rows with their expressions, groups and texts in the place of numbers.
-use node_form::{ExprRow, Instr, TextRow};
+use zpl_lowering::node_form::{ExprRow, Instr, TextRow};
 use zpl_nums::Fold;
 
 /// A row of code but for jumps and tests. A `line` is that of the source statement.

@@ -8,8 +8,8 @@ use crate::draft::Draft;
 use crate::floods::Flood;
 use crate::fringes::{Fringe, fringes_of, stored_row};
 use crate::shifts::Shifted;
-use node_form::{ArrayRow, Arrays, Instr, Rows, Tables};
 use std::alloc::{AllocError, Global};
+use zpl_lowering::node_form::{ArrayRow, Arrays, Instr, Rows, Tables};
 use zpl_region::Region;
 
 /// The rows of stored arrays with their fringes.

@@ -9,27 +9,27 @@ use Rattle.std.proofs.lemmas.List.Elements.{recursion_from_All}
 use Rattle.std.proofs.lemmas.List.Sums.{sum_by-cons, sum_by-append}
 use Rattle.zpl_tree.specs.Grammar.{IsProgram}
 use Rattle.zpl_tree.specs.Syntax.{Name, Expr, Number, Truth, Coord, Named, Shifted, Around, Remap, Call, Paren, Neg, Not, Abs, Pair, Reduce, Scan, Flood, Exprs, NoExpr, ThenExpr, Bracket, NoBracket, Bracketed, Base, Param, VarDef, Decl, Config, Constant, Regions, Directions, Vars, Defined, Program}
-use Rattle.zpl_names.specs.Kinds as kind
-use Rattle.zpl_names.specs.Kinds.{Kind, Formal, ScalarFormal, ArrayFormal, Signature}
-use Rattle.zpl_names.specs.Accepted.{HasNoFault, IsFaultless, NoEntry, is_entry, no_entry}
-use Rattle.zpl_names.specs.Ranks.{IsKnownKind, first_rank, is_above_zero, value_rank}
-use Rattle.zpl_names.specs.Scope.{Entry, Scope, kind_in, kind_of, is_array, is_procedure}
-use Rattle.zpl_names.specs.Shapes.{unknown_shapes, variable_kind}
-use Rattle.zpl_names.specs.Declared.{Routine, IsProcedureOf, routine_named, routines_of, entry_of, entry_for, formal_of, globals_of, head_scope, scope_of, declaring, with_each, with_decl, with_define, with_region, with_direction, with_variables, region_entry, direction_entry, procedure_entry}
-use Rattle.zpl_names.specs.Faults.{all_fit, fits, formals_in}
-use Rattle.zpl_names.specs.Reached.{longest_chain}
-use Rattle.zpl_names.specs.Sites.{Reach, CallSite, call_of, calls_under, Site, AtWhole, AtExpr, AtCall, AtNamed, AtDir, AtRegion, AtMask, AtStmt, AtBase, AtPosts, AtProcedure, actuals_sites, routine_sites}
-use Rattle.zpl_names.specs.Expansion.{ExpandedArray, Binding, Instance, FormalName, formal_names, bound_in, array_of_entry, local_arrays, global_array, array_named, actual_array, actual_arrays, copy_of, called_instance, of_routine, instances_from, entry_instance, instances_of, instance_sites, shifted_read, copies_at, expanded_arrays, expanded_copies, expanded_of}
-use Rattle.zpl_names.proofs.ListLemmas.{Among, Contains-from_among}
-use Rattle.zpl_names.proofs.FaultlessLemmas.{clean-routine, flat_parts, split, left-among, right-among}
-use Rattle.zpl_names.proofs.NameLemmas.{no_place, procedure_is_there}
-use Rattle.zpl_names.proofs.DeclaredLemmas.{known_scope}
-use Rattle.zpl_lowering.specs.Program.{reads_at, reads_round}
-use Rattle.zpl_meaning.proofs.DepthLemmas.{Each}
-use Rattle.zpl_meaning.proofs.NamesLemmas.{globals_shaped, routine_sound, IsSound}
-use Rattle.zpl_meaning.proofs.ProperLemmas.{not_false, taken}
-use Rattle.zpl_meaning.proofs.StatementLemmas.{and_true, not_true}
-use Rattle.zpl_meaning.proofs.VisitLemmas.{AllOwn, all_own, find_among, none_there}
+use Rattle.expanded_counts.specs.of_zpl_names.Kinds as kind
+use Rattle.expanded_counts.specs.of_zpl_names.Kinds.{Kind, Formal, ScalarFormal, ArrayFormal, Signature}
+use Rattle.expanded_counts.specs.of_zpl_names.Accepted.{HasNoFault, IsFaultless, NoEntry, is_entry, no_entry}
+use Rattle.expanded_counts.specs.of_zpl_names.Ranks.{IsKnownKind, first_rank, is_above_zero, value_rank}
+use Rattle.expanded_counts.specs.of_zpl_names.Scope.{Entry, Scope, kind_in, kind_of, is_array, is_procedure}
+use Rattle.expanded_counts.specs.of_zpl_names.Shapes.{unknown_shapes, variable_kind}
+use Rattle.expanded_counts.specs.of_zpl_names.Declared.{Routine, IsProcedureOf, routine_named, routines_of, entry_of, entry_for, formal_of, globals_of, head_scope, scope_of, declaring, with_each, with_decl, with_define, with_region, with_direction, with_variables, region_entry, direction_entry, procedure_entry}
+use Rattle.expanded_counts.specs.of_zpl_names.Faults.{all_fit, fits, formals_in}
+use Rattle.expanded_counts.specs.of_zpl_names.Reached.{longest_chain}
+use Rattle.expanded_counts.specs.of_zpl_names.Sites.{Reach, CallSite, call_of, calls_under, Site, AtWhole, AtExpr, AtCall, AtNamed, AtDir, AtRegion, AtMask, AtStmt, AtBase, AtPosts, AtProcedure, actuals_sites, routine_sites}
+use Rattle.expanded_counts.specs.of_zpl_names.Expansion.{ExpandedArray, Binding, Instance, FormalName, formal_names, bound_in, array_of_entry, local_arrays, global_array, array_named, actual_array, actual_arrays, copy_of, called_instance, of_routine, instances_from, entry_instance, instances_of, instance_sites, shifted_read, copies_at, expanded_arrays, expanded_copies, expanded_of}
+use Rattle.expanded_counts.proofs.of_zpl_names.ListLemmas.{Among, Contains-from_among}
+use Rattle.expanded_counts.proofs.of_zpl_names.FaultlessLemmas.{clean-routine, flat_parts, split, left-among, right-among}
+use Rattle.expanded_counts.proofs.of_zpl_names.NameLemmas.{no_place, procedure_is_there}
+use Rattle.expanded_counts.proofs.of_zpl_names.DeclaredLemmas.{known_scope}
+use Rattle.lower_draft.specs.of_zpl_lowering.Program.{reads_at, reads_round}
+use Rattle.lower_reads.proofs.of_zpl_meaning.DepthLemmas.{Each}
+use Rattle.lower_reads.proofs.of_zpl_meaning.NamesLemmas.{globals_shaped, routine_sound, IsSound}
+use Rattle.lower_reads.proofs.of_zpl_meaning.ProperLemmas.{not_false, taken}
+use Rattle.lower_reads.proofs.of_zpl_meaning.StatementLemmas.{and_true, not_true}
+use Rattle.lower_reads.proofs.of_zpl_meaning.VisitLemmas.{AllOwn, all_own, find_among, none_there}
 use Rattle.lower_numbers.specs.Arrays.{bracket_arrays, var_arrays, value_arrays, param_arrays, own_arrays, decl_arrays, global_arrays}
 use Rattle.lower_numbers.proofs.SiteLemmas.{IsIn, Told, sites_told}
 use Rattle.lower_numbers.proofs.NameLemmas.{OptFirm, firm_kind, is_array_formal, array_actual, reference_actual, value_actual, array_here, value_here, procedure_here, Taken, split_actual}

@@ -4,18 +4,18 @@ use Rattle.std.specs.List.{AllByRecursion, find}
 use Rattle.std.specs.Option.{option_or}
 use Rattle.std.specs.Str.{bytes_eq}
 use Rattle.zpl_tree.specs.Syntax.{Name, Expr, Number, Truth, Coord, Named, Shifted, Around, Remap, Call, Paren, Neg, Not, Abs, Pair, Reduce, Scan, Flood, Exprs, ThenExpr, Base, Integer, Program}
-use Rattle.zpl_names.specs.Kinds as kind
-use Rattle.zpl_names.specs.Kinds.{Shape, Rank, Kind, Formal, ScalarFormal, ArrayFormal, Signature}
-use Rattle.zpl_names.specs.Accepted.{HasNoFault}
-use Rattle.zpl_names.specs.Ranks.{IsKnownKind, first_rank, is_above_zero, value_rank}
-use Rattle.zpl_names.specs.Scope.{Entry, in_reach, kind_in, kind_of, is_array, is_procedure, is_value}
-use Rattle.zpl_names.specs.Declared.{Routine, globals_of, scope_of}
-use Rattle.zpl_names.specs.Faults.{fits_array, fits_reference}
-use Rattle.zpl_names.specs.Sites.{Reach, AtWhole, Actual, actuals_sites, expr_sites, whole_rank}
-use Rattle.zpl_meaning.proofs.DepthLemmas.{Each, each_right}
-use Rattle.zpl_meaning.proofs.NamesLemmas.{HasShape, Shaped}
-use Rattle.zpl_meaning.proofs.ProperLemmas.{taken}
-use Rattle.zpl_meaning.proofs.VisitLemmas.{AllOwn, own_in, global_procedure}
+use Rattle.expanded_counts.specs.of_zpl_names.Kinds as kind
+use Rattle.expanded_counts.specs.of_zpl_names.Kinds.{Shape, Rank, Kind, Formal, ScalarFormal, ArrayFormal, Signature}
+use Rattle.expanded_counts.specs.of_zpl_names.Accepted.{HasNoFault}
+use Rattle.expanded_counts.specs.of_zpl_names.Ranks.{IsKnownKind, first_rank, is_above_zero, value_rank}
+use Rattle.expanded_counts.specs.of_zpl_names.Scope.{Entry, in_reach, kind_in, kind_of, is_array, is_procedure, is_value}
+use Rattle.expanded_counts.specs.of_zpl_names.Declared.{Routine, globals_of, scope_of}
+use Rattle.expanded_counts.specs.of_zpl_names.Faults.{fits_array, fits_reference}
+use Rattle.expanded_counts.specs.of_zpl_names.Sites.{Reach, AtWhole, Actual, actuals_sites, expr_sites, whole_rank}
+use Rattle.lower_reads.proofs.of_zpl_meaning.DepthLemmas.{Each, each_right}
+use Rattle.lower_reads.proofs.of_zpl_meaning.NamesLemmas.{HasShape, Shaped}
+use Rattle.lower_reads.proofs.of_zpl_meaning.ProperLemmas.{taken}
+use Rattle.lower_reads.proofs.of_zpl_meaning.VisitLemmas.{AllOwn, own_in, global_procedure}
 use Rattle.lower_numbers.proofs.SiteLemmas.{IsIn}
 
 -- ---- kinds in reach

@@ -12,25 +12,25 @@ use Rattle.zpl_tree.specs.Syntax.{ThenDim, Mask, Prefix, Item, Str, Value, Stmt,
 use Rattle.zpl_tree.specs.Syntax.{NoStmt, ThenStmt, Form, Assign, Invoke, Block, If, While, Repeat}
 use Rattle.zpl_tree.specs.Syntax.{For, Border, Write, Return, Arm, Tested, Arms, NoArm, ThenArm}
 use Rattle.zpl_tree.specs.Syntax.{Otherwise, NoElse, Else, Base, Program}
-use Rattle.zpl_names.specs.Kinds.{Rank}
-use Rattle.zpl_names.specs.Accepted.{HasNoFault}
-use Rattle.zpl_names.specs.Ranks.{inner_rank, own_rank, is_index, mask_rank}
-use Rattle.zpl_names.specs.Scope.{kind_of}
-use Rattle.zpl_names.specs.Shapes.{unknown_shapes}
-use Rattle.zpl_names.specs.Declared.{Routine, scope_of, globals_of}
-use Rattle.zpl_names.specs.Sites.{Reach, in_body, in_vector, over_source, under_prefix}
-use Rattle.zpl_names.specs.Sites.{under_prefixes, CallRole, AsStatement, Elsewhere, call_place}
-use Rattle.zpl_names.specs.Sites.{inside, Role, Bound, Component, Limit, Result, Test as TestRole}
-use Rattle.zpl_names.specs.Sites.{Printed, Actual, Operand, Assigned, whole_rank, Site, AtWhole}
-use Rattle.zpl_names.specs.Sites.{AtExpr, AtCall, AtMask}
-use Rattle.zpl_names.specs.Sites.{index_sites, expr_sites, exprs_sites, actuals_sites, dir_sites}
-use Rattle.zpl_names.specs.Sites.{components_sites, region_sites, posts_sites, dims_sites}
-use Rattle.zpl_names.specs.Sites.{dim_sites}
-use Rattle.zpl_names.specs.Sites.{whole_sites, prefixes_sites, value_sites, item_sites}
-use Rattle.zpl_names.specs.Sites.{step_sites, stmt_sites, stmts_sites, form_sites, arms_sites}
-use Rattle.zpl_names.specs.Sites.{arm_sites, otherwise_sites, body_sites, outermost_sites}
-use Rattle.zpl_names.specs.Sites.{routine_sites, arms_rank, test_rank}
-use Rattle.zpl_meaning.proofs.DepthLemmas.{Each, each_left, each_right}
+use Rattle.expanded_counts.specs.of_zpl_names.Kinds.{Rank}
+use Rattle.expanded_counts.specs.of_zpl_names.Accepted.{HasNoFault}
+use Rattle.expanded_counts.specs.of_zpl_names.Ranks.{inner_rank, own_rank, is_index, mask_rank}
+use Rattle.expanded_counts.specs.of_zpl_names.Scope.{kind_of}
+use Rattle.expanded_counts.specs.of_zpl_names.Shapes.{unknown_shapes}
+use Rattle.expanded_counts.specs.of_zpl_names.Declared.{Routine, scope_of, globals_of}
+use Rattle.expanded_counts.specs.of_zpl_names.Sites.{Reach, in_body, in_vector, over_source, under_prefix}
+use Rattle.expanded_counts.specs.of_zpl_names.Sites.{under_prefixes, CallRole, AsStatement, Elsewhere, call_place}
+use Rattle.expanded_counts.specs.of_zpl_names.Sites.{inside, Role, Bound, Component, Limit, Result, Test as TestRole}
+use Rattle.expanded_counts.specs.of_zpl_names.Sites.{Printed, Actual, Operand, Assigned, whole_rank, Site, AtWhole}
+use Rattle.expanded_counts.specs.of_zpl_names.Sites.{AtExpr, AtCall, AtMask}
+use Rattle.expanded_counts.specs.of_zpl_names.Sites.{index_sites, expr_sites, exprs_sites, actuals_sites, dir_sites}
+use Rattle.expanded_counts.specs.of_zpl_names.Sites.{components_sites, region_sites, posts_sites, dims_sites}
+use Rattle.expanded_counts.specs.of_zpl_names.Sites.{dim_sites}
+use Rattle.expanded_counts.specs.of_zpl_names.Sites.{whole_sites, prefixes_sites, value_sites, item_sites}
+use Rattle.expanded_counts.specs.of_zpl_names.Sites.{step_sites, stmt_sites, stmts_sites, form_sites, arms_sites}
+use Rattle.expanded_counts.specs.of_zpl_names.Sites.{arm_sites, otherwise_sites, body_sites, outermost_sites}
+use Rattle.expanded_counts.specs.of_zpl_names.Sites.{routine_sites, arms_rank, test_rank}
+use Rattle.lower_reads.proofs.of_zpl_meaning.DepthLemmas.{Each, each_left, each_right}
 
 -- ---- what is told of the sites of a procedure's statements
 

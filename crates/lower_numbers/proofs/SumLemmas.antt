@@ -5,17 +5,17 @@ use Rattle.std.specs.List.{filter_map, cons_option}
 use Rattle.std.proofs.lemmas.List.Sums.{sum_by-cons}
 use Rattle.std.proofs.lemmas.Option.{slice_get-map}
 use Rattle.zpl_tree.specs.Syntax.{Program}
-use Rattle.zpl_names.specs.Declared.{Routine, routine_named, routines_of, entry_of}
-use Rattle.zpl_names.specs.Expansion.{expanded, expanded_from}
-use Rattle.zpl_names.specs.Reached.{longest_chain}
-use Rattle.zpl_names.specs.Shapes.{unknown_shapes}
-use Rattle.zpl_names.specs.Sites.{CallSite, calls_under}
-use Rattle.routine_walks.specs.Numbers.{node_of}
+use Rattle.expanded_counts.specs.of_zpl_names.Declared.{Routine, routine_named, routines_of, entry_of}
+use Rattle.expanded_counts.specs.of_zpl_names.Expansion.{expanded, expanded_from}
+use Rattle.expanded_counts.specs.of_zpl_names.Reached.{longest_chain}
+use Rattle.expanded_counts.specs.of_zpl_names.Shapes.{unknown_shapes}
+use Rattle.expanded_counts.specs.of_zpl_names.Sites.{CallSite, calls_under}
+use Rattle.expanded_counts.specs.of_routine_walks.Numbers.{node_of}
 use Rattle.lower_numbers.specs.declared.counts.Counts.{Counts}
 use Rattle.expanded_counts.specs.Counts.{capped_sum, more}
 use Rattle.lower_numbers.specs.Bodies.{Counted, no_counts, plus, counts_or, counted, counted_body, summed, sums_down, expanded_counts, expanded_down}
 use Rattle.lower_numbers.specs.Arrays.{own_arrays}
-use Rattle.zpl_lowering.specs.Program.{reads_round}
+use Rattle.lower_draft.specs.of_zpl_lowering.Program.{reads_round}
 
 -- ---- numbers that stay at the greatest one
 

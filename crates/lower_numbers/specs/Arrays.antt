@@ -1,8 +1,8 @@
 -- Arrays that are declared, and the numbers behind them.
 use Rattle.std.specs.Prelude.{ℕ, ◌+◌, Bool, true, false, length, sum_by}
 use Rattle.zpl_tree.specs.Syntax.{Bracket, NoBracket, Bracketed, Param, VarDef, Decl, Config, Constant, Regions, Directions, Vars, Defined, Program, Procedure}
-use Rattle.zpl_names.specs.Declared.{Routine}
-use Rattle.zpl_lowering.specs.Where.{Next}
+use Rattle.expanded_counts.specs.of_zpl_names.Declared.{Routine}
+use Rattle.lower_draft.specs.of_zpl_lowering.Where.{Next}
 
 -- names with a bracket are those of arrays
 abbrev pub bracket_arrays : Bracket → ℕ → ℕ

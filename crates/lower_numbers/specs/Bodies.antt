@@ -1,9 +1,9 @@
 -- Procedures as they are counted, and what their numbers add up to over calls.
 use Rattle.std.specs.Prelude.{ℕ, zero, suc, List, [], map, fold, Option, Some, None, slice_get}
-use Rattle.zpl_names.specs.Declared.{Routine}
-use Rattle.zpl_names.specs.Expansion.{expanded, expanded_of}
+use Rattle.expanded_counts.specs.of_zpl_names.Declared.{Routine}
+use Rattle.expanded_counts.specs.of_zpl_names.Expansion.{expanded, expanded_of}
 use Rattle.zpl_tree.specs.Syntax.{Program}
-use Rattle.zpl_lowering.specs.Program.{reads_round}
+use Rattle.lower_draft.specs.of_zpl_lowering.Program.{reads_round}
 use Rattle.expanded_counts.specs.Bodies.{called_numbers}
 use Rattle.expanded_counts.specs.Counts.{capped_sum, more}
 use Rattle.lower_numbers.specs.declared.bodies.Body.{Body}

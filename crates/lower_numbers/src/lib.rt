@@ -7,4 +7,5 @@ mod counts;
 mod numbers;
 mod sums;
 
+pub use lower_reads::text_sharing;
 pub use numbers::first_next;

@@ -2,9 +2,9 @@
 ghost use Rattle.std.specs.Prelude.{◌≡◌, ◌+◌, ◌<◌, ◌^◌, IfOk};
 ghost use Rattle.zpl_tree.specs.Grammar.{IsProgram};
 ghost use Rattle.zpl_tree.specs.View.{syntax_of};
-ghost use Rattle.zpl_names.specs.Accepted.{IsFaultless};
-ghost use Rattle.zpl_lowering.specs.Program as plain;
-ghost use Rattle.routine_walks.specs.Texts.{IsText};
+ghost use Rattle.expanded_counts.specs.of_zpl_names.Accepted.{IsFaultless};
+ghost use Rattle.lower_draft.specs.of_zpl_lowering.Program as plain;
+ghost use Rattle.expanded_counts.specs.of_routine_walks.Texts.{IsText};
 ghost use Rattle.lower_draft.specs.Drafted.{next_of};
 ghost use Rattle.lower_numbers.specs.Arrays.{first_numbers, global_arrays};
 ghost use Rattle.lower_numbers.specs.Bodies.{expanded_counts};
@@ -13,10 +13,10 @@ use crate::arrays::count_globals;
 use crate::bodies::bodies_of;
 use crate::counts::Counts;
 use crate::sums::{counts_at, sums_down};
+use expanded_counts::routine_walks::Text;
+use expanded_counts::zpl_names::counts_add_up;
 use lower_draft::Next;
-use routine_walks::Text;
 use std::alloc::{AllocError, Global};
-use zpl_names::counts_add_up;
 use zpl_tree::Program;
 
 /// The most procedures of a chain of calls.

@@ -15,8 +15,8 @@ use Rattle.zpl_region.specs.Region.{IsRegion, components, each, moved}
 use Rattle.zpl_region.proofs.HullLemmas.{no_count}
 use Rattle.zpl_arrays.specs.Around.{copy_shift, dim_rest, each_rest, zeros}
 use Rattle.array_terms.specs.Sound.{IsNear}
-use Rattle.zpl_lowering.specs.Lowered.{Lowered, rows_alone}
-use Rattle.zpl_lowering.specs.Slate.{border_slots, is_moving}
+use Rattle.lower_regions.specs.of_zpl_lowering.Lowered.{Lowered, rows_alone}
+use Rattle.lower_regions.specs.of_zpl_lowering.Slate.{border_slots, is_moving}
 
 -- ---- remainders
 

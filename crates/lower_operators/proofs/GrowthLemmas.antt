@@ -5,14 +5,14 @@ use Rattle.row_runs.specs.Code.{Straight}
 use Rattle.row_runs.specs.Structured.{Piece, Rows, Then}
 use Rattle.flat_form.specs.Row.{Row, with_rows}
 use Rattle.node_form.specs.Expression.{Expression}
-use Rattle.zpl_lowering.specs.Check.{Check, flat_row}
-use Rattle.zpl_lowering.specs.Hoist.{Free, Hoisted, with_rows as hoisted_with}
-use Rattle.zpl_lowering.specs.Hoist as hoist
-use Rattle.zpl_lowering.specs.Slate.{Settled}
-use Rattle.zpl_lowering.specs.Slate as settle
-use Rattle.zpl_lowering.specs.Lowered.{Lowered, rows_alone}
-use Rattle.lower_draft.specs.Drafted.{Drafted, grown, pushed, rows_from, with_scalars, with_temp}
-use Rattle.lower_draft.proofs.GrowthLemmas.{both_grown, rows_grown, scalars_grown, temp_grown}
+use Rattle.lower_regions.specs.of_zpl_lowering.Check.{Check, flat_row}
+use Rattle.lower_regions.specs.of_zpl_lowering.Hoist.{Free, Hoisted, with_rows as hoisted_with}
+use Rattle.lower_regions.specs.of_zpl_lowering.Hoist as hoist
+use Rattle.lower_regions.specs.of_zpl_lowering.Slate.{Settled}
+use Rattle.lower_regions.specs.of_zpl_lowering.Slate as settle
+use Rattle.lower_regions.specs.of_zpl_lowering.Lowered.{Lowered, rows_alone}
+use Rattle.lower_regions.specs.of_lower_draft.Drafted.{Drafted, grown, pushed, rows_from, with_scalars, with_temp}
+use Rattle.lower_regions.proofs.of_lower_draft.GrowthLemmas.{both_grown, rows_grown, scalars_grown, temp_grown}
 use Rattle.lower_operators.specs.Code.{free_of, of_hoisted, of_settled, owning}
 
 -- ---- rows

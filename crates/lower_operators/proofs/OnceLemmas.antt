@@ -6,7 +6,7 @@ use Rattle.std.proofs.lemmas.Bool.Decides.{Decides-int_eq, Decides-eqb}
 use Rattle.std.proofs.lemmas.List.{map-append}
 use Rattle.std.proofs.lemmas.List.Folds.{list_any-append}
 use Rattle.indexmap.specs.IndexSet.{insert_key}
-use Rattle.zpl_lowering.specs.Reference.{Reference, each_once, is_same, is_same_vector}
+use Rattle.lower_regions.specs.of_zpl_lowering.Reference.{Reference, each_once, is_same, is_same_vector}
 use Rattle.lower_operators.specs.Once.{with_reference, with_references}
 
 -- ---- filters one behind the other

@@ -9,9 +9,9 @@ use Rattle.node_form.specs.Expression.{Denial, Element, Expression, Variable, wo
 use Rattle.flat_form.specs.Row as row
 use Rattle.flat_form.specs.Row.{Row, Words}
 use Rattle.zpl_meaning.specs.Context.{Mask}
-use Rattle.zpl_lowering.specs.Where.{Numbers, Slotted}
-use Rattle.zpl_lowering.specs.Hoist.{Hoisted, fold_rows, folding, kept_rows, mask_code, masked_scan, number_of, scan_row, scan_with, scan_without, scanning, with_rows as hoisted_with}
-use Rattle.lower_draft.specs.Drafted.{Drafted, grown, pushed, with_scalars, with_temp}
+use Rattle.lower_regions.specs.of_zpl_lowering.Where.{Numbers, Slotted}
+use Rattle.lower_regions.specs.of_zpl_lowering.Hoist.{Hoisted, fold_rows, folding, kept_rows, mask_code, masked_scan, number_of, scan_row, scan_with, scan_without, scanning, with_rows as hoisted_with}
+use Rattle.lower_regions.specs.of_lower_draft.Drafted.{Drafted, grown, pushed, with_scalars, with_temp}
 use Rattle.lower_operators.specs.Code.{IsOver, free_of, of_hoisted, owning}
 use Rattle.lower_operators.proofs.GrowthLemmas.{behind_operand, nothing, owning_both, then_row, then_scalar, then_temp}
 

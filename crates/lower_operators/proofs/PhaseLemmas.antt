@@ -5,13 +5,13 @@ use Rattle.row_runs.specs.Structured.{Rows, Then}
 use Rattle.flat_form.specs.Row.{Row}
 use Rattle.node_form.specs.declared.words.ExprOp.{ExprOp}
 use Rattle.node_form.specs.Expression.{Expression, words_of}
-use Rattle.zpl_lowering.specs.Where.{Where}
-use Rattle.zpl_lowering.specs.Slate.{Placed, Settled, Slates, settled_each}
-use Rattle.zpl_lowering.specs.Reference.{Reference, all_conforming, all_referred, needs}
-use Rattle.zpl_lowering.specs.Hoist.{Free, Hoisted, all_hoisted}
-use Rattle.zpl_lowering.specs.Lowered.{Lowered, free_at, phased_with, rows_alone}
-use Rattle.lower_draft.specs.Drafted.{Drafted, grown}
-use Rattle.lower_draft.proofs.GrowthLemmas.{both_grown}
+use Rattle.lower_regions.specs.of_zpl_lowering.Where.{Where}
+use Rattle.lower_regions.specs.of_zpl_lowering.Slate.{Placed, Settled, Slates, settled_each}
+use Rattle.lower_regions.specs.of_zpl_lowering.Reference.{Reference, all_conforming, all_referred, needs}
+use Rattle.lower_regions.specs.of_zpl_lowering.Hoist.{Free, Hoisted, all_hoisted}
+use Rattle.lower_regions.specs.of_zpl_lowering.Lowered.{Lowered, free_at, phased_with, rows_alone}
+use Rattle.lower_regions.specs.of_lower_draft.Drafted.{Drafted, grown}
+use Rattle.lower_regions.proofs.of_lower_draft.GrowthLemmas.{both_grown}
 use Rattle.lower_operators.specs.Code.{free_of, of_hoisted, of_settled}
 use Rattle.lower_operators.proofs.GrowthLemmas.{settled_both}
 

@@ -12,15 +12,15 @@ use Rattle.node_form.specs.Expression.{Absolute, CellValue, Constant, Coordinate
 use Rattle.row_runs.specs.Structured as piece
 use Rattle.flat_form.specs.Row as row
 use Rattle.flat_form.specs.Row.{Member, Row, Words}
-use Rattle.zpl_lowering.specs.Check.{Check}
-use Rattle.zpl_lowering.specs.Where.{Numbers, Slotted, Stored}
-use Rattle.zpl_lowering.specs.Lowered.{both, coded, rows_alone}
-use Rattle.zpl_lowering.specs.Hoist.{Hoisted, Shifted, any_of, index_puts, mask_code, outside_code, past_dim, past_dims, remapping, rooms, temps_from, three_of, trap_if}
-use Rattle.lower_draft.specs.Inline.{member_of}
-use Rattle.lower_draft.specs.declared.rows.FlatMember.{FlatMember}
-use Rattle.lower_draft.specs.declared.rows.FlatMember.TheVariants as flat
-use Rattle.lower_draft.specs.Drafted.{Drafted, closed, grown, opened, pushed, with_scalars, with_temp}
-use Rattle.lower_draft.proofs.GrowthLemmas.{both_grown, rows_grown, when_grown}
+use Rattle.lower_regions.specs.of_zpl_lowering.Check.{Check}
+use Rattle.lower_regions.specs.of_zpl_lowering.Where.{Numbers, Slotted, Stored}
+use Rattle.lower_regions.specs.of_zpl_lowering.Lowered.{both, coded, rows_alone}
+use Rattle.lower_regions.specs.of_zpl_lowering.Hoist.{Hoisted, Shifted, any_of, index_puts, mask_code, outside_code, past_dim, past_dims, remapping, rooms, temps_from, three_of, trap_if}
+use Rattle.lower_regions.specs.of_lower_draft.Inline.{member_of}
+use Rattle.lower_regions.specs.of_lower_draft.declared.rows.FlatMember.{FlatMember}
+use Rattle.lower_regions.specs.of_lower_draft.declared.rows.FlatMember.TheVariants as flat
+use Rattle.lower_regions.specs.of_lower_draft.Drafted.{Drafted, closed, grown, opened, pushed, with_scalars, with_temp}
+use Rattle.lower_regions.proofs.of_lower_draft.GrowthLemmas.{both_grown, rows_grown, when_grown}
 use Rattle.lower_operators.specs.Code.{free_of, of_hoisted, owning}
 use Rattle.lower_operators.specs.Remapped.{index_rows, numbered, ored, puts_of, read_rows, test_rows, with_rooms}
 use Rattle.lower_operators.proofs.GrowthLemmas.{nothing, owning_both, then_row, then_scalar}

@@ -6,11 +6,11 @@ use Rattle.zpl_names.specs.Kinds.{Rank}
 use Rattle.zpl_tree.specs.View.{expr_of, exprs_of}
 use Rattle.zpl_tree.specs.declared.expressions.Expr.{Expr}
 use Rattle.zpl_meaning.specs.Store.{Thing}
-use Rattle.zpl_lowering.specs.Where.{Where, Next, Slotted}
-use Rattle.zpl_lowering.specs.Slate.{Settled, Slates, NoSlate, ThenSlate, remap_slate, settled, settled_all, settled_each, then_settled}
-use Rattle.zpl_lowering.specs.Slate as settle
+use Rattle.lower_regions.specs.of_zpl_lowering.Where.{Where, Next, Slotted}
+use Rattle.lower_regions.specs.of_zpl_lowering.Slate.{Settled, Slates, NoSlate, ThenSlate, remap_slate, settled, settled_all, settled_each, then_settled}
+use Rattle.lower_regions.specs.of_zpl_lowering.Slate as settle
 use Rattle.array_settling.specs.Fit.{AreFit}
-use Rattle.lower_draft.specs.Drafted.{Drafted, grown}
+use Rattle.lower_regions.specs.of_lower_draft.Drafted.{Drafted, grown}
 use Rattle.lower_operators.specs.declared.slates.Slate.{Slate}
 use Rattle.lower_operators.specs.declared.phasing.Placed.{Placed}
 use Rattle.lower_operators.specs.Code.{of_settled}

@@ -4,11 +4,11 @@ use Rattle.std.specs.Borrow.{Bor}
 use Rattle.std.proofs.lemmas.List.{at_drop_more, at_drop_all}
 use Rattle.node_form.specs.declared.words.ExprOp.{ExprOp}
 use Rattle.node_form.specs.Expression.{words_of}
-use Rattle.zpl_lowering.specs.Where.{Numbers}
-use Rattle.zpl_lowering.specs.Reference.{Reference, all_conforming, all_referred, conforming, referred}
-use Rattle.zpl_lowering.specs.Hoist.{all_hoisted, hoisted}
-use Rattle.zpl_lowering.specs.Lowered.{rows_alone}
-use Rattle.lower_draft.specs.Drafted.{Drafted, grown}
+use Rattle.lower_regions.specs.of_zpl_lowering.Where.{Numbers}
+use Rattle.lower_regions.specs.of_zpl_lowering.Reference.{Reference, all_conforming, all_referred, conforming, referred}
+use Rattle.lower_regions.specs.of_zpl_lowering.Hoist.{all_hoisted, hoisted}
+use Rattle.lower_regions.specs.of_zpl_lowering.Lowered.{rows_alone}
+use Rattle.lower_regions.specs.of_lower_draft.Drafted.{Drafted, grown}
 use Rattle.lower_operators.specs.declared.slates.Slate.{Slate}
 use Rattle.lower_operators.specs.Code.{free_of, of_hoisted}
 use Rattle.lower_operators.specs.Once.{with_references}

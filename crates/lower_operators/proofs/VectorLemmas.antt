@@ -8,7 +8,7 @@ use Rattle.zpl_region.specs.declared.dims.Dim.TheVariants.{Range, Flood}
 use Rattle.zpl_region.specs.declared.regions.Region.{Region}
 use Rattle.zpl_region.specs.Dim.{IsUpTo}
 use Rattle.node_form.specs.Value.{unmoved}
-use Rattle.zpl_lowering.specs.Reference.{dim_shift, shift_in, vector_over}
+use Rattle.lower_regions.specs.of_zpl_lowering.Reference.{dim_shift, shift_in, vector_over}
 
 pub shifts-are : (storage : Region) (dims : List Dim) (v : List ℤ) (e : Dim) (x y z : ℤ) →
     length dims ≡ 3 → length v ≡ 3 → x ≡ dim_shift (get_or dims 0 e) (get_or v 0 (pos 0)) →

@@ -2,9 +2,9 @@
 use Rattle.std.proofs.Common.{◌≡◌, ℕ, suc, ◌+◌, ◌<◌, ◌≤◌, true, ℤ, pos, List, [], ◌∷◌, ◌++◌, map, flat_map, length, drop, get_or, refl, sym, ap, ap₂, ◌∙◌, append_assoc, append-nil, arith}
 use Rattle.std.proofs.lemmas.List.{at_drop_more, at_drop_all}
 use Rattle.zpl_nums.specs.Integer.{is_true}
-use Rattle.zpl_lowering.specs.Hoist.{border_rows, choices, kept_or_not}
-use Rattle.zpl_lowering.specs.Lowered.{rows_alone}
-use Rattle.lower_draft.specs.Drafted.{Drafted, grown}
+use Rattle.lower_regions.specs.of_zpl_lowering.Hoist.{border_rows, choices, kept_or_not}
+use Rattle.lower_regions.specs.of_zpl_lowering.Lowered.{rows_alone}
+use Rattle.lower_regions.specs.of_lower_draft.Drafted.{Drafted, grown}
 use Rattle.lower_operators.proofs.GrowthLemmas.{nothing, owning_both}
 
 -- ---- vectors

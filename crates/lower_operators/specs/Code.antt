@@ -2,11 +2,11 @@
 use Rattle.std.specs.Prelude.{◌≡◌, ℕ, Bool, List}
 use Rattle.node_form.specs.Expression.{Expression, words_of}
 use Rattle.flat_form.specs.Row.{Row, Words}
-use Rattle.zpl_lowering.specs.Where.{Next}
-use Rattle.zpl_lowering.specs.Slate.{Settled}
-use Rattle.zpl_lowering.specs.Hoist.{Hoisted, Free}
-use Rattle.zpl_lowering.specs.Lowered.{Lowered, coded, rows_alone}
-use Rattle.lower_draft.specs.Drafted.{Drafted, grown}
+use Rattle.lower_regions.specs.of_zpl_lowering.Where.{Next}
+use Rattle.lower_regions.specs.of_zpl_lowering.Slate.{Settled}
+use Rattle.lower_regions.specs.of_zpl_lowering.Hoist.{Hoisted, Free}
+use Rattle.lower_regions.specs.of_zpl_lowering.Lowered.{Lowered, coded, rows_alone}
+use Rattle.lower_regions.specs.of_lower_draft.Drafted.{Drafted, grown}
 
 -- rows, with scalars and temporaries of their own
 abbrev pub owning : ℕ → List (List Bool) → List Row → Lowered

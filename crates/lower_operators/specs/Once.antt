@@ -1,8 +1,8 @@
 -- References, each once, where it first came.
 use Rattle.std.specs.Prelude.{List, [], ◌∷◌, ◌++◌, fold, if◌then◌else◌, Option, Some, None}
 use Rattle.std.specs.List.{list_any}
-use Rattle.zpl_lowering.specs.Reference as plain
-use Rattle.zpl_lowering.specs.Reference.{is_same}
+use Rattle.lower_regions.specs.of_zpl_lowering.Reference as plain
+use Rattle.lower_regions.specs.of_zpl_lowering.Reference.{is_same}
 use Rattle.lower_operators.specs.declared.references.Reference.{Reference}
 
 abbrev pub reference_of : Reference → plain.Reference

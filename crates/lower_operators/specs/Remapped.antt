@@ -7,9 +7,9 @@ use Rattle.node_form.specs.declared.words.ExprOp.TheVariants.{Pair}
 use Rattle.node_form.specs.Expression.{Constant, Expression, words_of}
 use Rattle.flat_form.specs.Row as row
 use Rattle.flat_form.specs.Row.{Member, Row, Words}
-use Rattle.zpl_lowering.specs.Where.{Numbers, Slotted}
-use Rattle.zpl_lowering.specs.Hoist.{mask_code, rooms}
-use Rattle.zpl_lowering.specs.Lowered.{Lowered}
+use Rattle.lower_regions.specs.of_zpl_lowering.Where.{Numbers, Slotted}
+use Rattle.lower_regions.specs.of_zpl_lowering.Hoist.{mask_code, rooms}
+use Rattle.lower_regions.specs.of_zpl_lowering.Lowered.{Lowered}
 use Rattle.lower_operators.specs.Code.{owning}
 
 -- numbers from one on, as many as there are others

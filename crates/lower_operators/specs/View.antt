@@ -3,8 +3,8 @@
 use Rattle.std.specs.Prelude.{List, [], ◌∷◌, map}
 use Rattle.std.specs.Borrow.{Bor}
 use Rattle.zpl_tree.specs.View.{expr_of}
-use Rattle.zpl_lowering.specs.Slate as plain
-use Rattle.lower_places.specs.View.{slotted_of}
+use Rattle.lower_regions.specs.of_zpl_lowering.Slate as plain
+use Rattle.lower_regions.specs.of_lower_places.View.{slotted_of}
 use Rattle.lower_operators.specs.declared.slates.Slate.{Slate}
 use Rattle.lower_operators.specs.declared.slates.Slate.TheVariants.{Constant, Variable, Coordinate, Element, Shifted, Wrapped, Unary', Binary', Folded', PartFolded', Scanned', Flooded', Remapped'}
 use Rattle.lower_operators.specs.declared.slates.Slates.{Slates}

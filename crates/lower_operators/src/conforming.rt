@@ -2,14 +2,14 @@
 ghost use Rattle.std.specs.Prelude.{◌≡◌, OnOk};
 ghost use Rattle.node_form.specs.declared.instructions.Instr.TheVariants as instr;
 ghost use Rattle.flat_form.specs.Row as row;
-ghost use Rattle.zpl_lowering.specs.Lowered.{rows_alone};
-ghost use Rattle.zpl_lowering.specs.Reference as plain;
-ghost use Rattle.lower_draft.specs.Drafted.{grown, pushed};
+ghost use Rattle.lower_regions.specs.of_zpl_lowering.Lowered.{rows_alone};
+ghost use Rattle.lower_regions.specs.of_zpl_lowering.Reference as plain;
+ghost use Rattle.lower_regions.specs.of_lower_draft.Drafted.{grown, pushed};
 ghost use Rattle.lower_operators.specs.View.{slate_of, slates_in, slates_of};
 
 use crate::slates::{Slate, Slates};
-use lower_draft::{Draft, FlatRow};
-use lower_places::Slotted;
+use lower_regions::lower_draft::{Draft, FlatRow};
+use lower_regions::lower_places::Slotted;
 use node_form::{Instr, SameKind};
 use std::alloc::AllocError;
 

@@ -2,18 +2,18 @@
 ghost use Rattle.std.specs.Prelude.{◌≡◌, ◌++◌, OnOk, slice_get};
 ghost use Rattle.std.specs.Option.{option_map};
 ghost use Rattle.node_form.specs.Expression.{words_of};
-ghost use Rattle.zpl_lowering.specs.Hoist as plain;
+ghost use Rattle.lower_regions.specs.of_zpl_lowering.Hoist as plain;
 ghost use Rattle.array_terms.specs.Sound.{IsNear};
-ghost use Rattle.lower_draft.specs.Drafted.{grown};
-ghost use Rattle.lower_places.specs.Numbers.{stored_of};
+ghost use Rattle.lower_regions.specs.of_lower_draft.Drafted.{grown};
+ghost use Rattle.lower_regions.specs.of_lower_places.Numbers.{stored_of};
 ghost use Rattle.lower_operators.specs.Code.{of_hoisted};
 
 use crate::slates::Wrapped;
 use crate::vectors::{is_unmoved, vector_over};
 use crate::words::put;
 use crate::wrapping::fill_copy;
-use lower_draft::Draft;
-use lower_places::{Numbers, Stored};
+use lower_regions::lower_draft::Draft;
+use lower_regions::lower_places::{Numbers, Stored};
 use node_form::ExprOp;
 use std::alloc::AllocError;
 use zpl_region::Vec3;

@@ -1,14 +1,14 @@
 //! Operators over regions as rows: reductions, partial reductions and floods.
 ghost use Rattle.std.specs.Prelude.{◌≡◌, ◌∷◌, [], IfOk, OnOk};
 ghost use Rattle.node_form.specs.declared.words.ExprOp.TheVariants.{Here, Scalar};
-ghost use Rattle.zpl_lowering.specs.Hoist as plain;
-ghost use Rattle.lower_places.specs.View.{slotted_of};
+ghost use Rattle.lower_regions.specs.of_zpl_lowering.Hoist as plain;
+ghost use Rattle.lower_regions.specs.of_lower_places.View.{slotted_of};
 ghost use Rattle.lower_operators.specs.Code.{Hoists, Leaves};
 
 use crate::rows::{add_room, keep, push_loop, push_plain};
 use crate::words::{mask_row, word_row};
-use lower_draft::{Draft, FlatMember, FlatRow};
-use lower_places::{Numbers, Slotted};
+use lower_regions::lower_draft::{Draft, FlatMember, FlatRow};
+use lower_regions::lower_places::{Numbers, Slotted};
 use node_form::{ExprOp, ExprRow, Instr};
 use std::alloc::AllocError;
 use zpl_nums::{Fold, unit};

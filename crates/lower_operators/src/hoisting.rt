@@ -2,8 +2,8 @@
 //! before right.
 ghost use Rattle.std.specs.Prelude.{◌≡◌, ◌++◌, IfOk, OnOk, map};
 ghost use Rattle.node_form.specs.Expression.{words_of};
-ghost use Rattle.zpl_lowering.specs.Hoist as plain;
-ghost use Rattle.lower_draft.specs.Drafted.{grown};
+ghost use Rattle.lower_regions.specs.of_zpl_lowering.Hoist as plain;
+ghost use Rattle.lower_regions.specs.of_lower_draft.Drafted.{grown};
 ghost use Rattle.lower_operators.specs.Code.{free_of, of_hoisted};
 ghost use Rattle.lower_operators.specs.Sound.{AreSound, IsSound};
 ghost use Rattle.lower_operators.specs.View.{slate_of, slates_in, slates_of};
@@ -14,8 +14,8 @@ use crate::remapping::remap_over;
 use crate::scanning::{Scan, scan_over};
 use crate::slates::{Slate, Slates};
 use crate::words::{array_word, put, scalar_word, unary_word};
-use lower_draft::Draft;
-use lower_places::Numbers;
+use lower_regions::lower_draft::Draft;
+use lower_regions::lower_places::Numbers;
 use node_form::{ExprOp, ExprRow};
 use std::alloc::AllocError;
 

@@ -18,6 +18,9 @@ mod vectors;
 mod words;
 mod wrapping;
 
+pub use array_places;
+pub use lower_regions;
+pub use lower_regions::{lower_draft, lower_places};
 pub use phasing::{Placed, elementwise, phases};
 pub use references::{Reference, References, over_reference, reference_to};
 pub use rows::keep;

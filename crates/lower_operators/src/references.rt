@@ -1,16 +1,16 @@
 //! References to arrays, and the rows that see whether they lie in the storages.
 ghost use Rattle.std.specs.Prelude.{◌≡◌, [], ◌∷◌, OnOk, map};
 ghost use Rattle.std.specs.Option.{option_map};
-ghost use Rattle.zpl_lowering.specs.Lowered.{rows_alone};
-ghost use Rattle.zpl_lowering.specs.Reference as plain;
-ghost use Rattle.lower_draft.specs.Drafted.{grown};
-ghost use Rattle.lower_places.specs.Numbers.{stored_of};
-ghost use Rattle.lower_places.specs.View.{slotted_of};
+ghost use Rattle.lower_regions.specs.of_zpl_lowering.Lowered.{rows_alone};
+ghost use Rattle.lower_regions.specs.of_zpl_lowering.Reference as plain;
+ghost use Rattle.lower_regions.specs.of_lower_draft.Drafted.{grown};
+ghost use Rattle.lower_regions.specs.of_lower_places.Numbers.{stored_of};
+ghost use Rattle.lower_regions.specs.of_lower_places.View.{slotted_of};
 ghost use Rattle.lower_operators.specs.Once.{optional, reference_of, with_reference, with_references};
 
 use indexmap::IndexSet;
-use lower_draft::{Draft, FlatRow};
-use lower_places::{Numbers, Slotted, Stored};
+use lower_regions::lower_draft::{Draft, FlatRow};
+use lower_regions::lower_places::{Numbers, Slotted, Stored};
 use node_form::Instr;
 use std::alloc::{AllocError, Global};
 use std::marker::Model;
@@ -35,7 +35,7 @@ pub struct References {
 
 impl Model for References {
     ghost use Rattle.std.specs.Prelude.{List, map};
-    ghost use Rattle.zpl_lowering.specs.Reference.{Reference as Plain};
+    ghost use Rattle.lower_regions.specs.of_zpl_lowering.Reference.{Reference as Plain};
     ghost use Rattle.lower_operators.specs.Once.{reference_of};
 
     ghost Value = { List Plain };

@@ -1,15 +1,15 @@
 //! The references of expressions.
 ghost use Rattle.std.specs.Prelude.{◌≡◌, ◌∷◌, [], OnOk};
 ghost use Rattle.std.specs.Option.{option_map};
-ghost use Rattle.zpl_lowering.specs.Reference as plain;
-ghost use Rattle.lower_places.specs.Numbers.{stored_of};
+ghost use Rattle.lower_regions.specs.of_zpl_lowering.Reference as plain;
+ghost use Rattle.lower_regions.specs.of_lower_places.Numbers.{stored_of};
 ghost use Rattle.lower_operators.specs.Once.{optional, with_references};
 ghost use Rattle.lower_operators.specs.View.{slate_of, slates_in, slates_of};
 
 use crate::references::{Reference, References, over_reference, reference_to};
 use crate::slates::{Slate, Slates, Wrapped};
 use crate::vectors::vector_over;
-use lower_places::{Numbers, Stored};
+use lower_regions::lower_places::{Numbers, Stored};
 use std::alloc::AllocError;
 use zpl_region::Vec3;
 

@@ -3,12 +3,12 @@ ghost use Rattle.std.specs.Prelude.{◌≡◌, ◌∷◌, [], IfOk, OnOk};
 ghost use Rattle.node_form.specs.declared.instructions.Instr.TheVariants as instr;
 ghost use Rattle.node_form.specs.Expression.{Expression, words_of};
 ghost use Rattle.flat_form.specs.Row as row;
-ghost use Rattle.zpl_lowering.specs.Hoist as plain;
-ghost use Rattle.lower_draft.specs.Drafted.{grown, pushed, with_temp};
-ghost use Rattle.lower_draft.specs.Inline.{member_of};
+ghost use Rattle.lower_regions.specs.of_zpl_lowering.Hoist as plain;
+ghost use Rattle.lower_regions.specs.of_lower_draft.Drafted.{grown, pushed, with_temp};
+ghost use Rattle.lower_regions.specs.of_lower_draft.Inline.{member_of};
 ghost use Rattle.lower_operators.specs.Code.{owning};
 
-use lower_draft::{Draft, FlatMember, FlatRow, Flood};
+use lower_regions::lower_draft::{Draft, FlatMember, FlatRow, Flood};
 use node_form::{ExprRow, Instr};
 use std::alloc::AllocError;
 

@@ -3,17 +3,17 @@ ghost use Rattle.std.specs.Prelude.{◌≡◌, ◌+◌, ◌∷◌, [], IfOk, OnO
 ghost use Rattle.node_form.specs.declared.words.ExprOp.TheVariants.{Here};
 ghost use Rattle.node_form.specs.Expression.{Denial, Element, Expression, words_of};
 ghost use Rattle.flat_form.specs.Row as row;
-ghost use Rattle.zpl_lowering.specs.Hoist as plain;
-ghost use Rattle.lower_draft.specs.Drafted.{grown, pushed};
-ghost use Rattle.lower_draft.specs.Inline.{member_of};
-ghost use Rattle.lower_places.specs.View.{slotted_of};
+ghost use Rattle.lower_regions.specs.of_zpl_lowering.Hoist as plain;
+ghost use Rattle.lower_regions.specs.of_lower_draft.Drafted.{grown, pushed};
+ghost use Rattle.lower_regions.specs.of_lower_draft.Inline.{member_of};
+ghost use Rattle.lower_regions.specs.of_lower_places.View.{slotted_of};
 ghost use Rattle.lower_operators.specs.Code.{Hoists, Leaves, owning};
 
 use crate::rows::{add_room, keep, push_plain};
 use crate::words::{mask_row, put};
 use array_terms::Mask;
-use lower_draft::{Draft, FlatMember, FlatRow};
-use lower_places::{Numbers, Slotted};
+use lower_regions::lower_draft::{Draft, FlatMember, FlatRow};
+use lower_regions::lower_places::{Numbers, Slotted};
 use node_form::{ExprOp, ExprRow, Instr};
 use std::alloc::AllocError;
 use zpl_nums::Fold;

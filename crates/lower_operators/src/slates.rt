@@ -3,7 +3,7 @@ ghost use Rattle.std.specs.Prelude.{◌≡◌, IfOk};
 ghost use Rattle.lower_operators.specs.View.{slates_in, slates_of};
 
 use bumpalo::Bump;
-use lower_places::Slotted;
+use lower_regions::lower_places::Slotted;
 use std::alloc::{AllocError, Global};
 use zpl_nums::{Fold, Op, UnaryOp};
 use zpl_region::{Region, Vec3};

@@ -1,6 +1,6 @@
 //! Shifts.
 ghost use Rattle.std.specs.Prelude.{◌≡◌};
-ghost use Rattle.zpl_lowering.specs.Reference as plain;
+ghost use Rattle.lower_regions.specs.of_zpl_lowering.Reference as plain;
 ghost use Rattle.array_terms.specs.Sound.{IsNear};
 
 use zpl_region::{Dim, Region, Vec3};

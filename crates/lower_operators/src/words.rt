@@ -2,13 +2,13 @@
 ghost use Rattle.std.specs.Prelude.{◌≡◌, ◌∷◌, ◌++◌, [], IfOk, OnOk, slice_get};
 ghost use Rattle.std.specs.Option.{option_map};
 ghost use Rattle.node_form.specs.Expression.{Expression, words_of};
-ghost use Rattle.zpl_lowering.specs.Hoist as plain;
-ghost use Rattle.zpl_lowering.specs.Words.{variable_code};
+ghost use Rattle.lower_regions.specs.of_zpl_lowering.Hoist as plain;
+ghost use Rattle.lower_regions.specs.of_zpl_lowering.Words.{variable_code};
 ghost use Rattle.array_terms.specs.View.{mask_of};
-ghost use Rattle.lower_places.specs.Numbers.{stored_of};
+ghost use Rattle.lower_regions.specs.of_lower_places.Numbers.{stored_of};
 
 use array_terms::Mask;
-use lower_places::{Numbers, Stored};
+use lower_regions::lower_places::{Numbers, Stored};
 use node_form::{ExprOp, ExprRow};
 use std::alloc::{AllocError, Global};
 use zpl_nums::UnaryOp;

@@ -10,7 +10,7 @@ use Rattle.zpl_tree.specs.Syntax.{Name}
 use Rattle.zpl_binding.specs.Outcome.{Computed}
 use Rattle.zpl_binding.specs.Regions.{Known}
 use Rattle.zpl_bind.specs.Tables.{computed, found}
-use Rattle.zpl_lowering.specs.Bracket.{region_slot}
+use Rattle.lower_draft.specs.of_zpl_lowering.Bracket.{region_slot}
 use Rattle.lower_places.specs.RegionSlots.{region_names, slot_in, slot_or, slots_from, texts_of}
 
 -- what is found of a name is where it first stands

@@ -1,6 +1,6 @@
 -- The numbers of the store's places, in memory.
 use Rattle.std.specs.Prelude.{ℕ, List, [], map}
-use Rattle.zpl_lowering.specs.Where as plain
+use Rattle.lower_draft.specs.of_zpl_lowering.Where as plain
 use Rattle.lower_places.specs.declared.stored.Stored.{Stored}
 
 abbrev pub stored_of : Stored → plain.Stored

@@ -1,6 +1,6 @@
 -- Where a statement is lowered, as the definitions see what memory holds.
 use Rattle.std.specs.Option.{option_map}
-use Rattle.zpl_lowering.specs.Where as plain
+use Rattle.lower_draft.specs.of_zpl_lowering.Where as plain
 use Rattle.name_kinds.specs.Reach.{scope_of}
 use Rattle.array_terms.specs.View.{mask_of}
 use Rattle.array_places.specs.View.{environment_of, setup_of}

@@ -13,6 +13,7 @@ mod words;
 
 pub use index::Index;
 pub use lines::Lines;
+pub use lower_draft;
 pub use numbers::Numbers;
 pub use places::Place;
 pub use region_slots::RegionSlots;

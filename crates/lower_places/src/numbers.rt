@@ -15,7 +15,7 @@ pub struct Numbers {
 }
 
 impl Model for Numbers {
-    ghost use Rattle.zpl_lowering.specs.Where.{Numbers as Plain};
+    ghost use Rattle.lower_draft.specs.of_zpl_lowering.Where.{Numbers as Plain};
     ghost use Rattle.lower_places.specs.Numbers.{numbers_in};
 
     ghost Value = { Plain };

@@ -1,7 +1,7 @@
 //! Slots with current regions.
 ghost use Rattle.std.specs.Prelude.{◌≡◌};
 ghost use Rattle.std.specs.Option.{option_map};
-ghost use Rattle.zpl_lowering.specs.Where as plain;
+ghost use Rattle.lower_draft.specs.of_zpl_lowering.Where as plain;
 ghost use Rattle.lower_places.specs.View.{currents_of, slotted_of};
 
 use array_terms::Mask;

@@ -3,7 +3,7 @@ ghost use Rattle.std.specs.Prelude.{◌≡◌, ◌∷◌, ◌++◌, [], OnOk};
 ghost use Rattle.std.specs.Option.{option_map};
 ghost use Rattle.zpl_tree.specs.View.{expr_of};
 ghost use Rattle.node_form.specs.Expression.{words_of};
-ghost use Rattle.zpl_lowering.specs.Words.{scalar_code, thing_code, variable_code};
+ghost use Rattle.lower_draft.specs.of_zpl_lowering.Words.{scalar_code, thing_code, variable_code};
 ghost use Rattle.array_places.specs.Things.{thing_in};
 ghost use Rattle.lower_places.specs.View.{where_of};
 

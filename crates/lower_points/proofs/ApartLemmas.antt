@@ -8,8 +8,8 @@ use Rattle.zpl_lowering.specs.Lowered.{Lowered}
 use Rattle.zpl_lowering.specs.Hoist.{mask_code}
 use Rattle.zpl_lowering.specs.Statement.{Inside, has_put, kept_apart, masked_members, shattered}
 use Rattle.zpl_lowering.proofs.PutLemmas.{masked_put}
-use Rattle.lower_draft.specs.Drafted.{Drafted, grown}
-use Rattle.lower_draft.proofs.GrowthLemmas.{both_grown}
+use Rattle.lower_operators.specs.of_lower_draft.Drafted.{Drafted, grown}
+use Rattle.lower_operators.proofs.of_lower_draft.GrowthLemmas.{both_grown}
 use Rattle.lower_points.specs.Inside.{whole_inside, whole_rows}
 
 -- whatever mask is around its members

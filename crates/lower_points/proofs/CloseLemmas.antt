@@ -4,8 +4,8 @@ use Rattle.std.proofs.lemmas.List.{length-map}
 use Rattle.flat_form.specs.Row as row
 use Rattle.flat_form.specs.Row.{Member}
 use Rattle.zpl_lowering.specs.Statement.{otherwise_members}
-use Rattle.lower_draft.specs.Inline.{member_of}
-use Rattle.lower_draft.specs.declared.rows.FlatMember.{FlatMember}
+use Rattle.lower_operators.specs.of_lower_draft.Inline.{member_of}
+use Rattle.lower_operators.specs.of_lower_draft.declared.rows.FlatMember.{FlatMember}
 use Rattle.lower_points.specs.Inside.{members_in}
 
 count : (old : List FlatMember) (opened last : List Member) →

@@ -11,9 +11,9 @@ use Rattle.zpl_lowering.specs.Reference.{Reference, each_once, over_reference}
 use Rattle.zpl_lowering.specs.Lowered.{Lowered}
 use Rattle.zpl_lowering.specs.Statement.{Elementwise, Inside, arms_inside, elementwise, form_inside, masked_members, otherwise_inside, put_thing, shattered_over, stmt_inside, stmts_inside}
 use Rattle.zpl_lowering.specs.Where.{Next, Slotted, Stored, Where, reach_of, slotted_at}
-use Rattle.lower_draft.specs.Inline.{member_of}
-use Rattle.lower_draft.specs.declared.rows.FlatMember.{FlatMember}
-use Rattle.lower_places.specs.View.{where_of}
+use Rattle.lower_operators.specs.of_lower_draft.Inline.{member_of}
+use Rattle.lower_operators.specs.of_lower_draft.declared.rows.FlatMember.{FlatMember}
+use Rattle.lower_operators.specs.of_lower_places.View.{where_of}
 use Rattle.lower_points.specs.declared.points.Point.{Point}
 
 -- ---- at a point

@@ -5,7 +5,7 @@ ghost use Rattle.zpl_lowering.specs.Hoist.{mask_code};
 ghost use Rattle.array_terms.specs.View.{mask_of};
 
 use array_terms::Mask;
-use lower_places::Numbers;
+use lower_operators::lower_places::Numbers;
 use node_form::{ExprOp, ExprRow};
 use std::alloc::{AllocError, Global};
 

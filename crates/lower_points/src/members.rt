@@ -4,10 +4,10 @@ ghost use Rattle.flat_form.specs.Row as row;
 ghost use Rattle.flat_form.specs.Row.{Member};
 ghost use Rattle.zpl_lowering.specs.Statement as plain;
 ghost use Rattle.zpl_lowering.specs.Statement.{otherwise_members};
-ghost use Rattle.lower_draft.specs.Inline.{member_of};
+ghost use Rattle.lower_operators.specs.of_lower_draft.Inline.{member_of};
 ghost use Rattle.lower_points.specs.Inside.{members_in};
 
-use lower_draft::FlatMember;
+use lower_operators::lower_draft::FlatMember;
 use std::alloc::AllocError;
 
 /// Appends a member.

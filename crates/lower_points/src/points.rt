@@ -6,23 +6,23 @@ ghost use Rattle.zpl_tree.specs.View.{stmts_of};
 ghost use Rattle.zpl_meaning.specs.Points.{assigned_expr};
 ghost use Rattle.zpl_meaning.specs.Store.{thing_of};
 ghost use Rattle.std.specs.Option.{option_map};
-ghost use Rattle.array_settling.specs.Fit.{IsFit};
-ghost use Rattle.lower_places.specs.Sound.{IsPlace};
-ghost use Rattle.lower_places.specs.View.{where_of};
+ghost use Rattle.lower_operators.specs.of_array_settling.Fit.{IsFit};
+ghost use Rattle.lower_operators.specs.of_lower_places.Sound.{IsPlace};
+ghost use Rattle.lower_operators.specs.of_lower_places.View.{where_of};
 ghost use Rattle.lower_operators.specs.Once.{with_references};
 ghost use Rattle.lower_points.specs.Fit.{AreFitArms, AreFitStmts, IsFitForm};
 ghost use Rattle.lower_points.specs.Inside.{arms_at, form_at, members_in, put_at, stmts_at};
 ghost use Rattle.lower_points.specs.Inside.{stored_named, value_at};
-ghost use Rattle.lower_places.specs.Numbers.{stored_of};
+ghost use Rattle.lower_operators.specs.of_lower_places.Numbers.{stored_of};
 
 use crate::laws::{
     parts_of_fit_arms_are_fit, parts_of_fit_statements_are_fit, statements_of_a_fit_else_are_fit,
 };
 use crate::members::{close_if, push};
 use array_places::Thing;
-use lower_draft::{Draft, FlatMember};
+use lower_operators::lower_draft::{Draft, FlatMember};
+use lower_operators::lower_places::{Place, Stored};
 use lower_operators::{Reference, References, elementwise};
-use lower_places::{Place, Stored};
 use name_kinds::Rank;
 use node_form::ExprRow;
 use std::alloc::AllocError;

@@ -3,9 +3,9 @@ ghost use Rattle.std.specs.Prelude.{◌≡◌};
 ghost use Rattle.zpl_tree.specs.View.{arms_of, expr_of, statement_of};
 ghost use Rattle.zpl_names.specs.Sites as sites;
 ghost use Rattle.zpl_lowering.specs.Where.{reach_of};
-ghost use Rattle.lower_places.specs.View.{where_of};
+ghost use Rattle.lower_operators.specs.of_lower_places.View.{where_of};
 
-use lower_places::Place;
+use lower_operators::lower_places::Place;
 use name_kinds::{Rank, first_rank};
 use zpl_tree::{Arm, Expr, Form, nodes_are_seen_with_their_lists};
 

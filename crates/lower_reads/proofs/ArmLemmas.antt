@@ -1,8 +1,8 @@
 -- The reads of arms, one after another.
 use Rattle.std.proofs.Common.{◌≡◌, ◌<◌, ℕ, ◌+◌, List, ◌∷◌, drop, get_or, length, sym, ◌∙◌, ap, arith, add-one, drop-cons}
-use Rattle.zpl_tree.specs.View.{arm_of, arms_of, expr_of, stmts_of}
-use Rattle.zpl_tree.specs.declared.statements.Arm.{Arm, out-Arm}
-use Rattle.zpl_tree.proofs.Views.{arm_of-parts}
+use Rattle.zpl_lowering.specs.of_zpl_tree.View.{arm_of, arms_of, expr_of, stmts_of}
+use Rattle.zpl_lowering.specs.of_zpl_tree.declared.statements.Arm.{Arm, out-Arm}
+use Rattle.zpl_lowering.proofs.of_zpl_tree.Views.{arm_of-parts}
 use Rattle.lower_reads.specs.Reads.{arm_reads, arms_reads, expr_reads, stmts_reads}
 
 pub arms_on : (arms : List Arm) (i : ℕ) (x : Arm) (count mid new whole : ℕ) → i < length arms →

@@ -5,12 +5,12 @@ use Rattle.std.specs.List.{flat_map}
 use Rattle.std.specs.Option.{option_to_list}
 use Rattle.std.proofs.lemmas.Grind.{flat_map-append}
 use Rattle.std.proofs.lemmas.List.Sums.{sum_by-cons}
-use Rattle.zpl_tree.specs.Syntax.{Name, Pre, RegionBase, NamedRegion, Ditto, Expr, Number, Truth, Coord, Named, Shifted, Around, Remap, Call, Paren, Neg, Not, Abs, Pair, Reduce, Scan, Flood, Exprs, NoExpr, ThenExpr, Dir, NamedDir, Vector, Inner, Rexpr, Dims, NoBracket, Bracketed, Posts, NoPost, ThenPost, DimText, Blank, Star, One, Span, DimTexts, NoDim, ThenDim, Mask, Prefix, ForHead, Item, Str, Value, Base, Stmt, Prefixed, Stmts, NoStmt, ThenStmt, Form, Assign, Invoke, Block, If, While, Repeat, For, Border, Write, Return, Arm, Tested, Arms, NoArm, ThenArm, Otherwise, NoElse, Else}
+use Rattle.zpl_lowering.specs.of_zpl_tree.Syntax.{Name, Pre, RegionBase, NamedRegion, Ditto, Expr, Number, Truth, Coord, Named, Shifted, Around, Remap, Call, Paren, Neg, Not, Abs, Pair, Reduce, Scan, Flood, Exprs, NoExpr, ThenExpr, Dir, NamedDir, Vector, Inner, Rexpr, Dims, NoBracket, Bracketed, Posts, NoPost, ThenPost, DimText, Blank, Star, One, Span, DimTexts, NoDim, ThenDim, Mask, Prefix, ForHead, Item, Str, Value, Base, Stmt, Prefixed, Stmts, NoStmt, ThenStmt, Form, Assign, Invoke, Block, If, While, Repeat, For, Border, Write, Return, Arm, Tested, Arms, NoArm, ThenArm, Otherwise, NoElse, Else}
 use Rattle.zpl_nums.specs.declared.operators.Op.{Op}
-use Rattle.zpl_names.specs.Kinds.{Rank}
-use Rattle.zpl_names.specs.Ranks.{own_rank, inner_rank, is_index, mask_rank}
-use Rattle.zpl_names.specs.Sites as sites
-use Rattle.zpl_names.specs.Sites.{Reach, Role, Site, AtWhole, AtExpr, AtNamed, AtMask, Bound, Component, Operand, Actual, Limit, Test, Printed, Assigned, Result, actuals_sites, arm_sites, arms_rank, arms_sites, body_sites, components_sites, dim_sites, dims_sites, dir_sites, expr_sites, exprs_sites, form_sites, in_vector, index_sites, inside, item_sites, otherwise_sites, outermost_sites, over_source, posts_sites, prefix_sites, prefixes_sites, region_sites, step_sites, stmt_sites, stmts_sites, test_rank, under_prefix, under_prefixes, value_sites, whole_rank, whole_sites}
+use Rattle.zpl_lowering.specs.of_zpl_names.Kinds.{Rank}
+use Rattle.zpl_lowering.specs.of_zpl_names.Ranks.{own_rank, inner_rank, is_index, mask_rank}
+use Rattle.zpl_lowering.specs.of_zpl_names.Sites as sites
+use Rattle.zpl_lowering.specs.of_zpl_names.Sites.{Reach, Role, Site, AtWhole, AtExpr, AtNamed, AtMask, Bound, Component, Operand, Actual, Limit, Test, Printed, Assigned, Result, actuals_sites, arm_sites, arms_rank, arms_sites, body_sites, components_sites, dim_sites, dims_sites, dir_sites, expr_sites, exprs_sites, form_sites, in_vector, index_sites, inside, item_sites, otherwise_sites, outermost_sites, over_source, posts_sites, prefix_sites, prefixes_sites, region_sites, step_sites, stmt_sites, stmts_sites, test_rank, under_prefix, under_prefixes, value_sites, whole_rank, whole_sites}
 use Rattle.zpl_lowering.specs.Program.{reads_at}
 use Rattle.lower_reads.specs.Reads.{expr_reads, exprs_reads, dir_reads, inner_reads, posts_reads, dim_reads, dims_reads, prefixes_reads, item_reads, step_reads, head_reads, stmt_reads, stmts_reads, form_reads, arms_reads, arm_reads, otherwise_reads}
 

@@ -1,7 +1,7 @@
 //! Reads that wrap round in expressions.
 ghost use Rattle.std.specs.Prelude.{◌≡◌, ◌+◌, OnOk, map};
-ghost use Rattle.zpl_tree.specs.View.{dim_of, dims_of, dir_of, expr_of, exprs_of};
-ghost use Rattle.zpl_tree.specs.View.{inner_of, posts_of, prefix_of};
+ghost use Rattle.zpl_lowering.specs.of_zpl_tree.View.{dim_of, dims_of, dir_of, expr_of, exprs_of};
+ghost use Rattle.zpl_lowering.specs.of_zpl_tree.View.{inner_of, posts_of, prefix_of};
 ghost use Rattle.lower_reads.specs.Reads.{dim_reads, dims_reads, dir_reads, expr_reads};
 ghost use Rattle.lower_reads.specs.Reads.{exprs_reads, inner_reads, posts_reads, prefixes_reads};
 

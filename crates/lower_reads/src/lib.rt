@@ -6,3 +6,4 @@ mod procedures;
 mod statements;
 
 pub use procedures::{all_reads, reads_of};
+pub use zpl_lowering::text_sharing;

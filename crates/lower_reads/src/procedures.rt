@@ -1,6 +1,6 @@
 //! Reads that wrap round in procedures.
 ghost use Rattle.std.specs.Prelude.{◌≡◌, IfOk, map};
-ghost use Rattle.zpl_tree.specs.View.{syntax_of};
+ghost use Rattle.zpl_lowering.specs.of_zpl_tree.View.{syntax_of};
 ghost use Rattle.zpl_lowering.specs.Program.{reads_round};
 ghost use Rattle.routine_walks.specs.Texts.{routine_of};
 

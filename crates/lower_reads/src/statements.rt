@@ -1,7 +1,7 @@
 //! Reads that wrap round in statements.
 ghost use Rattle.std.specs.Prelude.{◌≡◌, ◌+◌, OnOk, map, sum_by};
 ghost use Rattle.std.specs.Option.{option_map};
-ghost use Rattle.zpl_tree.specs.View.{arms_of, expr_of, head_of, item_of, stmt_of, stmts_of};
+ghost use Rattle.zpl_lowering.specs.of_zpl_tree.View.{arms_of, expr_of, head_of, item_of, stmt_of, stmts_of};
 ghost use Rattle.lower_reads.specs.Reads.{arms_reads, head_reads, item_reads, step_reads};
 ghost use Rattle.lower_reads.specs.Reads.{stmt_reads, stmts_reads};
 

@@ -8,8 +8,8 @@ use Rattle.zpl_tree.specs.declared.regions.Post.{Post}
 use Rattle.zpl_tree.specs.declared.regions.Pre.{Pre as Before}
 use Rattle.zpl_names.specs.Ranks.{is_index}
 use Rattle.zpl_binding.specs.Regions.{Known}
-use Rattle.zpl_lowering.specs.Where.{Slotted, Where}
-use Rattle.zpl_lowering.specs.Bracket.{Form, Opened, computed, fixed_or, formed, forms_of, name_opened, named_region, one_row, pre_forms, standing}
+use Rattle.lower_places.specs.of_zpl_lowering.Where.{Slotted, Where}
+use Rattle.lower_places.specs.of_zpl_lowering.Bracket.{Form, Opened, computed, fixed_or, formed, forms_of, name_opened, named_region, one_row, pre_forms, standing}
 use Rattle.lower_regions.specs.Opened.{are_none, fixed_at, has_no}
 
 behind_some : (rows : List Row) (row : Row) → are_none (rows ++ row ∷ []) ≡ false

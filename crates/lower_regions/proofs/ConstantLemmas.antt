@@ -14,8 +14,8 @@ use Rattle.zpl_meaning.specs.Computed.{Computed, Traps}
 use Rattle.zpl_meaning.specs.Context.{Place, Setup}
 use Rattle.zpl_meaning.specs.Regions.{computed_of, current_for, name_in, region_in}
 use Rattle.zpl_meaning.specs.Store.{Store}
-use Rattle.zpl_lowering.specs.Where.{Where}
-use Rattle.zpl_lowering.specs.Bracket.{constant_name, constant_region, within}
+use Rattle.lower_places.specs.of_zpl_lowering.Where.{Where}
+use Rattle.lower_places.specs.of_zpl_lowering.Bracket.{constant_name, constant_region, within}
 use Rattle.array_stops.specs.Answer.{Computes}
 
 -- ---- a value, or a fault

@@ -5,8 +5,8 @@ use Rattle.zpl_tree.specs.View.{posts_of, pre_of}
 use Rattle.zpl_tree.specs.declared.regions.Post.{Post}
 use Rattle.zpl_tree.specs.declared.regions.Pre.{Pre}
 use Rattle.zpl_binding.specs.Regions.{Known}
-use Rattle.zpl_lowering.specs.Where.{Slotted}
-use Rattle.zpl_lowering.specs.Statement.{edge_of}
+use Rattle.lower_places.specs.of_zpl_lowering.Where.{Slotted}
+use Rattle.lower_places.specs.of_zpl_lowering.Statement.{edge_of}
 
 no-post : (length {A = Post} [] == 0) ≡ false → ⊥
 no-post e = cc

@@ -7,8 +7,8 @@ use Rattle.zpl_tree.specs.View.{posts_of, pre_of}
 use Rattle.zpl_tree.specs.declared.regions.Post.{Post}
 use Rattle.zpl_tree.specs.declared.regions.Pre.{Pre as Before}
 use Rattle.zpl_binding.specs.Regions.{Known}
-use Rattle.zpl_lowering.specs.Bracket.{Form, Opened, formed, post_forms, pre_forms, standing}
-use Rattle.lower_draft.specs.Drafted.{Drafted}
+use Rattle.lower_places.specs.of_zpl_lowering.Bracket.{Form, Opened, formed, post_forms, pre_forms, standing}
+use Rattle.lower_places.specs.of_lower_draft.Drafted.{Drafted}
 use Rattle.lower_regions.specs.declared.opened.Opened as code
 use Rattle.lower_regions.specs.Opened.{IsOpened, standing_at, with_opened}
 use Rattle.lower_regions.proofs.OpenedLemmas.{opened_then, standing_grown, then_grown}

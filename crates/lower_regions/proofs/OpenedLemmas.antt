@@ -2,13 +2,13 @@
 use Rattle.std.proofs.Common.{◌≡◌, ℕ, ◌+◌, Bool, List, [], ◌∷◌, ◌++◌, length, refl, sym, ap, ◌∙◌, arith, append_assoc, length-append}
 use Rattle.node_form.specs.declared.tables.Tables.{Tables}
 use Rattle.flat_form.specs.Row.{Row, with_rows}
-use Rattle.zpl_lowering.specs.Bracket.{Opened, filled, standing}
-use Rattle.lower_draft.specs.Drafted.{Drafted, all_pushed, pushed, with_slot}
-use Rattle.lower_draft.proofs.GrowthLemmas.{rows_grown, slot_grown}
-use Rattle.lower_draft.proofs.LaidLemmas.{rows_behind}
+use Rattle.lower_places.specs.of_zpl_lowering.Bracket.{Opened, filled, standing}
+use Rattle.lower_places.specs.of_lower_draft.Drafted.{Drafted, all_pushed, pushed, with_slot}
+use Rattle.lower_places.proofs.of_lower_draft.GrowthLemmas.{rows_grown, slot_grown}
+use Rattle.lower_places.proofs.of_lower_draft.LaidLemmas.{rows_behind}
 use Rattle.zpl_tree.specs.Syntax.{Prefix}
-use Rattle.zpl_lowering.specs.Where.{Where}
-use Rattle.zpl_lowering.specs.Statement.{under_prefix}
+use Rattle.lower_places.specs.of_zpl_lowering.Where.{Where}
+use Rattle.lower_places.specs.of_zpl_lowering.Statement.{under_prefix}
 use Rattle.lower_regions.specs.declared.opened.Opened as code
 use Rattle.lower_regions.specs.Opened.{IsOpened, standing_at, with_opened}
 

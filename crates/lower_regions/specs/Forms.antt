@@ -2,7 +2,7 @@
 use Rattle.std.specs.Prelude.{ℕ, List}
 use Rattle.zpl_tree.specs.Syntax.{Pre, Posts}
 use Rattle.zpl_binding.specs.Regions.{Known}
-use Rattle.zpl_lowering.specs.Bracket as plain
+use Rattle.lower_places.specs.of_zpl_lowering.Bracket as plain
 use Rattle.lower_regions.specs.declared.forms.Form.{Form}
 use Rattle.lower_regions.specs.declared.opened.Opened.{Opened}
 use Rattle.lower_regions.specs.Opened.{standing_at}

@@ -4,10 +4,10 @@ use Rattle.zpl_region.specs.declared.regions.Region.{Region}
 use Rattle.node_form.specs.declared.instructions.Instr.TheVariants as instr
 use Rattle.flat_form.specs.Row as row
 use Rattle.flat_form.specs.Row.{Part, Row}
-use Rattle.zpl_lowering.specs.Where.{flood_of}
-use Rattle.zpl_lowering.specs.Bracket as plain
-use Rattle.zpl_lowering.specs.Statement.{of_opened}
-use Rattle.lower_draft.specs.Drafted.{Drafted, grown}
+use Rattle.lower_places.specs.of_zpl_lowering.Where.{flood_of}
+use Rattle.lower_places.specs.of_zpl_lowering.Bracket as plain
+use Rattle.lower_places.specs.of_zpl_lowering.Statement.{of_opened}
+use Rattle.lower_places.specs.of_lower_draft.Drafted.{Drafted, grown}
 use Rattle.lower_regions.specs.declared.opened.Opened.{Opened}
 
 -- the draft behind the rows of a bracket

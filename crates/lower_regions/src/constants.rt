@@ -9,7 +9,7 @@ ghost use Rattle.zpl_binding.specs.Regions.{limited};
 ghost use Rattle.zpl_tree.specs.Syntax.{Name as PlainName, Named, NamedRegion, NoDim, One, Posts};
 ghost use Rattle.zpl_tree.specs.Syntax.{Pre as Before, Rexpr, ThenDim};
 ghost use Rattle.zpl_tree.specs.View.{dim_of, dims_of, expr_of, inner_of, name_of};
-ghost use Rattle.zpl_lowering.specs.Bracket as plain;
+ghost use Rattle.lower_places.specs.of_zpl_lowering.Bracket as plain;
 ghost use Rattle.array_places.specs.Sound.{IsPlace as IsRunPlace};
 ghost use Rattle.array_places.specs.Things.{thing_in};
 ghost use Rattle.array_places.specs.View.{environment_of, place_of};

@@ -2,13 +2,13 @@
 ghost use Rattle.std.specs.Prelude.{◌≡◌, ◌++◌, ◌∷◌, [], IfOk, OnOk, map};
 ghost use Rattle.zpl_tree.specs.View.{posts_of, pre_of};
 ghost use Rattle.zpl_bind.specs.Known.{IsKnown, known_in};
-ghost use Rattle.zpl_lowering.specs.Bracket as plain;
+ghost use Rattle.lower_places.specs.of_zpl_lowering.Bracket as plain;
 ghost use Rattle.lower_regions.specs.Forms.{form_of, forms_in};
 ghost use Rattle.lower_regions.specs.Opened.{IsOpened, standing_at, with_opened};
 
 use crate::opened::Opened;
 use array_regions::vector_in;
-use lower_draft::{Draft, FlatRow};
+use lower_places::lower_draft::{Draft, FlatRow};
 use node_form::{Instr, RegionForm};
 use std::alloc::{AllocError, Global};
 use zpl_bind::Known;

@@ -10,5 +10,7 @@ mod spans;
 
 pub use brackets::{bracket, computed};
 pub use constants::{constant_of, constant_region};
+pub use lower_places;
+pub use lower_places::lower_draft;
 pub use opened::Opened;
 pub use prefixes::{current_for, open_prefix};

@@ -1,6 +1,6 @@
 //! Where the region of a bracket is.
 
-use lower_draft::Flood;
+use lower_places::lower_draft::Flood;
 
 /// Where the region of a bracket is behind its rows.
 #[derive(Clone, Copy)]

@@ -3,15 +3,15 @@ ghost use Rattle.std.specs.Prelude.{◌≡◌, ◌≤◌, IfOk, OnOk, length, ma
 ghost use Rattle.zpl_tree.specs.Syntax.{Named, NoDim, One, ThenDim};
 ghost use Rattle.zpl_tree.specs.View.{dim_of, dims_of, expr_of, name_of};
 ghost use Rattle.node_form.specs.Expression.{words_of};
-ghost use Rattle.zpl_lowering.specs.Bracket as plain;
-ghost use Rattle.zpl_lowering.specs.Where.{Slotted as Plain};
-ghost use Rattle.zpl_lowering.specs.Words.{scalar_code};
-ghost use Rattle.lower_draft.specs.Inline.{part_of as seen_part};
+ghost use Rattle.lower_places.specs.of_zpl_lowering.Bracket as plain;
+ghost use Rattle.lower_places.specs.of_zpl_lowering.Where.{Slotted as Plain};
+ghost use Rattle.lower_places.specs.of_zpl_lowering.Words.{scalar_code};
+ghost use Rattle.lower_places.specs.of_lower_draft.Inline.{part_of as seen_part};
 ghost use Rattle.lower_places.specs.View.{slotted_of, where_of};
 ghost use Rattle.lower_regions.specs.Opened.{IsOpened, span_of, with_opened};
 
 use crate::opened::Opened;
-use lower_draft::{Draft, FlatPart, FlatRow, Flood};
+use lower_places::lower_draft::{Draft, FlatPart, FlatRow, Flood};
 use lower_places::{Place, Slotted, put_scalar_words, thing_word};
 use node_form::ExprRow;
 use std::alloc::{AllocError, Global};

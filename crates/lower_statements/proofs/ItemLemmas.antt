@@ -23,7 +23,7 @@ use Rattle.lower_draft.specs.declared.rows.FlatRow.{FlatRow}
 use Rattle.lower_draft.proofs.GrowthLemmas.{scalars_grown}
 use Rattle.lower_statements.specs.Writes.{behind_item, is_boolean, print_of, rows_in, shown_alone, value_of}
 use Rattle.lower_statements.proofs.RowLemmas.{nothing_grown}
-use Rattle.lower_operators.specs.Code.{owning}
+use Rattle.lower_points.specs.of_lower_operators.Code.{owning}
 
 -- ---- values
 

@@ -20,7 +20,7 @@ use Rattle.lower_draft.specs.Drafted.{Drafted, all_pushed, grown, pushed, rows_f
 use Rattle.lower_draft.specs.Inline.{row_of}
 use Rattle.lower_draft.specs.declared.rows.FlatRow.{FlatRow}
 use Rattle.lower_draft.proofs.GrowthLemmas.{both_grown, rows_grown}
-use Rattle.lower_operators.specs.Code.{owning}
+use Rattle.lower_points.specs.of_lower_operators.Code.{owning}
 use Rattle.lower_points.specs.Fit.{AreFitItems}
 use Rattle.lower_statements.specs.Writes.{behind_item, print_of, rows_in, shown_alone, value_of, values_of}
 use Rattle.lower_statements.proofs.RowLemmas.{nothing_grown}

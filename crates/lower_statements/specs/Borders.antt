@@ -5,7 +5,7 @@ use Rattle.zpl_meaning.specs.Store.{Thing}
 use Rattle.flat_form.specs.Row.{Row}
 use Rattle.zpl_lowering.specs.Statement.{border_rows, border_thing, each_border}
 use Rattle.zpl_lowering.specs.Where.{Numbers, Stored, Where}
-use Rattle.lower_places.specs.View.{edge_of}
+use Rattle.lower_points.specs.of_lower_places.View.{edge_of}
 use Rattle.lower_statements.specs.declared.borders.Bordering.{Bordering}
 
 -- the rows of one array

@@ -6,14 +6,14 @@ ghost use Rattle.zpl_meaning.specs.Store.{thing_of};
 ghost use Rattle.zpl_lowering.specs.Statement as plain;
 ghost use Rattle.zpl_lowering.specs.Where.{slotted_at};
 ghost use Rattle.lower_draft.specs.Drafted.{all_pushed, grown};
-ghost use Rattle.lower_places.specs.Numbers.{stored_of};
-ghost use Rattle.lower_places.specs.Sound.{IsPlace};
-ghost use Rattle.lower_places.specs.View.{edge_of, where_of};
+ghost use Rattle.lower_points.specs.of_lower_places.Numbers.{stored_of};
+ghost use Rattle.lower_points.specs.of_lower_places.Sound.{IsPlace};
+ghost use Rattle.lower_points.specs.of_lower_places.View.{edge_of, where_of};
 ghost use Rattle.lower_statements.specs.Borders.{each_at, rows_at, thing_at};
 
 use array_places::Thing;
 use lower_draft::{Draft, FlatRow};
-use lower_places::{Place, SlotEdge, Stored};
+use lower_points::lower_places::{Place, SlotEdge, Stored};
 use node_form::{Instr, RegionForm};
 use std::alloc::AllocError;
 use zpl_nums::Border;

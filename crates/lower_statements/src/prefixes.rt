@@ -2,14 +2,14 @@
 ghost use Rattle.std.specs.Prelude.{◌≡◌, ◌+◌, ◌<◌, IfOk, drop, length, map};
 ghost use Rattle.zpl_tree.specs.View.{prefix_of};
 ghost use Rattle.zpl_lowering.specs.Statement as plain;
-ghost use Rattle.lower_places.specs.Sound.{IsPlace};
-ghost use Rattle.lower_places.specs.View.{where_of};
+ghost use Rattle.lower_points.specs.of_lower_places.Sound.{IsPlace};
+ghost use Rattle.lower_points.specs.of_lower_places.View.{where_of};
 ghost use Rattle.lower_points.specs.Fit.{AreFitPrefixes};
 ghost use Rattle.lower_statements.specs.Prefixes.{IsBehind};
 
 use lower_draft::Draft;
-use lower_places::Place;
-use lower_regions::open_prefix;
+use lower_points::lower_places::Place;
+use lower_points::lower_regions::open_prefix;
 use std::alloc::AllocError;
 use zpl_tree::Prefix;
 

@@ -3,17 +3,17 @@ ghost use Rattle.std.specs.Prelude.{◌≡◌, [], ◌∷◌, IfOk, OnOk, List, 
 ghost use Rattle.zpl_tree.specs.View.{expr_of};
 ghost use Rattle.node_form.specs.Expression.{Expression, words_of};
 ghost use Rattle.zpl_lowering.specs.Lowered.{first_left, phased_with};
-ghost use Rattle.array_settling.specs.Fit.{IsFit};
+ghost use Rattle.lower_points.specs.of_array_settling.Fit.{IsFit};
 ghost use Rattle.lower_draft.specs.Drafted.{grown, opened};
-ghost use Rattle.lower_places.specs.Sound.{IsPlace};
-ghost use Rattle.lower_places.specs.View.{where_of};
-ghost use Rattle.lower_operators.specs.Once.{optional};
-ghost use Rattle.lower_operators.specs.View.{placed_of};
+ghost use Rattle.lower_points.specs.of_lower_places.Sound.{IsPlace};
+ghost use Rattle.lower_points.specs.of_lower_places.View.{where_of};
+ghost use Rattle.lower_points.specs.of_lower_operators.Once.{optional};
+ghost use Rattle.lower_points.specs.of_lower_operators.View.{placed_of};
 ghost use Rattle.lower_statements.specs.Tests.{test_at};
 
 use lower_draft::{Draft, Pending};
-use lower_operators::{Placed, Reference, phases};
-use lower_places::Place;
+use lower_points::lower_operators::{Placed, Reference, phases};
+use lower_points::lower_places::Place;
 use node_form::{ExprOp, ExprRow};
 use std::alloc::{AllocError, Global};
 use zpl_tree::Expr;

@@ -12,11 +12,11 @@ ghost use Rattle.zpl_lowering.specs.Statement.{is_truth, items_of, lowered_write
 ghost use Rattle.zpl_lowering.specs.Statement.{printed_exprs, scalar_print, shown_of};
 ghost use Rattle.lower_draft.specs.Drafted.{grown, pushed, with_scalars};
 ghost use Rattle.lower_draft.specs.Inline.{row_of};
-ghost use Rattle.lower_places.specs.Sound.{IsPlace};
-ghost use Rattle.lower_places.specs.View.{where_of};
-ghost use Rattle.lower_operators.specs.Code.{owning};
-ghost use Rattle.lower_operators.specs.Sound.{AreFitPlaced};
-ghost use Rattle.lower_operators.specs.View.{placed_of};
+ghost use Rattle.lower_points.specs.of_lower_places.Sound.{IsPlace};
+ghost use Rattle.lower_points.specs.of_lower_places.View.{where_of};
+ghost use Rattle.lower_points.specs.of_lower_operators.Code.{owning};
+ghost use Rattle.lower_points.specs.of_lower_operators.Sound.{AreFitPlaced};
+ghost use Rattle.lower_points.specs.of_lower_operators.View.{placed_of};
 ghost use Rattle.lower_points.specs.Fit.{AreFitItems};
 ghost use Rattle.std.specs.Vec.Iter.{into_iter_items};
 ghost use Rattle.lower_statements.specs.Writes.{behind_item, is_boolean, print_of, rows_in};
@@ -25,8 +25,8 @@ ghost use Rattle.lower_statements.specs.Writes.{value_of, values_of};
 
 use crate::values::push_alone;
 use lower_draft::{Draft, FlatRow};
-use lower_operators::{Placed, keep, phases};
-use lower_places::{Place, Slotted};
+use lower_points::lower_operators::{Placed, keep, phases};
+use lower_points::lower_places::{Place, Slotted};
 use name_kinds::{BaseType, is_above_zero, part_of};
 use node_form::{ExprOp, ExprRow, Instr, TextRow};
 use std::alloc::{AllocError, Global};

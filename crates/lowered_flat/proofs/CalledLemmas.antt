@@ -17,13 +17,13 @@ use Rattle.zpl_names.proofs.ListLemmas.{Among, Contains-from_among}
 use Rattle.zpl_names.proofs.NameLemmas.{kind_in-distinct}
 use Rattle.zpl_binding.specs.Formals.{is_array_name}
 use Rattle.zpl_binding.specs.Regions.{Known}
-use Rattle.zpl_meaning.specs.Context.{Setup}
-use Rattle.zpl_meaning.specs.Store.{Thing, Scalar, ArrayAt, Names}
-use Rattle.zpl_meaning.specs.Variables.{home_box}
-use Rattle.zpl_meaning.proofs.VisitLemmas.{found_in}
-use Rattle.zpl_lowering.specs.Where.{Next}
-use Rattle.zpl_lowering.specs.Statement.{Given, Valued, Copied, Referring}
-use Rattle.zpl_lowering.specs.Program.{Framed, Entry as CallEntry}
+use Rattle.lowering_fits.specs.of_zpl_meaning.Context.{Setup}
+use Rattle.lowering_fits.specs.of_zpl_meaning.Store.{Thing, Scalar, ArrayAt, Names}
+use Rattle.lowering_fits.specs.of_zpl_meaning.Variables.{home_box}
+use Rattle.lowering_fits.proofs.of_zpl_meaning.VisitLemmas.{found_in}
+use Rattle.lowering_fits.specs.of_zpl_lowering.Where.{Next}
+use Rattle.lowering_fits.specs.of_zpl_lowering.Statement.{Given, Valued, Copied, Referring}
+use Rattle.lowering_fits.specs.of_zpl_lowering.Program.{Framed, Entry as CallEntry}
 use Rattle.lowering_fits.specs.Reach.{named_thing}
 use Rattle.lowering_fits.specs.Whole.{given_frame, given_frames, local_frame, local_frames, name_frames}
 use Rattle.lowered_flat.proofs.HomeLemmas.{AreLocal, AreTaken, IsHomeAt, IsLocal, IsToldHome, IsToldThing, LocalAs, TakenAs, global_declared, global_told, local_declared, local_found, push_count, push_store, push_take, stands_itself, taken_found}

@@ -24,7 +24,7 @@ use Rattle.zpl_binding.specs.Outcome.{Outcome, Gives, Fails, RegionLimit, and_th
 use Rattle.zpl_binding.specs.Regions.{Known, limited}
 use Rattle.zpl_binding.specs.Storages.{home_at}
 use Rattle.zpl_binding.specs.Vectors.{dir_of, three_components}
-use Rattle.zpl_meaning.specs.Regions.{vector_in}
+use Rattle.lowering_fits.specs.of_zpl_meaning.Regions.{vector_in}
 use Rattle.lowering_fits.specs.Reach.{IsBox}
 use Rattle.lowering_fits.specs.Storages.{AllBoxed, IsStorage}
 use Rattle.lowering_fits.proofs.ArrayLemmas.{PadsFrom, pads}

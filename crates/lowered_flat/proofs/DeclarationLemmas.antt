@@ -19,12 +19,12 @@ use Rattle.zpl_names.proofs.FaultlessLemmas.{clean_text, left-among}
 use Rattle.zpl_binding.specs.Settings.{Setting}
 use Rattle.zpl_binding.specs.Declarations.{known_of}
 use Rattle.zpl_binding.specs.Storages.{Shaped, arrays_of, borders_of, home_of, shaped_by, shaped_in, shaped_over, storage_of}
-use Rattle.zpl_meaning.specs.Context.{Setup}
-use Rattle.zpl_meaning.specs.Given.{IsGiven}
-use Rattle.zpl_meaning.specs.Variables.{home_box, storage_box}
-use Rattle.zpl_meaning.specs.Visited.{first_setup}
-use Rattle.zpl_meaning.proofs.NamesLemmas.{IsGood, IsSound, globals_shaped, routine_sound}
-use Rattle.zpl_meaning.proofs.VisitLemmas.{Laws, all_good, find_among}
+use Rattle.lowering_fits.specs.of_zpl_meaning.Context.{Setup}
+use Rattle.lowering_fits.specs.of_zpl_meaning.Given.{IsGiven}
+use Rattle.lowering_fits.specs.of_zpl_meaning.Variables.{home_box, storage_box}
+use Rattle.lowering_fits.specs.of_zpl_meaning.Visited.{first_setup}
+use Rattle.lowering_fits.proofs.of_zpl_meaning.NamesLemmas.{IsGood, IsSound, globals_shaped, routine_sound}
+use Rattle.lowering_fits.proofs.of_zpl_meaning.VisitLemmas.{Laws, all_good, find_among}
 use Rattle.lowering_fits.specs.Declarations.{FitsDeclared, FitAllDeclared, FitGlobals, FitsDecl, FitDecls, FitsProgram}
 use Rattle.lowering_fits.proofs.BracketLemmas.{LimitsAreTold}
 use Rattle.lowering_fits.proofs.MadeWholeLemmas.{entry_is_there}

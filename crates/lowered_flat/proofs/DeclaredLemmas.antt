@@ -19,13 +19,13 @@ use Rattle.zpl_binding.specs.Declarations.{known_of}
 use Rattle.zpl_binding.specs.Outcome.{BindFault, Outcome, Gives, Fails, outcome_map, value_or}
 use Rattle.zpl_binding.specs.Regions.{Known, inner_of, no_region}
 use Rattle.zpl_binding.specs.Storages.{Border, Shaped, arrays_of, borders_of, home_of, storage_of}
-use Rattle.zpl_meaning.specs.Given.{IsGiven}
-use Rattle.zpl_meaning.specs.Proper.{IsArrayRank}
-use Rattle.zpl_meaning.specs.Variables.{home_box, storage_box}
-use Rattle.zpl_meaning.specs.Visited.{first_setup}
-use Rattle.meaning_ranks.specs.Shaped.{AreFloods}
-use Rattle.meaning_ranks.proofs.ShapeLemmas.{Fits}
-use Rattle.meaning_ranks.proofs.RegionLemmas.{globals_fit, inner_fits, names_once}
+use Rattle.lowering_fits.specs.of_zpl_meaning.Given.{IsGiven}
+use Rattle.lowering_fits.specs.of_zpl_meaning.Proper.{IsArrayRank}
+use Rattle.lowering_fits.specs.of_zpl_meaning.Variables.{home_box, storage_box}
+use Rattle.lowering_fits.specs.of_zpl_meaning.Visited.{first_setup}
+use Rattle.lowering_fits.specs.of_meaning_ranks.Shaped.{AreFloods}
+use Rattle.lowering_fits.proofs.of_meaning_ranks.ShapeLemmas.{Fits}
+use Rattle.lowering_fits.proofs.of_meaning_ranks.RegionLemmas.{globals_fit, inner_fits, names_once}
 use Rattle.node_form.specs.Fits.{IsRank}
 use Rattle.lowering_fits.specs.Slates.{AllRanges, FitsBox}
 use Rattle.lowering_fits.specs.Reach.{IsStoredAs}

@@ -8,12 +8,12 @@ use Rattle.zpl_names.specs.Expansion.{FormalName}
 use Rattle.zpl_names.proofs.ListLemmas.{Among}
 use Rattle.zpl_binding.specs.Formals.{Handed, each_handed}
 use Rattle.zpl_binding.specs.Regions.{Known}
-use Rattle.zpl_meaning.specs.Context.{Place}
-use Rattle.zpl_meaning.specs.Store.{Thing, Scalar, ArrayAt, Fixed, Environment, thing_of}
-use Rattle.zpl_meaning.specs.Calls.{actual_thing}
-use Rattle.zpl_meaning.specs.Proper.{AreProperActuals, IsArray, IsVariable}
-use Rattle.zpl_lowering.specs.Where.{Stored, Where}
-use Rattle.zpl_lowering.specs.Statement.{Given, Copied, copying, given_to, referring}
+use Rattle.lowering_fits.specs.of_zpl_meaning.Context.{Place}
+use Rattle.lowering_fits.specs.of_zpl_meaning.Store.{Thing, Scalar, ArrayAt, Fixed, Environment, thing_of}
+use Rattle.lowering_fits.specs.of_zpl_meaning.Calls.{actual_thing}
+use Rattle.lowering_fits.specs.of_zpl_meaning.Proper.{AreProperActuals, IsArray, IsVariable}
+use Rattle.lowering_fits.specs.of_zpl_lowering.Where.{Stored, Where}
+use Rattle.lowering_fits.specs.of_zpl_lowering.Statement.{Given, Copied, copying, given_to, referring}
 use Rattle.lowered_flat.proofs.HomeLemmas.{IsToldHome}
 use Rattle.lowered_flat.proofs.CalledLemmas.{AreGiven}
 

@@ -17,12 +17,12 @@ use Rattle.zpl_binding.specs.Settings.{Setting}
 use Rattle.zpl_binding.specs.Declarations.{known_of}
 use Rattle.zpl_binding.specs.Regions.{Known}
 use Rattle.zpl_binding.specs.Storages.{Border, Shaped, arrays_of, borders_of, home_of, home_or, shaped_by, shaped_in, shaped_over, storage_of}
-use Rattle.zpl_meaning.specs.Context.{Setup}
-use Rattle.zpl_meaning.specs.Given.{IsGiven}
-use Rattle.zpl_meaning.specs.Program.{first_frame}
-use Rattle.zpl_meaning.specs.Store.{Thing, Scalar, ArrayAt, Fixed, Names}
-use Rattle.zpl_meaning.specs.Variables.{Frame, empty_frame, home_box, with_declarations, with_declared, with_name, with_names, with_values, with_variables}
-use Rattle.zpl_meaning.specs.Visited.{first_setup}
+use Rattle.lowering_fits.specs.of_zpl_meaning.Context.{Setup}
+use Rattle.lowering_fits.specs.of_zpl_meaning.Given.{IsGiven}
+use Rattle.lowering_fits.specs.of_zpl_meaning.Program.{first_frame}
+use Rattle.lowering_fits.specs.of_zpl_meaning.Store.{Thing, Scalar, ArrayAt, Fixed, Names}
+use Rattle.lowering_fits.specs.of_zpl_meaning.Variables.{Frame, empty_frame, home_box, with_declarations, with_declared, with_name, with_names, with_values, with_variables}
+use Rattle.lowering_fits.specs.of_zpl_meaning.Visited.{first_setup}
 use Rattle.lowering_fits.specs.Slates.{FitsBox}
 use Rattle.lowering_fits.specs.Declarations.{FitsDeclared, FitAllDeclared, FitGlobals, FitsDecl, FitDecls}
 use Rattle.lowering_fits.specs.Reach.{named_thing}

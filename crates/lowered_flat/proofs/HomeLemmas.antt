@@ -19,7 +19,7 @@ use Rattle.zpl_binding.specs.Formals as formals
 use Rattle.zpl_binding.specs.Outcome.{Gives}
 use Rattle.zpl_binding.specs.Regions.{Known}
 use Rattle.zpl_binding.specs.Storages.{Shaped, home_at}
-use Rattle.zpl_meaning.specs.Store.{Thing, Scalar, ArrayAt, Fixed, Names}
+use Rattle.lowering_fits.specs.of_zpl_meaning.Store.{Thing, Scalar, ArrayAt, Fixed, Names}
 use Rattle.lowering_fits.specs.Reach.{named_thing}
 use Rattle.lowering_fits.specs.Storages.{IsStorage}
 use Rattle.lowered_flat.specs.Apart.{AreApart}

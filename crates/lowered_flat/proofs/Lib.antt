@@ -15,3 +15,4 @@ pub mod TypedLemmas
 pub mod GridLemmas
 pub mod ReadLemmas
 pub mod ApartLemmas
+pub use Rattle.lowering_fits.proofs as of_lowering_fits

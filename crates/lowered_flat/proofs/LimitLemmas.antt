@@ -27,7 +27,7 @@ use Rattle.zpl_binding.specs.Outcome.{Outcome, Gives, Fails, RegionLimit, and_th
 use Rattle.zpl_binding.specs.Vectors.{three_components}
 use Rattle.zpl_binding.specs.Regions.{Known, inner_of, limited}
 use Rattle.zpl_binding.specs.Storages.{Border, shape_borders, storage_of, widened}
-use Rattle.meaning_ranks.specs.Shaped.{AreFloods}
+use Rattle.lowering_fits.specs.of_meaning_ranks.Shaped.{AreFloods}
 use Rattle.lowering_fits.specs.Reach.{IsBox}
 use Rattle.lowering_fits.specs.Storages.{AllBoxed, IsHomeIn, IsStorage}
 use Rattle.lowering_fits.proofs.ArrayLemmas.{PadsFrom, pads}

@@ -17,7 +17,7 @@ use Rattle.zpl_names.specs.Accepted.{HasNoFault}
 use Rattle.zpl_names.proofs.ListLemmas.{Among}
 use Rattle.zpl_names.proofs.NameLemmas.{empty_parts}
 use Rattle.zpl_names.proofs.FaultlessLemmas.{left-among}
-use Rattle.zpl_meaning.proofs.VisitLemmas.{found_in}
+use Rattle.lowering_fits.proofs.of_zpl_meaning.VisitLemmas.{found_in}
 use Rattle.lowered_flat.proofs.ListLemmas.{right_there}
 
 -- ---- brackets whose names stand for the same

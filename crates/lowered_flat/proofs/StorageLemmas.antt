@@ -6,11 +6,11 @@ use Rattle.zpl_region.specs.declared.regions.Region.{Region}
 use Rattle.zpl_tree.specs.Syntax.{Name, Bracket, NoBracket, Bracketed, VarDef}
 use Rattle.zpl_names.specs.Scope.{Scope}
 use Rattle.zpl_names.specs.Expansion.{FormalName}
-use Rattle.zpl_meaning.specs.Context.{Setup}
-use Rattle.zpl_meaning.specs.Variables.{storage_box}
-use Rattle.zpl_lowering.specs.Where.{Stored, Next}
-use Rattle.zpl_lowering.specs.Statement.{Given, Valued, Copied, Referring}
-use Rattle.zpl_lowering.specs.Program.{Framed, Entry, arrays_from, with_scalar}
+use Rattle.lowering_fits.specs.of_zpl_meaning.Context.{Setup}
+use Rattle.lowering_fits.specs.of_zpl_meaning.Variables.{storage_box}
+use Rattle.lowering_fits.specs.of_zpl_lowering.Where.{Stored, Next}
+use Rattle.lowering_fits.specs.of_zpl_lowering.Statement.{Given, Valued, Copied, Referring}
+use Rattle.lowering_fits.specs.of_zpl_lowering.Program.{Framed, Entry, arrays_from, with_scalar}
 use Rattle.lowering_fits.specs.Declarations.{FitsDeclared, FitAllDeclared}
 use Rattle.lowering_fits.specs.Storages.{AllKept, AllStorages, IsStorage}
 use Rattle.lowering_fits.specs.Whole.{given_frame, given_frames, local_frame, local_frames, name_frames}

@@ -28,18 +28,18 @@ use Rattle.zpl_binding.specs.Outcome.{RegionLimit}
 use Rattle.zpl_binding.specs.Regions.{Known}
 use Rattle.zpl_binding.specs.Settings.{Setting}
 use Rattle.zpl_binding.specs.Storages.{Shaped, arrays_of, borders_of, home_of, storage_of}
-use Rattle.zpl_meaning.specs.Context.{Setup}
-use Rattle.zpl_meaning.specs.Given.{IsGiven}
-use Rattle.zpl_meaning.specs.Regions.{vector_in}
-use Rattle.zpl_meaning.specs.Store.{ArrayAt, Environment, thing_of}
-use Rattle.zpl_meaning.specs.Visited.{first_setup}
-use Rattle.zpl_meaning.proofs.NamesLemmas.{IsSound, routine_sound}
-use Rattle.zpl_meaning.proofs.ProperLemmas.{not_false}
-use Rattle.zpl_meaning.proofs.VisitLemmas.{find_among}
-use Rattle.meaning_ranks.proofs.RegionLemmas.{names_once}
-use Rattle.zpl_lowering.specs.Program.{Entry, Framed}
-use Rattle.zpl_lowering.specs.Statement.{Calling}
-use Rattle.zpl_lowering.specs.Where.{Next}
+use Rattle.lowering_fits.specs.of_zpl_meaning.Context.{Setup}
+use Rattle.lowering_fits.specs.of_zpl_meaning.Given.{IsGiven}
+use Rattle.lowering_fits.specs.of_zpl_meaning.Regions.{vector_in}
+use Rattle.lowering_fits.specs.of_zpl_meaning.Store.{ArrayAt, Environment, thing_of}
+use Rattle.lowering_fits.specs.of_zpl_meaning.Visited.{first_setup}
+use Rattle.lowering_fits.proofs.of_zpl_meaning.NamesLemmas.{IsSound, routine_sound}
+use Rattle.lowering_fits.proofs.of_zpl_meaning.ProperLemmas.{not_false}
+use Rattle.lowering_fits.proofs.of_zpl_meaning.VisitLemmas.{find_among}
+use Rattle.lowering_fits.proofs.of_meaning_ranks.RegionLemmas.{names_once}
+use Rattle.lowering_fits.specs.of_zpl_lowering.Program.{Entry, Framed}
+use Rattle.lowering_fits.specs.of_zpl_lowering.Statement.{Calling}
+use Rattle.lowering_fits.specs.of_zpl_lowering.Where.{Next}
 use Rattle.lowering_fits.specs.Declarations.{FitsProgram}
 use Rattle.lowering_fits.specs.Storages.{IsStorage}
 use Rattle.lowering_fits.specs.Whole.{body_frames, given_frames, local_frames}

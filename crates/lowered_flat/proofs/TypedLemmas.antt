@@ -5,8 +5,8 @@ use Rattle.std.proofs.lemmas.List.Elements.{All-cons, All-head, All-nil, All-tai
 use Rattle.node_form.specs.declared.instructions.Instr.{Instr}
 use Rattle.node_form.specs.declared.instructions.Instr.TheVariants as instr
 use Rattle.node_form.specs.declared.tables.Tables.{Tables}
-use Rattle.flat_form.specs.Row.{Row, with_row, with_rows}
-use Rattle.text_sharing.specs.Shared.{row_shared, texts_shared}
+use Rattle.lowering_fits.specs.of_flat_form.Row.{Row, with_row, with_rows}
+use Rattle.lowering_fits.specs.of_text_sharing.Shared.{row_shared, texts_shared}
 use Rattle.typed_tables.specs.Typed.{AreTyped, IsTypedRow}
 
 shared_row : (texts : List (List ℕ)) (one : Instr) → IsTypedRow one →

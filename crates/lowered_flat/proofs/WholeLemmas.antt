@@ -23,20 +23,20 @@ use Rattle.zpl_binding.specs.Formals.{IsCalled}
 use Rattle.zpl_binding.specs.Regions.{Known}
 use Rattle.zpl_binding.specs.Settings.{Setting}
 use Rattle.zpl_binding.specs.Storages.{Shaped, arrays_of, borders_of, home_of, storage_of}
-use Rattle.zpl_meaning.specs.Calls.{formals_in}
-use Rattle.zpl_meaning.specs.Context.{Setup}
-use Rattle.zpl_meaning.specs.Given.{IsGiven}
-use Rattle.zpl_meaning.specs.Program.{first_frame}
-use Rattle.zpl_meaning.specs.Proper.{AreProperActuals}
-use Rattle.zpl_meaning.specs.Regions.{vector_in}
-use Rattle.zpl_meaning.specs.Store.{ArrayAt, Environment, thing_of}
-use Rattle.zpl_meaning.specs.Variables.{Frame, empty_frame}
-use Rattle.zpl_meaning.specs.Visited.{first_setup}
-use Rattle.zpl_meaning.proofs.NamesLemmas.{IsSound, routine_sound}
-use Rattle.zpl_meaning.proofs.VisitLemmas.{find_among}
-use Rattle.zpl_lowering.specs.Program.{Entry, Framed, entry_calling, lowered_program}
-use Rattle.zpl_lowering.specs.Statement.{Calling}
-use Rattle.zpl_lowering.specs.Where.{Next, Numbers, Stored, Where}
+use Rattle.lowering_fits.specs.of_zpl_meaning.Calls.{formals_in}
+use Rattle.lowering_fits.specs.of_zpl_meaning.Context.{Setup}
+use Rattle.lowering_fits.specs.of_zpl_meaning.Given.{IsGiven}
+use Rattle.lowering_fits.specs.of_zpl_meaning.Program.{first_frame}
+use Rattle.lowering_fits.specs.of_zpl_meaning.Proper.{AreProperActuals}
+use Rattle.lowering_fits.specs.of_zpl_meaning.Regions.{vector_in}
+use Rattle.lowering_fits.specs.of_zpl_meaning.Store.{ArrayAt, Environment, thing_of}
+use Rattle.lowering_fits.specs.of_zpl_meaning.Variables.{Frame, empty_frame}
+use Rattle.lowering_fits.specs.of_zpl_meaning.Visited.{first_setup}
+use Rattle.lowering_fits.proofs.of_zpl_meaning.NamesLemmas.{IsSound, routine_sound}
+use Rattle.lowering_fits.proofs.of_zpl_meaning.VisitLemmas.{find_among}
+use Rattle.lowering_fits.specs.of_zpl_lowering.Program.{Entry, Framed, entry_calling, lowered_program}
+use Rattle.lowering_fits.specs.of_zpl_lowering.Statement.{Calling}
+use Rattle.lowering_fits.specs.of_zpl_lowering.Where.{Next, Numbers, Stored, Where}
 use Rattle.lowering_fits.specs.Declarations.{FitsProgram}
 use Rattle.lowering_fits.specs.Reach.{place_at}
 use Rattle.lowering_fits.specs.Standing.{calling_of}

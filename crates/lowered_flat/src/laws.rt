@@ -10,19 +10,19 @@ ghost use Rattle.zpl_names.specs.Accepted.{IsFaultless};
 ghost use Rattle.zpl_binding.specs.Bound.{IsAcceptedWith};
 ghost use Rattle.zpl_binding.specs.Settings.{Setting};
 ghost use Rattle.node_form.specs.Grid.{IsGrid};
-ghost use Rattle.flat_form.specs.Flat.{IsFlat};
-ghost use Rattle.flat_form.specs.Laws.{IsInline};
+ghost use Rattle.lowering_fits.specs.of_flat_form.Flat.{IsFlat};
+ghost use Rattle.lowering_fits.specs.of_flat_form.Laws.{IsInline};
 ghost use Rattle.typed_tables.specs.Typed.{AreTyped};
-ghost use Rattle.zpl_lowering.specs.Program.{lowered_program};
-ghost use Rattle.zpl_lowering.specs.Tables.{flat_tables, rows_of, tables_of, unshared_tables};
+ghost use Rattle.lowering_fits.specs.of_zpl_lowering.Program.{lowered_program};
+ghost use Rattle.lowering_fits.specs.of_zpl_lowering.Tables.{flat_tables, rows_of, tables_of, unshared_tables};
 ghost use Rattle.lowering_fits.specs.Declarations.{FitsProgram};
 ghost use Rattle.lowering_fits.specs.Storages.{AllStorages};
 ghost use Rattle.lowered_flat.specs.Apart.{NamesStandApart};
 
+use lowering_fits::meaning_ranks::ranks_agree;
+use lowering_fits::text_sharing::shared_tables_fit;
+use lowering_fits::zpl_meaning::{no_stand_in_is_met, what_is_computed_has_a_value};
 use lowering_fits::{lowered_programs_fit, numbered_code_makes_a_flat_program};
-use meaning_ranks::ranks_agree;
-use text_sharing::shared_tables_fit;
-use zpl_meaning::{no_stand_in_is_met, what_is_computed_has_a_value};
 use zpl_names::{
     counts_add_up, declared_ranks_are_at_most_three, faultless_programs_have_faultless_sites,
     faultless_programs_leave_nothing_open, procedures_are_there, ranks_are_at_most_three,

@@ -10,3 +10,4 @@ pub use laws::{
     declarations_fit, lowered_programs_are_flat, lowered_rows_are_inline, lowered_tables_are_typed,
     parsed_names_stand_apart, storages_fit,
 };
+pub use lowering_fits;

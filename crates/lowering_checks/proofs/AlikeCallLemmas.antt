@@ -43,14 +43,14 @@ use Rattle.meaning_ranks.proofs.ShapeLemmas.{Fits}
 use Rattle.node_form.specs.declared.instructions.Instr.TheVariants as instr
 use Rattle.node_form.specs.Expression.{Constant, words_of}
 use Rattle.row_runs.specs.Structured as piece
-use Rattle.flat_form.specs.Row as row
-use Rattle.flat_form.specs.Row.{Row}
-use Rattle.zpl_lowering.specs.Bracket.{region_slot}
-use Rattle.zpl_lowering.specs.Where.{Stored, Numbers, Where, Next, flood_of}
-use Rattle.zpl_lowering.specs.Lowered.{Lowered, rows_alone, behind}
-use Rattle.zpl_lowering.specs.Tables.{empty_tables}
-use Rattle.zpl_lowering.specs.Statement.{Given, Valued, Copied, Referring, given_to, Calling, lowered}
-use Rattle.zpl_lowering.specs.Program.{Framed, with_scalar, with_array, Entry as CallEntry, zero_row, clear_row, copy_rows, made_copy, givens_code, names_code, locals_code, where_in, body_code, reads_round, in_call, routine_code, call_code, region_rows, scalars_from, arrays_from, global_numbers, globals_made, first_next, entry_calling, entry_code, lowered_program}
+use Rattle.lowering_fits.specs.of_flat_form.Row as row
+use Rattle.lowering_fits.specs.of_flat_form.Row.{Row}
+use Rattle.lowering_fits.specs.of_zpl_lowering.Bracket.{region_slot}
+use Rattle.lowering_fits.specs.of_zpl_lowering.Where.{Stored, Numbers, Where, Next, flood_of}
+use Rattle.lowering_fits.specs.of_zpl_lowering.Lowered.{Lowered, rows_alone, behind}
+use Rattle.lowering_fits.specs.of_zpl_lowering.Tables.{empty_tables}
+use Rattle.lowering_fits.specs.of_zpl_lowering.Statement.{Given, Valued, Copied, Referring, given_to, Calling, lowered}
+use Rattle.lowering_fits.specs.of_zpl_lowering.Program.{Framed, with_scalar, with_array, Entry as CallEntry, zero_row, clear_row, copy_rows, made_copy, givens_code, names_code, locals_code, where_in, body_code, reads_round, in_call, routine_code, call_code, region_rows, scalars_from, arrays_from, global_numbers, globals_made, first_next, entry_calling, entry_code, lowered_program}
 use Rattle.lowering_fits.specs.Reach.{place_at, FitsName, FitNames, AreGlobals, IsStoredAs}
 use Rattle.lowering_fits.specs.Standing.{calling_of}
 use Rattle.lowering_fits.specs.Declarations.{FitsDeclared, FitAllDeclared, FitsProgram}

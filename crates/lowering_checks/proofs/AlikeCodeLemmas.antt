@@ -14,15 +14,15 @@ use Rattle.node_form.specs.declared.instructions.RegionForm.TheVariants as form
 use Rattle.node_form.specs.Expression.{Expression, Variable, words_of}
 use Rattle.row_runs.specs.Structured as piece
 use Rattle.row_runs.specs.Structured.{Piece, size}
-use Rattle.flat_form.specs.Row as row
-use Rattle.flat_form.specs.Row.{Row, Member, Words}
-use Rattle.zpl_lowering.specs.Check.{Check}
-use Rattle.zpl_lowering.specs.Where.{Stored, Slotted, slotted_at, SlotEdge, Where, Next, rank_in, reach_of, line_of}
-use Rattle.zpl_lowering.specs.Slate.{Placed}
-use Rattle.zpl_lowering.specs.Reference.{Reference, over_reference, needs, refer_to}
-use Rattle.zpl_lowering.specs.Hoist.{mask_code}
-use Rattle.zpl_lowering.specs.Lowered.{Lowered, rows_alone, behind, followed, Phased, phased, phased_with, first_left, check_of}
-use Rattle.zpl_lowering.specs.Statement.{test_of, set_row, put_row, lowered_scalar, lowered_array, value_rows, with_values, source_shift, each_border, lowered_borders, Counter, counter_from, enters, is_done, step_row, counted, head_exprs, lowered_for, scalar_of, Shown, shown_at, shown_of, Prints, items_of, lowered_write, printed_exprs, is_truth, Inside, form_inside, masked_members, has_put, apart_rows, shattered, placed_in}
+use Rattle.lowering_fits.specs.of_flat_form.Row as row
+use Rattle.lowering_fits.specs.of_flat_form.Row.{Row, Member, Words}
+use Rattle.lowering_fits.specs.of_zpl_lowering.Check.{Check}
+use Rattle.lowering_fits.specs.of_zpl_lowering.Where.{Stored, Slotted, slotted_at, SlotEdge, Where, Next, rank_in, reach_of, line_of}
+use Rattle.lowering_fits.specs.of_zpl_lowering.Slate.{Placed}
+use Rattle.lowering_fits.specs.of_zpl_lowering.Reference.{Reference, over_reference, needs, refer_to}
+use Rattle.lowering_fits.specs.of_zpl_lowering.Hoist.{mask_code}
+use Rattle.lowering_fits.specs.of_zpl_lowering.Lowered.{Lowered, rows_alone, behind, followed, Phased, phased, phased_with, first_left, check_of}
+use Rattle.lowering_fits.specs.of_zpl_lowering.Statement.{test_of, set_row, put_row, lowered_scalar, lowered_array, value_rows, with_values, source_shift, each_border, lowered_borders, Counter, counter_from, enters, is_done, step_row, counted, head_exprs, lowered_for, scalar_of, Shown, shown_at, shown_of, Prints, items_of, lowered_write, printed_exprs, is_truth, Inside, form_inside, masked_members, has_put, apart_rows, shattered, placed_in}
 use Rattle.lowering_checks.specs.Walked.{laid}
 use Rattle.lowering_checks.proofs.WalkLemmas.{laid_rows}
 use Rattle.lowering_checks.proofs.SlateLemmas.{AllQuiet, needs_quiet}

@@ -26,11 +26,11 @@ use Rattle.zpl_meaning.proofs.ProperLemmas.{IsClean, IsNamed, Fits, reach_at}
 use Rattle.zpl_meaning.proofs.VisitLemmas.{Laws, Inside, InStmt}
 use Rattle.meaning_ranks.specs.Ranked.{IsRankedTested, IsPointOf, ArePointsOf, IsPointFormOf, ArePointArmsOf, IsPointElseOf}
 use Rattle.meaning_ranks.proofs.PlaceLemmas.{IsAt, behind as placed_behind, inside_at, part_at}
-use Rattle.flat_form.specs.Row as row
-use Rattle.flat_form.specs.Row.{Member}
-use Rattle.zpl_lowering.specs.Where.{Stored, Numbers, Slotted, slotted_at, Where, Next, reach_of, rank_for}
-use Rattle.zpl_lowering.specs.Slate.{Placed}
-use Rattle.zpl_lowering.specs.Statement.{placed_in, lowered_array, lowered_to, Inside as Members, elementwise, put_member, put_thing, otherwise_members, stmt_inside, stmts_inside, form_inside, arms_inside, otherwise_inside, shattered}
+use Rattle.lowering_fits.specs.of_flat_form.Row as row
+use Rattle.lowering_fits.specs.of_flat_form.Row.{Member}
+use Rattle.lowering_fits.specs.of_zpl_lowering.Where.{Stored, Numbers, Slotted, slotted_at, Where, Next, reach_of, rank_for}
+use Rattle.lowering_fits.specs.of_zpl_lowering.Slate.{Placed}
+use Rattle.lowering_fits.specs.of_zpl_lowering.Statement.{placed_in, lowered_array, lowered_to, Inside as Members, elementwise, put_member, put_thing, otherwise_members, stmt_inside, stmts_inside, form_inside, arms_inside, otherwise_inside, shattered}
 use Rattle.lowering_fits.specs.Reach.{place_at}
 use Rattle.lowering_fits.proofs.PartLemmas.{contains_first, contains_later, contains_left, contains_right}
 use Rattle.lowering_checks.proofs.AlikeLemmas.{Marks, PutsOf}

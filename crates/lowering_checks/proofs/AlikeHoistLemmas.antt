@@ -17,15 +17,15 @@ use Rattle.node_form.specs.Expression.{Expression, Element, words_of}
 use Rattle.row_runs.specs.Code.{Jump, Unless}
 use Rattle.row_runs.specs.Structured as piece
 use Rattle.row_runs.specs.Structured.{Piece, flattened, size}
-use Rattle.flat_form.specs.Row as row
-use Rattle.flat_form.specs.Row.{Row, Member, Words}
-use Rattle.zpl_lowering.specs.Check.{Check, flat_row}
-use Rattle.zpl_lowering.specs.Where.{Stored, Numbers, Slotted, slotted_at, Where, Next}
-use Rattle.zpl_lowering.specs.Slate as slate
-use Rattle.zpl_lowering.specs.Slate.{Slate, Slates, NoSlate, ThenSlate, Settled, behind as settled_behind, named_slate, shifted_slate, remap_slate, around_slate, border_slots, settled, settled_all, Placed, settled_each}
-use Rattle.zpl_lowering.specs.Reference.{Reference, all_conforming, all_referred, needs}
-use Rattle.zpl_lowering.specs.Hoist.{Hoisted, Free, behind, stored_element, fold_rows, kept_rows, scan_with, scan_without, masked_scan, number_of, scanning, temps_from, rooms, index_puts, remap_code, remapping, border_vectors, border_rows, copy_rows, wrapping, mask_code, trap_if, hoisted, all_hoisted}
-use Rattle.zpl_lowering.specs.Lowered.{Lowered, phased_with, free_at}
+use Rattle.lowering_fits.specs.of_flat_form.Row as row
+use Rattle.lowering_fits.specs.of_flat_form.Row.{Row, Member, Words}
+use Rattle.lowering_fits.specs.of_zpl_lowering.Check.{Check, flat_row}
+use Rattle.lowering_fits.specs.of_zpl_lowering.Where.{Stored, Numbers, Slotted, slotted_at, Where, Next}
+use Rattle.lowering_fits.specs.of_zpl_lowering.Slate as slate
+use Rattle.lowering_fits.specs.of_zpl_lowering.Slate.{Slate, Slates, NoSlate, ThenSlate, Settled, behind as settled_behind, named_slate, shifted_slate, remap_slate, around_slate, border_slots, settled, settled_all, Placed, settled_each}
+use Rattle.lowering_fits.specs.of_zpl_lowering.Reference.{Reference, all_conforming, all_referred, needs}
+use Rattle.lowering_fits.specs.of_zpl_lowering.Hoist.{Hoisted, Free, behind, stored_element, fold_rows, kept_rows, scan_with, scan_without, masked_scan, number_of, scanning, temps_from, rooms, index_puts, remap_code, remapping, border_vectors, border_rows, copy_rows, wrapping, mask_code, trap_if, hoisted, all_hoisted}
+use Rattle.lowering_fits.specs.of_zpl_lowering.Lowered.{Lowered, phased_with, free_at}
 use Rattle.lowering_checks.specs.Walked.{laid}
 use Rattle.lowering_checks.proofs.WalkLemmas.{map_both, laid_rows, laid_then}
 use Rattle.lowering_checks.proofs.SlateLemmas.{AllQuiet, quiet_both, each_quiet, all_conforming_quiet, needs_quiet}

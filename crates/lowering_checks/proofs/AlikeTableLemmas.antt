@@ -26,16 +26,16 @@ use Rattle.node_form.specs.declared.instructions.Instr.{Instr}
 use Rattle.node_form.specs.declared.instructions.Instr.TheVariants as instr
 use Rattle.node_form.specs.declared.tables.Tables.{Tables}
 use Rattle.code_parts.specs.Uses.{members_of, put_by}
-use Rattle.flat_form.specs.Row as row
-use Rattle.flat_form.specs.Row.{Row, Member, all_inlined, inlined, member_inlined, with_row, with_rows}
-use Rattle.temp_norm.specs.Normalised.{is_same_kind, is_like}
-use Rattle.fuse_contract.specs.Fusing.{are_like, are_rows_like}
+use Rattle.lowering_fits.specs.of_flat_form.Row as row
+use Rattle.lowering_fits.specs.of_flat_form.Row.{Row, Member, all_inlined, inlined, member_inlined, with_row, with_rows}
+use Rattle.pass_parts.specs.of_temp_norm.Normalised.{is_same_kind, is_like}
+use Rattle.pass_parts.specs.of_fuse_contract.Fusing.{are_like, are_rows_like}
 use Rattle.pass_parts.specs.Checks.{is_check}
-use Rattle.zpl_lowering.specs.Hoist.{Shifted}
-use Rattle.zpl_lowering.specs.Lowered.{Lowered}
-use Rattle.zpl_lowering.specs.Program.{lowered_program}
-use Rattle.zpl_lowering.specs.Statement.{has_put}
-use Rattle.zpl_lowering.specs.Tables.{Fringe, all_wider, widened, fringes_of, stored_dims, stored_row, stored_rows, temp_row, empty_tables, flat_tables, rows_of}
+use Rattle.lowering_fits.specs.of_zpl_lowering.Hoist.{Shifted}
+use Rattle.lowering_fits.specs.of_zpl_lowering.Lowered.{Lowered}
+use Rattle.lowering_fits.specs.of_zpl_lowering.Program.{lowered_program}
+use Rattle.lowering_fits.specs.of_zpl_lowering.Statement.{has_put}
+use Rattle.lowering_fits.specs.of_zpl_lowering.Tables.{Fringe, all_wider, widened, fringes_of, stored_dims, stored_row, stored_rows, temp_row, empty_tables, flat_tables, rows_of}
 use Rattle.lowering_fits.specs.Declarations.{FitsProgram}
 use Rattle.lowering_fits.proofs.PartLemmas.{AreRight}
 use Rattle.lowering_checks.specs.Stands.{PutsAlike}

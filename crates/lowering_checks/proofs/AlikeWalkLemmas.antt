@@ -33,10 +33,10 @@ use Rattle.meaning_ranks.proofs.CurrentLemmas.{region_told, region_first, rank_i
 use Rattle.meaning_ranks.proofs.PlaceLemmas.{behind as placed_behind}
 use Rattle.node_form.specs.Expression.{Variable}
 use Rattle.row_runs.specs.Structured as piece
-use Rattle.zpl_lowering.specs.Bracket.{Opened}
-use Rattle.zpl_lowering.specs.Where.{Numbers, Slotted, with_slotted, Where, Next, reach_of, line_of}
-use Rattle.zpl_lowering.specs.Lowered.{Lowered, rows_alone, behind, joined, phased}
-use Rattle.zpl_lowering.specs.Statement.{Calling, Lowering, placed_in, Testing, test_of, value_exprs, with_values, set_row, head_exprs, scalar_of, lowered_invoke, lowered_to, lowered_assign, target_of, is_border, prefix_opened, current_for, under_prefix, of_opened, is_last, lowered_under, shattered, choose_code, while_code, repeat_code, ends_arms, lowered, lowered_all, lowered_form, lowered_arms, lowered_arm, lowered_otherwise}
+use Rattle.lowering_fits.specs.of_zpl_lowering.Bracket.{Opened}
+use Rattle.lowering_fits.specs.of_zpl_lowering.Where.{Numbers, Slotted, with_slotted, Where, Next, reach_of, line_of}
+use Rattle.lowering_fits.specs.of_zpl_lowering.Lowered.{Lowered, rows_alone, behind, joined, phased}
+use Rattle.lowering_fits.specs.of_zpl_lowering.Statement.{Calling, Lowering, placed_in, Testing, test_of, value_exprs, with_values, set_row, head_exprs, scalar_of, lowered_invoke, lowered_to, lowered_assign, target_of, is_border, prefix_opened, current_for, under_prefix, of_opened, is_last, lowered_under, shattered, choose_code, while_code, repeat_code, ends_arms, lowered, lowered_all, lowered_form, lowered_arms, lowered_arm, lowered_otherwise}
 use Rattle.lowering_fits.specs.Reach.{place_at}
 use Rattle.lowering_fits.specs.Standing.{calling_of}
 use Rattle.lowering_fits.proofs.PartLemmas.{AreRight, contains_first, contains_later, contains_left, contains_right}

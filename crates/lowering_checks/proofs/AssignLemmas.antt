@@ -20,13 +20,13 @@ use Rattle.node_form.specs.declared.instructions.RegionForm.TheVariants as form
 use Rattle.node_form.specs.Expression.{Expression, Variable}
 use Rattle.row_runs.specs.Structured as piece
 use Rattle.row_runs.specs.Structured.{Piece}
-use Rattle.flat_form.specs.Row as row
-use Rattle.flat_form.specs.Row.{Row}
-use Rattle.zpl_lowering.specs.Check.{Check}
-use Rattle.zpl_lowering.specs.Where.{Stored, Slotted, slotted_at, SlotEdge, Where, Next, rank_in, rank_for, line_of}
-use Rattle.zpl_lowering.specs.Slate.{Placed}
-use Rattle.zpl_lowering.specs.Lowered.{Lowered, rows_alone, behind, Phased, phased, first_left, check_of}
-use Rattle.zpl_lowering.specs.Statement.{placed_in, test_of, set_row, lowered_scalar, lowered_to, value_rows, with_values, border_rows, border_thing, each_border, source_shift, lowered_borders, Counter, counter_from, enters, is_done, step_row, counted, head_exprs, lowered_for, scalar_of, Shown, shown_at, shown_of, Prints, newline, items_of, lowered_write, printed_exprs, is_truth}
+use Rattle.lowering_fits.specs.of_flat_form.Row as row
+use Rattle.lowering_fits.specs.of_flat_form.Row.{Row}
+use Rattle.lowering_fits.specs.of_zpl_lowering.Check.{Check}
+use Rattle.lowering_fits.specs.of_zpl_lowering.Where.{Stored, Slotted, slotted_at, SlotEdge, Where, Next, rank_in, rank_for, line_of}
+use Rattle.lowering_fits.specs.of_zpl_lowering.Slate.{Placed}
+use Rattle.lowering_fits.specs.of_zpl_lowering.Lowered.{Lowered, rows_alone, behind, Phased, phased, first_left, check_of}
+use Rattle.lowering_fits.specs.of_zpl_lowering.Statement.{placed_in, test_of, set_row, lowered_scalar, lowered_to, value_rows, with_values, border_rows, border_thing, each_border, source_shift, lowered_borders, Counter, counter_from, enters, is_done, step_row, counted, head_exprs, lowered_for, scalar_of, Shown, shown_at, shown_of, Prints, newline, items_of, lowered_write, printed_exprs, is_truth}
 use Rattle.lowering_fits.specs.Reach.{place_at}
 use Rattle.lowering_checks.specs.Walked.{Since, behind_rows, AreChecked, HasChecks}
 use Rattle.lowering_checks.proofs.WalkLemmas.{checked_both, rows_check, then_check, when_check, repeat_check}

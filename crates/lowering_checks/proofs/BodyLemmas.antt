@@ -6,12 +6,12 @@ use Rattle.zpl_meaning.specs.Context.{Setup}
 use Rattle.row_runs.specs.Structured as piece
 use Rattle.node_form.specs.Expression.{Constant, words_of}
 use Rattle.node_form.specs.declared.instructions.Instr.TheVariants as instr
-use Rattle.flat_form.specs.Row as row
-use Rattle.flat_form.specs.Row.{Row}
-use Rattle.zpl_lowering.specs.Where.{Stored, Next}
-use Rattle.zpl_lowering.specs.Lowered.{Lowered}
-use Rattle.zpl_lowering.specs.Statement.{Given, Valued, Copied, Referring}
-use Rattle.zpl_lowering.specs.Program.{Framed, with_scalar, Entry, rows_if, zero_row, clear_row, copy_rows, made_copy, givens_code, names_code, locals_code}
+use Rattle.lowering_fits.specs.of_flat_form.Row as row
+use Rattle.lowering_fits.specs.of_flat_form.Row.{Row}
+use Rattle.lowering_fits.specs.of_zpl_lowering.Where.{Stored, Next}
+use Rattle.lowering_fits.specs.of_zpl_lowering.Lowered.{Lowered}
+use Rattle.lowering_fits.specs.of_zpl_lowering.Statement.{Given, Valued, Copied, Referring}
+use Rattle.lowering_fits.specs.of_zpl_lowering.Program.{Framed, with_scalar, Entry, rows_if, zero_row, clear_row, copy_rows, made_copy, givens_code, names_code, locals_code}
 use Rattle.lowering_fits.specs.Whole.{given_frame, given_frames, local_frame, name_frames, local_frames}
 use Rattle.lowering_checks.specs.Walked.{HasChecks}
 use Rattle.lowering_checks.proofs.WalkLemmas.{rows_check, then_check}

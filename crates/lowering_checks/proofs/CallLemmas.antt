@@ -26,10 +26,10 @@ use Rattle.zpl_meaning.specs.Program.{first_frame}
 use Rattle.zpl_meaning.specs.Variables.{Frame}
 use Rattle.zpl_meaning.specs.Visited.{IsVisited, first_setup}
 use Rattle.zpl_meaning.proofs.VisitLemmas.{find_among}
-use Rattle.zpl_lowering.specs.Where.{Numbers, Where, Next}
-use Rattle.zpl_lowering.specs.Lowered.{Lowered, behind}
-use Rattle.zpl_lowering.specs.Statement.{Calling, lowered}
-use Rattle.zpl_lowering.specs.Program.{Framed, Entry, locals_code, where_in, body_code, reads_round, in_call, routine_code, call_code, region_rows, arrays_from, globals_made, first_next, entry_calling, entry_code, lowered_program}
+use Rattle.lowering_fits.specs.of_zpl_lowering.Where.{Numbers, Where, Next}
+use Rattle.lowering_fits.specs.of_zpl_lowering.Lowered.{Lowered, behind}
+use Rattle.lowering_fits.specs.of_zpl_lowering.Statement.{Calling, lowered}
+use Rattle.lowering_fits.specs.of_zpl_lowering.Program.{Framed, Entry, locals_code, where_in, body_code, reads_round, in_call, routine_code, call_code, region_rows, arrays_from, globals_made, first_next, entry_calling, entry_code, lowered_program}
 use Rattle.lowering_fits.specs.Reach.{place_at}
 use Rattle.lowering_fits.specs.Standing.{calling_of}
 use Rattle.lowering_fits.specs.Whole.{given_frames, local_frames, body_frames}

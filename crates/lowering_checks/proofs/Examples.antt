@@ -17,8 +17,8 @@ use Rattle.node_form.specs.declared.tables.Tables.{Tables}
 use Rattle.node_form.specs.declared.instructions.Instr.TheVariants as instr
 use Rattle.code_parts.specs.Fused.{are_joinable}
 use Rattle.code_parts.specs.Uses.{members_of}
-use Rattle.fuse_contract.specs.Fusing.{stands_with}
-use Rattle.zpl_lowering.specs.Tables.{flat_tables}
+use Rattle.pass_parts.specs.of_fuse_contract.Fusing.{stands_with}
+use Rattle.lowering_fits.specs.of_zpl_lowering.Tables.{flat_tables}
 
 abbrev name : List ℕ → ℕ → Name
 name text at = record { text = text; at = at }

@@ -20,10 +20,10 @@ use Rattle.zpl_meaning.specs.Proper.{IsPlainAssign, IsProperCall, IsProperUnder,
 use Rattle.zpl_meaning.specs.Visited.{IsUnder, Itself, Behind, list_of, arms_parts, else_parts, IsCall, AsStatement, AsAnswer, IsVisited, Holds}
 use Rattle.meaning_ranks.specs.Ranked.{IsRankedValue, IsRankedTested, IsRankedUnder, IsRankedForm}
 use Rattle.row_runs.specs.Structured as piece
-use Rattle.zpl_lowering.specs.Where.{Numbers, Where, Next, reach_of, line_of}
-use Rattle.zpl_lowering.specs.Bracket.{Opened}
-use Rattle.zpl_lowering.specs.Lowered.{Lowered, behind, followed, phased}
-use Rattle.zpl_lowering.specs.Statement.{Calling, Lowering, placed_in, Testing, test_of, value_exprs, with_values, lowered_invoke, lowered_assign, target_of, lowered_to, is_border, prefix_opened, current_for, under_prefix, of_opened, is_last, lowered_under, shattered, choose_code, while_code, repeat_code, ends_arms, lowered, lowered_all, lowered_form, lowered_arms, lowered_arm, lowered_otherwise}
+use Rattle.lowering_fits.specs.of_zpl_lowering.Where.{Numbers, Where, Next, reach_of, line_of}
+use Rattle.lowering_fits.specs.of_zpl_lowering.Bracket.{Opened}
+use Rattle.lowering_fits.specs.of_zpl_lowering.Lowered.{Lowered, behind, followed, phased}
+use Rattle.lowering_fits.specs.of_zpl_lowering.Statement.{Calling, Lowering, placed_in, Testing, test_of, value_exprs, with_values, lowered_invoke, lowered_assign, target_of, lowered_to, is_border, prefix_opened, current_for, under_prefix, of_opened, is_last, lowered_under, shattered, choose_code, while_code, repeat_code, ends_arms, lowered, lowered_all, lowered_form, lowered_arms, lowered_arm, lowered_otherwise}
 use Rattle.lowering_fits.specs.Reach.{place_at}
 use Rattle.lowering_fits.specs.Standing.{calling_of}
 use Rattle.lowering_fits.proofs.PartLemmas.{AreRight, contains_first, contains_later, contains_left, contains_right}

@@ -15,17 +15,17 @@ use Rattle.node_form.specs.Expression.{Expression, Element, words_of}
 use Rattle.row_runs.specs.Code.{Jump, Unless}
 use Rattle.row_runs.specs.Structured as piece
 use Rattle.row_runs.specs.Structured.{Piece, flattened, size}
-use Rattle.flat_form.specs.Row as row
-use Rattle.flat_form.specs.Row.{Row, Member, Words, mask_words}
-use Rattle.zpl_lowering.specs.Check.{Check, flat_row}
-use Rattle.zpl_lowering.specs.Where.{Stored, Numbers, Slotted}
-use Rattle.zpl_lowering.specs.Words.{variable_code}
-use Rattle.zpl_lowering.specs.Slate as slate
-use Rattle.zpl_lowering.specs.Slate.{Slate, NoSlate, ThenSlate, Placed, Settled, settled, settled_each}
-use Rattle.zpl_lowering.specs.Reference.{Reference, is_unmoved, vector_over, over_reference, refer_to, all_referred}
-use Rattle.zpl_lowering.specs.Hoist.{Hoisted, Free, neighbour_if, stored_element, unary_code, fold_rows, kept_rows, temps_from, rooms, index_puts, remapping, wrapping, scanning, masked_scan, number_of, mask_word, array_code, mask_code, hoisted, all_hoisted, behind as hoisted_behind}
-use Rattle.zpl_lowering.specs.Lowered.{Phased, phased_with, free_at}
-use Rattle.zpl_lowering.specs.Statement.{has_put}
+use Rattle.lowering_fits.specs.of_flat_form.Row as row
+use Rattle.lowering_fits.specs.of_flat_form.Row.{Row, Member, Words, mask_words}
+use Rattle.lowering_fits.specs.of_zpl_lowering.Check.{Check, flat_row}
+use Rattle.lowering_fits.specs.of_zpl_lowering.Where.{Stored, Numbers, Slotted}
+use Rattle.lowering_fits.specs.of_zpl_lowering.Words.{variable_code}
+use Rattle.lowering_fits.specs.of_zpl_lowering.Slate as slate
+use Rattle.lowering_fits.specs.of_zpl_lowering.Slate.{Slate, NoSlate, ThenSlate, Placed, Settled, settled, settled_each}
+use Rattle.lowering_fits.specs.of_zpl_lowering.Reference.{Reference, is_unmoved, vector_over, over_reference, refer_to, all_referred}
+use Rattle.lowering_fits.specs.of_zpl_lowering.Hoist.{Hoisted, Free, neighbour_if, stored_element, unary_code, fold_rows, kept_rows, temps_from, rooms, index_puts, remapping, wrapping, scanning, masked_scan, number_of, mask_word, array_code, mask_code, hoisted, all_hoisted, behind as hoisted_behind}
+use Rattle.lowering_fits.specs.of_zpl_lowering.Lowered.{Phased, phased_with, free_at}
+use Rattle.lowering_fits.specs.of_zpl_lowering.Statement.{has_put}
 use Rattle.lowering_checks.specs.Walked.{Since, behind_row, behind_rows, laid}
 use Rattle.lowering_checks.specs.Reads.{totals_in, totals_by, totals_of, FreeWords, FreeExprs, FreeMembers, MayRead, AreFree}
 use Rattle.lowering_checks.proofs.WalkLemmas.{map_both, laid_rows, laid_then}

@@ -17,12 +17,12 @@ use Rattle.zpl_meaning.proofs.DepthLemmas.{Each, each_left, each_right}
 use Rattle.zpl_meaning.specs.Store.{Thing, Scalar, ArrayAt, Fixed, thing_of}
 use Rattle.zpl_meaning.specs.Points.{assigned_expr}
 use Rattle.node_form.specs.Expression.{Expression}
-use Rattle.flat_form.specs.Row as row
-use Rattle.flat_form.specs.Row.{Member, Words}
-use Rattle.zpl_lowering.specs.Where.{Stored, slotted_at, Where, Next}
-use Rattle.zpl_lowering.specs.Slate.{Slate, Settled, behind as settled_behind, named_slate, settled}
-use Rattle.zpl_lowering.specs.Hoist.{Free, Hoisted, behind, hoisted}
-use Rattle.zpl_lowering.specs.Statement.{Inside, Elementwise, elementwise, put_member, put_thing, otherwise_members, stmt_inside, stmts_inside, form_inside, arms_inside, arm_inside, otherwise_inside}
+use Rattle.lowering_fits.specs.of_flat_form.Row as row
+use Rattle.lowering_fits.specs.of_flat_form.Row.{Member, Words}
+use Rattle.lowering_fits.specs.of_zpl_lowering.Where.{Stored, slotted_at, Where, Next}
+use Rattle.lowering_fits.specs.of_zpl_lowering.Slate.{Slate, Settled, behind as settled_behind, named_slate, settled}
+use Rattle.lowering_fits.specs.of_zpl_lowering.Hoist.{Free, Hoisted, behind, hoisted}
+use Rattle.lowering_fits.specs.of_zpl_lowering.Statement.{Inside, Elementwise, elementwise, put_member, put_thing, otherwise_members, stmt_inside, stmts_inside, form_inside, arms_inside, arm_inside, otherwise_inside}
 use Rattle.lowering_checks.specs.Reads.{FreeWords, FreeMembers}
 use Rattle.lowering_checks.proofs.KnownLemmas.{both_true}
 use Rattle.lowering_checks.proofs.FreeLemmas.{FreeTree, stored_free, scalar_free, tree_words}

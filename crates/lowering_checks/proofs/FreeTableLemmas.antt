@@ -19,13 +19,13 @@ use Rattle.zpl_names.specs.Shapes.{Shapes}
 use Rattle.zpl_names.specs.Sites.{Site, routine_sites}
 use Rattle.zpl_binding.specs.Settings.{Setting}
 use Rattle.code_parts.specs.Uses.{accumulated_by, words_of, members_of, member_words, put_by, scalars_in, share}
-use Rattle.fuse_contract.specs.Fusing.{reference, references_in, references_of, all_accumulated}
+use Rattle.pass_parts.specs.of_fuse_contract.Fusing.{reference, references_in, references_of, all_accumulated}
 use Rattle.pass_parts.specs.Checks.{ChecksWhatFollows, is_check, checked_in, is_one_of}
-use Rattle.flat_form.specs.Row as row
-use Rattle.flat_form.specs.Row.{group_coded, member_coded, row_groups, with_row, with_rows, Row, Member, Words, member_words as exprs_in, words_at, member_inlined, inlined, all_inlined}
-use Rattle.zpl_lowering.specs.Statement.{has_put}
-use Rattle.zpl_lowering.specs.Program.{lowered_program}
-use Rattle.zpl_lowering.specs.Tables.{empty_tables, flat_tables, rows_of}
+use Rattle.lowering_fits.specs.of_flat_form.Row as row
+use Rattle.lowering_fits.specs.of_flat_form.Row.{group_coded, member_coded, row_groups, with_row, with_rows, Row, Member, Words, member_words as exprs_in, words_at, member_inlined, inlined, all_inlined}
+use Rattle.lowering_fits.specs.of_zpl_lowering.Statement.{has_put}
+use Rattle.lowering_fits.specs.of_zpl_lowering.Program.{lowered_program}
+use Rattle.lowering_fits.specs.of_zpl_lowering.Tables.{empty_tables, flat_tables, rows_of}
 use Rattle.lowering_checks.specs.Walked.{Since, behind_row, behind_rows}
 use Rattle.lowering_checks.specs.Stands.{ReadsApart}
 use Rattle.lowering_checks.specs.Reads.{total_of, totals_in, totals_by, totals_of, is_free, FreeWords, FreeExprs, FreeMembers, MayRead, AreFree}

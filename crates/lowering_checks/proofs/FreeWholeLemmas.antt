@@ -18,15 +18,15 @@ use Rattle.node_form.specs.declared.instructions.Instr.TheVariants as instr
 use Rattle.row_runs.specs.Code.{Jump, Unless}
 use Rattle.row_runs.specs.Structured as piece
 use Rattle.row_runs.specs.Structured.{Piece, flattened, size}
-use Rattle.flat_form.specs.Row as row
-use Rattle.flat_form.specs.Row.{Row, Member, Words, mask_words}
-use Rattle.zpl_lowering.specs.Check.{Check, flat_row}
-use Rattle.zpl_lowering.specs.Where.{Slotted, slotted_at, Where, Next, reach_of}
-use Rattle.zpl_lowering.specs.Reference.{Reference, over_reference, needs}
-use Rattle.zpl_lowering.specs.Hoist.{mask_code}
-use Rattle.zpl_lowering.specs.Statement.{Inside, form_inside, masked_members, has_put, apart_rows, shattered}
-use Rattle.zpl_lowering.specs.Program.{lowered_program}
-use Rattle.zpl_lowering.specs.Tables.{rows_of}
+use Rattle.lowering_fits.specs.of_flat_form.Row as row
+use Rattle.lowering_fits.specs.of_flat_form.Row.{Row, Member, Words, mask_words}
+use Rattle.lowering_fits.specs.of_zpl_lowering.Check.{Check, flat_row}
+use Rattle.lowering_fits.specs.of_zpl_lowering.Where.{Slotted, slotted_at, Where, Next, reach_of}
+use Rattle.lowering_fits.specs.of_zpl_lowering.Reference.{Reference, over_reference, needs}
+use Rattle.lowering_fits.specs.of_zpl_lowering.Hoist.{mask_code}
+use Rattle.lowering_fits.specs.of_zpl_lowering.Statement.{Inside, form_inside, masked_members, has_put, apart_rows, shattered}
+use Rattle.lowering_fits.specs.of_zpl_lowering.Program.{lowered_program}
+use Rattle.lowering_fits.specs.of_zpl_lowering.Tables.{rows_of}
 use Rattle.lowering_checks.specs.Totals.{has_total}
 use Rattle.lowering_checks.specs.Walked.{behind_rows, laid}
 use Rattle.lowering_checks.specs.Reads.{totals_in, totals_of, is_free, FreeExprs, FreeMembers, AreFree}

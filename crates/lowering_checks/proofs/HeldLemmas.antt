@@ -10,12 +10,12 @@ use Rattle.zpl_binding.specs.Regions.{Known}
 use Rattle.zpl_meaning.specs.Context.{Over, Currents, with_over, Edge}
 use Rattle.zpl_meaning.specs.Proper.{HasCurrent, IsArrayRank, IsProperPrefix, IsProperRegion}
 use Rattle.meaning_ranks.specs.Ranked.{IsRankedPrefix, IsRegionOf}
-use Rattle.flat_form.specs.Row.{Row}
-use Rattle.flat_form.specs.Row as row
+use Rattle.lowering_fits.specs.of_flat_form.Row.{Row}
+use Rattle.lowering_fits.specs.of_flat_form.Row as row
 use Rattle.node_form.specs.declared.instructions.Instr.TheVariants as instr
-use Rattle.zpl_lowering.specs.Where.{Slotted, SlotCurrents, slotted_or, slotted_at, with_slotted, Where}
-use Rattle.zpl_lowering.specs.Bracket.{Opened, Form, standing, formed, named_region, name_opened, forms_of, computed, one_row, fixed_or, constant_region, bracket, region_slot}
-use Rattle.zpl_lowering.specs.Statement.{prefix_opened, current_for}
+use Rattle.lowering_fits.specs.of_zpl_lowering.Where.{Slotted, SlotCurrents, slotted_or, slotted_at, with_slotted, Where}
+use Rattle.lowering_fits.specs.of_zpl_lowering.Bracket.{Opened, Form, standing, formed, named_region, name_opened, forms_of, computed, one_row, fixed_or, constant_region, bracket, region_slot}
+use Rattle.lowering_fits.specs.of_zpl_lowering.Statement.{prefix_opened, current_for}
 use Rattle.lowering_fits.specs.Reach.{place_at}
 
 -- ---- current regions

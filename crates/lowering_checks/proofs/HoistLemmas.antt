@@ -20,16 +20,16 @@ use Rattle.node_form.specs.Expression.{Expression, Constant, Variable, words_of}
 use Rattle.node_form.specs.Value.{unmoved}
 use Rattle.row_runs.specs.Structured as piece
 use Rattle.row_runs.specs.Structured.{Piece, size}
-use Rattle.flat_form.specs.Row as row
-use Rattle.flat_form.specs.Row.{Row, Words}
-use Rattle.fuse_contract.specs.Fusing.{reference}
-use Rattle.zpl_lowering.specs.Check.{Check}
-use Rattle.zpl_lowering.specs.Where.{Stored, Numbers, Slotted}
-use Rattle.zpl_lowering.specs.Words.{variable_code}
-use Rattle.zpl_lowering.specs.Slate as slate
-use Rattle.zpl_lowering.specs.Slate.{Slate, Slates, NoSlate, ThenSlate}
-use Rattle.zpl_lowering.specs.Reference.{Reference, is_unmoved, vector_over, shift_in, refer_to, referred}
-use Rattle.zpl_lowering.specs.Hoist.{Hoisted, Free, behind, neighbour_if, stored_element, unary_code, fold_rows, folding, kept_rows, part_folding, flooding, scan_with, scan_without, masked_scan, number_of, scanning, temps_from, three_of, rooms, index_puts, remap_code, remapping, border_vectors, border_rows, copy_rows, wrapping, mask_code, outside_code, trap_if, hoisted, all_hoisted}
+use Rattle.lowering_fits.specs.of_flat_form.Row as row
+use Rattle.lowering_fits.specs.of_flat_form.Row.{Row, Words}
+use Rattle.pass_parts.specs.of_fuse_contract.Fusing.{reference}
+use Rattle.lowering_fits.specs.of_zpl_lowering.Check.{Check}
+use Rattle.lowering_fits.specs.of_zpl_lowering.Where.{Stored, Numbers, Slotted}
+use Rattle.lowering_fits.specs.of_zpl_lowering.Words.{variable_code}
+use Rattle.lowering_fits.specs.of_zpl_lowering.Slate as slate
+use Rattle.lowering_fits.specs.of_zpl_lowering.Slate.{Slate, Slates, NoSlate, ThenSlate}
+use Rattle.lowering_fits.specs.of_zpl_lowering.Reference.{Reference, is_unmoved, vector_over, shift_in, refer_to, referred}
+use Rattle.lowering_fits.specs.of_zpl_lowering.Hoist.{Hoisted, Free, behind, neighbour_if, stored_element, unary_code, fold_rows, folding, kept_rows, part_folding, flooding, scan_with, scan_without, masked_scan, number_of, scanning, temps_from, three_of, rooms, index_puts, remap_code, remapping, border_vectors, border_rows, copy_rows, wrapping, mask_code, outside_code, trap_if, hoisted, all_hoisted}
 use Rattle.lowering_checks.specs.Walked.{IsKnown, Since, behind_rows, MayRun, AreChecked, laid, HasChecks}
 use Rattle.lowering_checks.proofs.WalkLemmas.{behind_both, laid_rows, laid_then, rows_check, then_check, when_check}
 use Rattle.lowering_checks.proofs.KnownLemmas.{both_true, AllKnown, all_left, all_right, KnowsTree}

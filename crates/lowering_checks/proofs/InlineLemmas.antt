@@ -10,18 +10,18 @@ use Rattle.row_runs.specs.Code.{Jump, Unless}
 use Rattle.row_runs.specs.Straight.{Every}
 use Rattle.row_runs.specs.Structured as piece
 use Rattle.row_runs.specs.Structured.{Piece, flattened, size}
-use Rattle.flat_form.specs.Laws.{IsInline}
-use Rattle.flat_form.specs.Row as row
-use Rattle.flat_form.specs.Row.{Row}
-use Rattle.zpl_lowering.specs.Check.{Check, flat_row}
-use Rattle.zpl_lowering.specs.Where.{Stored, Slotted, slotted_at, Where, Next, reach_of}
-use Rattle.zpl_lowering.specs.Slate.{Placed}
-use Rattle.zpl_lowering.specs.Reference.{over_reference, needs, refer_to}
-use Rattle.zpl_lowering.specs.Hoist.{fold_rows, kept_rows, temps_from, rooms, index_puts, mask_code}
-use Rattle.zpl_lowering.specs.Lowered.{Phased, phased_with, first_left}
-use Rattle.zpl_lowering.specs.Statement.{lowered_array, put_row, Inside, form_inside, masked_members, shattered}
-use Rattle.zpl_lowering.specs.Program.{lowered_program}
-use Rattle.zpl_lowering.specs.Tables.{rows_of}
+use Rattle.lowering_fits.specs.of_flat_form.Laws.{IsInline}
+use Rattle.lowering_fits.specs.of_flat_form.Row as row
+use Rattle.lowering_fits.specs.of_flat_form.Row.{Row}
+use Rattle.lowering_fits.specs.of_zpl_lowering.Check.{Check, flat_row}
+use Rattle.lowering_fits.specs.of_zpl_lowering.Where.{Stored, Slotted, slotted_at, Where, Next, reach_of}
+use Rattle.lowering_fits.specs.of_zpl_lowering.Slate.{Placed}
+use Rattle.lowering_fits.specs.of_zpl_lowering.Reference.{over_reference, needs, refer_to}
+use Rattle.lowering_fits.specs.of_zpl_lowering.Hoist.{fold_rows, kept_rows, temps_from, rooms, index_puts, mask_code}
+use Rattle.lowering_fits.specs.of_zpl_lowering.Lowered.{Phased, phased_with, first_left}
+use Rattle.lowering_fits.specs.of_zpl_lowering.Statement.{lowered_array, put_row, Inside, form_inside, masked_members, shattered}
+use Rattle.lowering_fits.specs.of_zpl_lowering.Program.{lowered_program}
+use Rattle.lowering_fits.specs.of_zpl_lowering.Tables.{rows_of}
 use Rattle.lowering_checks.specs.Walked.{laid}
 use Rattle.lowering_checks.proofs.WalkLemmas.{map_both, laid_rows, laid_then}
 use Rattle.lowering_checks.proofs.SlateLemmas.{AllQuiet, needs_quiet}

@@ -12,11 +12,11 @@ use Rattle.node_form.specs.Expression as expr
 use Rattle.node_form.specs.Expression.{Expression, words_of}
 use Rattle.node_form.specs.Value.{unmoved}
 use Rattle.code_parts.specs.Uses.{is_item}
-use Rattle.fuse_contract.specs.Fusing.{reference}
+use Rattle.pass_parts.specs.of_fuse_contract.Fusing.{reference}
 use Rattle.pass_parts.specs.Checks.{is_one_of}
-use Rattle.flat_form.specs.Row as row
-use Rattle.flat_form.specs.Row.{Member, Words}
-use Rattle.zpl_lowering.specs.Reference.{Reference, each_once, is_same, is_same_vector, need_of, needs}
+use Rattle.lowering_fits.specs.of_flat_form.Row as row
+use Rattle.lowering_fits.specs.of_flat_form.Row.{Member, Words}
+use Rattle.lowering_fits.specs.of_zpl_lowering.Reference.{Reference, each_once, is_same, is_same_vector, need_of, needs}
 use Rattle.lowering_checks.specs.Walked.{IsKnown, KnowsWord, KnowsWords, KnowsMask, KnowsMember, KnowsMembers, Since, behind_rows}
 
 -- ---- an item among items

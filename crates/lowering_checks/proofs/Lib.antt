@@ -31,3 +31,5 @@ pub mod InlineLemmas
 pub mod Examples
 pub mod TotalLemmas
 pub mod StandLemmas
+pub use Rattle.pass_parts.proofs as of_pass_parts
+pub use Rattle.pass_parts.proofs.of_pass_sizes as of_pass_sizes

@@ -23,13 +23,13 @@ use Rattle.meaning_ranks.specs.Shaped as shaped
 use Rattle.meaning_ranks.specs.Shaped.{AreFloods, IsShaped}
 use Rattle.meaning_ranks.proofs.ShapeLemmas.{Fits, forms_fit}
 use Rattle.meaning_ranks.proofs.CurrentLemmas as texts
-use Rattle.flat_form.specs.Row as row
-use Rattle.flat_form.specs.Row.{Row}
+use Rattle.lowering_fits.specs.of_flat_form.Row as row
+use Rattle.lowering_fits.specs.of_flat_form.Row.{Row}
 use Rattle.node_form.specs.declared.instructions.Instr.TheVariants as instr
-use Rattle.zpl_lowering.specs.Where.{Slotted, SlotCurrents, slotted_or, slotted_at, with_slotted, Where, is_flood, flood_of}
-use Rattle.zpl_lowering.specs.Statement.{prefix_opened}
-use Rattle.zpl_lowering.specs.Bracket as low
-use Rattle.zpl_lowering.specs.Bracket.{Opened, Form, forms_of, formed, constant_of, constant_dim, constant_dims, constant_span, constant_name, constant_region, within, dim_flood, dims_flood, named_region, name_opened, region_slot, computed, one_row, fixed_or, bracket}
+use Rattle.lowering_fits.specs.of_zpl_lowering.Where.{Slotted, SlotCurrents, slotted_or, slotted_at, with_slotted, Where, is_flood, flood_of}
+use Rattle.lowering_fits.specs.of_zpl_lowering.Statement.{prefix_opened}
+use Rattle.lowering_fits.specs.of_zpl_lowering.Bracket as low
+use Rattle.lowering_fits.specs.of_zpl_lowering.Bracket.{Opened, Form, forms_of, formed, constant_of, constant_dim, constant_dims, constant_span, constant_name, constant_region, within, dim_flood, dims_flood, named_region, name_opened, region_slot, computed, one_row, fixed_or, bracket}
 use Rattle.lowering_checks.proofs.AlikeLemmas.{Marks, Keeps, with_mark, mark_there, mark_kept}
 
 -- ---- shapes that differ in no flood dimension

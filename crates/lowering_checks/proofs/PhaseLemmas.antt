@@ -6,15 +6,15 @@ use Rattle.node_form.specs.declared.arrays.Item.{Item}
 use Rattle.node_form.specs.Expression.{Expression, Constant, Element, words_of}
 use Rattle.row_runs.specs.Structured as piece
 use Rattle.row_runs.specs.Structured.{Piece, size}
-use Rattle.flat_form.specs.Row as row
-use Rattle.flat_form.specs.Row.{Row, Member}
-use Rattle.zpl_lowering.specs.Check.{Check}
-use Rattle.zpl_lowering.specs.Where.{Stored, Numbers, Slotted, Where, Next}
-use Rattle.zpl_lowering.specs.Slate.{Slate, Slates, Settled, settled, settled_each, Placed}
-use Rattle.zpl_lowering.specs.Reference.{Reference, refer_to, over_reference, referred, all_referred, all_conforming, needs}
-use Rattle.zpl_lowering.specs.Hoist.{Hoisted, mask_word, array_code, mask_code, hoisted, all_hoisted}
-use Rattle.zpl_lowering.specs.Lowered.{Phased, free_at, phased_with, first_left}
-use Rattle.zpl_lowering.specs.Statement.{put_row, lowered_array}
+use Rattle.lowering_fits.specs.of_flat_form.Row as row
+use Rattle.lowering_fits.specs.of_flat_form.Row.{Row, Member}
+use Rattle.lowering_fits.specs.of_zpl_lowering.Check.{Check}
+use Rattle.lowering_fits.specs.of_zpl_lowering.Where.{Stored, Numbers, Slotted, Where, Next}
+use Rattle.lowering_fits.specs.of_zpl_lowering.Slate.{Slate, Slates, Settled, settled, settled_each, Placed}
+use Rattle.lowering_fits.specs.of_zpl_lowering.Reference.{Reference, refer_to, over_reference, referred, all_referred, all_conforming, needs}
+use Rattle.lowering_fits.specs.of_zpl_lowering.Hoist.{Hoisted, mask_word, array_code, mask_code, hoisted, all_hoisted}
+use Rattle.lowering_fits.specs.of_zpl_lowering.Lowered.{Phased, free_at, phased_with, first_left}
+use Rattle.lowering_fits.specs.of_zpl_lowering.Statement.{put_row, lowered_array}
 use Rattle.lowering_checks.specs.Walked.{KnowsMask, KnowsMembers, Since, behind_rows, MayRun, laid, HasChecks}
 use Rattle.lowering_checks.proofs.WalkLemmas.{behind_both, laid_rows, laid_then, then_at, rows_check, then_check}
 use Rattle.lowering_checks.proofs.KnownLemmas.{AllKnown, all_left, all_right, Knows, needs_know, KnowsTree, tree_words}

@@ -12,17 +12,17 @@ use Rattle.node_form.specs.Expression.{Expression, Element, words_of}
 use Rattle.row_runs.specs.Code.{Jump, Unless}
 use Rattle.row_runs.specs.Structured as piece
 use Rattle.row_runs.specs.Structured.{Piece, flattened, size}
-use Rattle.flat_form.specs.Row as row
-use Rattle.flat_form.specs.Row.{Row, Member, Words}
-use Rattle.zpl_lowering.specs.Check.{Check, flat_row}
-use Rattle.zpl_lowering.specs.Where.{Stored, Slotted, slotted_at, Where, Next, reach_of}
-use Rattle.zpl_lowering.specs.Slate.{Settled, Slates, Placed, settled_each}
-use Rattle.zpl_lowering.specs.Reference.{Reference, all_referred, all_conforming, needs, refer_to, over_reference}
-use Rattle.zpl_lowering.specs.Hoist.{fold_rows, kept_rows, temps_from, rooms, index_puts, mask_code, all_hoisted}
-use Rattle.zpl_lowering.specs.Lowered.{Phased, phased_with, first_left, free_at}
-use Rattle.zpl_lowering.specs.Statement.{lowered_array, put_row, Inside, both_inside, Elementwise, elementwise, put_member, put_thing, opening, otherwise_members, stmt_inside, stmts_inside, form_inside, arms_inside, arm_inside, otherwise_inside, masked_members, has_put, shattered}
-use Rattle.zpl_lowering.specs.Program.{lowered_program}
-use Rattle.zpl_lowering.specs.Tables.{rows_of}
+use Rattle.lowering_fits.specs.of_flat_form.Row as row
+use Rattle.lowering_fits.specs.of_flat_form.Row.{Row, Member, Words}
+use Rattle.lowering_fits.specs.of_zpl_lowering.Check.{Check, flat_row}
+use Rattle.lowering_fits.specs.of_zpl_lowering.Where.{Stored, Slotted, slotted_at, Where, Next, reach_of}
+use Rattle.lowering_fits.specs.of_zpl_lowering.Slate.{Settled, Slates, Placed, settled_each}
+use Rattle.lowering_fits.specs.of_zpl_lowering.Reference.{Reference, all_referred, all_conforming, needs, refer_to, over_reference}
+use Rattle.lowering_fits.specs.of_zpl_lowering.Hoist.{fold_rows, kept_rows, temps_from, rooms, index_puts, mask_code, all_hoisted}
+use Rattle.lowering_fits.specs.of_zpl_lowering.Lowered.{Phased, phased_with, first_left, free_at}
+use Rattle.lowering_fits.specs.of_zpl_lowering.Statement.{lowered_array, put_row, Inside, both_inside, Elementwise, elementwise, put_member, put_thing, opening, otherwise_members, stmt_inside, stmts_inside, form_inside, arms_inside, arm_inside, otherwise_inside, masked_members, has_put, shattered}
+use Rattle.lowering_fits.specs.of_zpl_lowering.Program.{lowered_program}
+use Rattle.lowering_fits.specs.of_zpl_lowering.Tables.{rows_of}
 use Rattle.lowering_checks.specs.Walked.{laid}
 use Rattle.lowering_checks.specs.Prepared.{putting_in, prepared_in, ArePrepared}
 use Rattle.lowering_checks.proofs.WalkLemmas.{map_both, laid_rows, laid_then}

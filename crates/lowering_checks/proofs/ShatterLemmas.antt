@@ -12,14 +12,14 @@ use Rattle.zpl_meaning.specs.Points.{assigned_expr}
 use Rattle.meaning_ranks.specs.Ranked.{IsPointOf, ArePointsOf, IsPointFormOf, ArePointArmsOf, IsPointArmOf, IsPointElseOf}
 use Rattle.node_form.specs.declared.arrays.Item.{Item}
 use Rattle.node_form.specs.Expression.{Expression}
-use Rattle.flat_form.specs.Row as row
-use Rattle.flat_form.specs.Row.{Row, Member, Words}
+use Rattle.lowering_fits.specs.of_flat_form.Row as row
+use Rattle.lowering_fits.specs.of_flat_form.Row.{Row, Member, Words}
 use Rattle.row_runs.specs.Structured as piece
-use Rattle.zpl_lowering.specs.Where.{Stored, Slotted, slotted_at, Where, Next, reach_of}
-use Rattle.zpl_lowering.specs.Slate.{Slate, Settled, behind as settled_behind, named_slate, settled}
-use Rattle.zpl_lowering.specs.Reference.{Reference, over_reference, needs, referred}
-use Rattle.zpl_lowering.specs.Hoist.{Free, Hoisted, behind, mask_code, hoisted}
-use Rattle.zpl_lowering.specs.Statement.{Inside, both_inside, Elementwise, elementwise, put_member, put_thing, opening, otherwise_members, stmt_inside, stmts_inside, form_inside, arms_inside, arm_inside, otherwise_inside, masked_members, has_put, apart_rows, shattered}
+use Rattle.lowering_fits.specs.of_zpl_lowering.Where.{Stored, Slotted, slotted_at, Where, Next, reach_of}
+use Rattle.lowering_fits.specs.of_zpl_lowering.Slate.{Slate, Settled, behind as settled_behind, named_slate, settled}
+use Rattle.lowering_fits.specs.of_zpl_lowering.Reference.{Reference, over_reference, needs, referred}
+use Rattle.lowering_fits.specs.of_zpl_lowering.Hoist.{Free, Hoisted, behind, mask_code, hoisted}
+use Rattle.lowering_fits.specs.of_zpl_lowering.Statement.{Inside, both_inside, Elementwise, elementwise, put_member, put_thing, opening, otherwise_members, stmt_inside, stmts_inside, form_inside, arms_inside, arm_inside, otherwise_inside, masked_members, has_put, apart_rows, shattered}
 use Rattle.lowering_checks.specs.Walked.{KnowsWords, KnowsMask, KnowsMember, KnowsMembers, HasChecks}
 use Rattle.lowering_checks.proofs.WalkLemmas.{checked_both, rows_check, then_check}
 use Rattle.lowering_checks.proofs.KnownLemmas.{both_true, AllKnown, all_left, all_right, KnowsTree, tree_words}

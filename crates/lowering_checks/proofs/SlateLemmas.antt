@@ -10,16 +10,16 @@ use Rattle.zpl_meaning.specs.Store.{Thing, Scalar, ArrayAt, Fixed, thing_of}
 use Rattle.zpl_meaning.specs.Context.{Currents, Edge}
 use Rattle.zpl_meaning.specs.Regions.{vector_in}
 use Rattle.zpl_meaning.specs.Proper.{HasCurrent, IsRead, IsProper}
-use Rattle.flat_form.specs.Laws.{IsPlain}
-use Rattle.flat_form.specs.Row as row
-use Rattle.flat_form.specs.Row.{Row}
+use Rattle.lowering_fits.specs.of_flat_form.Laws.{IsPlain}
+use Rattle.lowering_fits.specs.of_flat_form.Row as row
+use Rattle.lowering_fits.specs.of_flat_form.Row.{Row}
 use Rattle.node_form.specs.declared.instructions.Instr.TheVariants as instr
-use Rattle.zpl_lowering.specs.Where.{Slotted, slotted_at, Where, Next}
-use Rattle.zpl_lowering.specs.Bracket.{Opened, Form, standing, formed, named_region, name_opened, forms_of, computed, one_row, fixed_or, constant_region, bracket}
-use Rattle.zpl_lowering.specs.Slate as slate
-use Rattle.zpl_lowering.specs.Slate.{Slate, Slates, NoSlate, ThenSlate, Settled, behind, named_slate, shifted_slate, remap_slate, around_slate, of_opened, opened_source, source_of, source_rank, under_source, settled, settled_all, Placed, settled_each}
-use Rattle.zpl_lowering.specs.Reference.{conforming, all_conforming, each_once, need_of, needs, Reference}
-use Rattle.zpl_lowering.specs.Statement.{prefix_opened}
+use Rattle.lowering_fits.specs.of_zpl_lowering.Where.{Slotted, slotted_at, Where, Next}
+use Rattle.lowering_fits.specs.of_zpl_lowering.Bracket.{Opened, Form, standing, formed, named_region, name_opened, forms_of, computed, one_row, fixed_or, constant_region, bracket}
+use Rattle.lowering_fits.specs.of_zpl_lowering.Slate as slate
+use Rattle.lowering_fits.specs.of_zpl_lowering.Slate.{Slate, Slates, NoSlate, ThenSlate, Settled, behind, named_slate, shifted_slate, remap_slate, around_slate, of_opened, opened_source, source_of, source_rank, under_source, settled, settled_all, Placed, settled_each}
+use Rattle.lowering_fits.specs.of_zpl_lowering.Reference.{conforming, all_conforming, each_once, need_of, needs, Reference}
+use Rattle.lowering_fits.specs.of_zpl_lowering.Statement.{prefix_opened}
 use Rattle.lowering_checks.specs.Walked.{Since, behind_row, AreChecked}
 use Rattle.lowering_fits.specs.Reach.{place_at}
 

@@ -5,7 +5,7 @@ use Rattle.std.specs.Prelude.{◌≢◌, not, flat_map}
 use Rattle.std.specs.List.{list_all, list_any}
 use Rattle.node_form.specs.declared.tables.Tables.{Tables}
 use Rattle.code_parts.specs.Uses.{member_words, members_of, put_by, scalars_in, share}
-use Rattle.fuse_contract.specs.Fusing.{all_accumulated, are_like, are_put_alike, is_accumulating}
+use Rattle.pass_parts.specs.of_fuse_contract.Fusing.{all_accumulated, are_like, are_put_alike, is_accumulating}
 use Rattle.pass_parts.specs.Checks.{StandsWithWhatFollows}
 use Rattle.lowering_checks.specs.Totals.{NoneAccumulates, FirstPuts}
 use Rattle.lowering_checks.specs.Stands.{ReadsApart, PutsAlike}

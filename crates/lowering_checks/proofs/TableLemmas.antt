@@ -12,9 +12,9 @@ use Rattle.node_form.specs.declared.instructions.Instr.TheVariants as instr
 use Rattle.node_form.specs.declared.tables.Tables.{Tables}
 use Rattle.node_form.specs.Value.{unmoved}
 use Rattle.code_parts.specs.Uses.{rows_or_none, words_of, members_of, member_words, put_by, is_item}
-use Rattle.fuse_contract.specs.Fusing.{reference, references_in, references_of}
+use Rattle.pass_parts.specs.of_fuse_contract.Fusing.{reference, references_in, references_of}
 use Rattle.pass_parts.specs.Checks.{ChecksWhatFollows, is_check, checked_by, checked_in, is_one_of}
-use Rattle.flat_form.specs.Row.{Row, Words, words_at, member_inlined, inlined, all_inlined}
+use Rattle.lowering_fits.specs.of_flat_form.Row.{Row, Words, words_at, member_inlined, inlined, all_inlined}
 use Rattle.lowering_checks.specs.Walked.{IsKnown, KnowsWords, KnowsMember, KnowsMembers, Since, behind_rows, AreChecked}
 use Rattle.lowering_checks.proofs.WalkLemmas.{checked_rest, map_both}
 use Rattle.lowering_checks.proofs.KnownLemmas.{or_left, or_right, both_true, words_both, members_grow}

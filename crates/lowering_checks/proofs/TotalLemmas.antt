@@ -19,20 +19,20 @@ use Rattle.row_runs.specs.Structured as piece
 use Rattle.row_runs.specs.Structured.{Piece, flattened, size}
 use Rattle.code_parts.specs.Stretch.{IsStretch}
 use Rattle.code_parts.specs.Uses.{members_of, put_by}
-use Rattle.flat_form.specs.Row as row
-use Rattle.flat_form.specs.Row.{Row, Member, Words, all_inlined, inlined, member_inlined}
-use Rattle.fuse_contract.specs.Fusing.{is_accumulating}
+use Rattle.lowering_fits.specs.of_flat_form.Row as row
+use Rattle.lowering_fits.specs.of_flat_form.Row.{Row, Member, Words, all_inlined, inlined, member_inlined}
+use Rattle.pass_parts.specs.of_fuse_contract.Fusing.{is_accumulating}
 use Rattle.pass_parts.specs.Checks.{is_check}
-use Rattle.zpl_lowering.specs.Check.{Check, flat_row}
-use Rattle.zpl_lowering.specs.Where.{Stored, Slotted, slotted_at, Where, Next, reach_of}
-use Rattle.zpl_lowering.specs.Slate.{Placed}
-use Rattle.zpl_lowering.specs.Reference.{Reference, over_reference, needs, refer_to}
-use Rattle.zpl_lowering.specs.Hoist.{fold_rows, kept_rows, temps_from, rooms, index_puts, mask_code}
-use Rattle.zpl_lowering.specs.Lowered.{Phased, phased_with, first_left}
-use Rattle.zpl_lowering.specs.Statement.{lowered_array, put_row, Inside, both_inside, Elementwise, elementwise, put_member, put_thing, opening, otherwise_members, stmt_inside, stmts_inside, form_inside, arms_inside, arm_inside, otherwise_inside, masked_members, has_put, apart_rows, shattered}
-use Rattle.zpl_lowering.specs.Program.{lowered_program}
-use Rattle.zpl_lowering.proofs.PutLemmas.{masked_put}
-use Rattle.zpl_lowering.specs.Tables.{rows_of}
+use Rattle.lowering_fits.specs.of_zpl_lowering.Check.{Check, flat_row}
+use Rattle.lowering_fits.specs.of_zpl_lowering.Where.{Stored, Slotted, slotted_at, Where, Next, reach_of}
+use Rattle.lowering_fits.specs.of_zpl_lowering.Slate.{Placed}
+use Rattle.lowering_fits.specs.of_zpl_lowering.Reference.{Reference, over_reference, needs, refer_to}
+use Rattle.lowering_fits.specs.of_zpl_lowering.Hoist.{fold_rows, kept_rows, temps_from, rooms, index_puts, mask_code}
+use Rattle.lowering_fits.specs.of_zpl_lowering.Lowered.{Phased, phased_with, first_left}
+use Rattle.lowering_fits.specs.of_zpl_lowering.Statement.{lowered_array, put_row, Inside, both_inside, Elementwise, elementwise, put_member, put_thing, opening, otherwise_members, stmt_inside, stmts_inside, form_inside, arms_inside, arm_inside, otherwise_inside, masked_members, has_put, apart_rows, shattered}
+use Rattle.lowering_fits.specs.of_zpl_lowering.Program.{lowered_program}
+use Rattle.lowering_fits.proofs.of_zpl_lowering.PutLemmas.{masked_put}
+use Rattle.lowering_fits.specs.of_zpl_lowering.Tables.{rows_of}
 use Rattle.lowering_checks.specs.Walked.{laid}
 use Rattle.lowering_checks.specs.Totals.{has_total, behind_plain, behind_one, behind_all, MayLead, MayFollow, AreApart, NoneAccumulates, FirstPuts}
 use Rattle.lowering_checks.proofs.WalkLemmas.{map_both, laid_rows, laid_then}

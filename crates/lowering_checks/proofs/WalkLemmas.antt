@@ -4,8 +4,8 @@ use Rattle.std.specs.Prelude.{Option, None}
 use Rattle.row_runs.specs.Code.{Jump, Unless}
 use Rattle.row_runs.specs.Structured as piece
 use Rattle.row_runs.specs.Structured.{Piece, flattened, size}
-use Rattle.flat_form.specs.Row.{Row}
-use Rattle.zpl_lowering.specs.Check.{Check, flat_row}
+use Rattle.lowering_fits.specs.of_flat_form.Row.{Row}
+use Rattle.lowering_fits.specs.of_zpl_lowering.Check.{Check, flat_row}
 use Rattle.lowering_checks.specs.Walked.{Since, behind_row, behind_rows, AreChecked, laid, HasChecks}
 
 -- ---- rows one behind the other

@@ -17,12 +17,12 @@ use Rattle.zpl_meaning.specs.Visited.{first_setup}
 use Rattle.node_form.specs.declared.instructions.Instr.TheVariants as instr
 use Rattle.node_form.specs.declared.tables.Tables.{Tables}
 use Rattle.row_runs.specs.Structured as piece
-use Rattle.flat_form.specs.Row as row
-use Rattle.zpl_lowering.specs.Bracket.{region_slot}
-use Rattle.zpl_lowering.specs.Where.{Next}
-use Rattle.zpl_lowering.specs.Lowered.{Lowered, coded}
-use Rattle.zpl_lowering.specs.Program.{lowered_program}
-use Rattle.zpl_lowering.specs.Tables.{empty_tables, rows_of}
+use Rattle.lowering_fits.specs.of_flat_form.Row as row
+use Rattle.lowering_fits.specs.of_zpl_lowering.Bracket.{region_slot}
+use Rattle.lowering_fits.specs.of_zpl_lowering.Where.{Next}
+use Rattle.lowering_fits.specs.of_zpl_lowering.Lowered.{Lowered, coded}
+use Rattle.lowering_fits.specs.of_zpl_lowering.Program.{lowered_program}
+use Rattle.lowering_fits.specs.of_zpl_lowering.Tables.{empty_tables, rows_of}
 use Rattle.lowering_fits.specs.Lowerings.{region_rank}
 use Rattle.lowering_fits.specs.Reach.{FitsKnown}
 use Rattle.lowering_fits.specs.Slates.{SlotsAt}

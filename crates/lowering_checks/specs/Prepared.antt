@@ -5,10 +5,10 @@
 --   prepared_in   how many rows prepare for one
 --   ArePrepared   of these there are as many at least
 use Rattle.std.specs.Prelude.{ℕ, ◌+◌, ◌≤◌, Bool, false, List, [], ◌∷◌, cond}
-use Rattle.flat_form.specs.Row as row
-use Rattle.flat_form.specs.Row.{Row}
-use Rattle.zpl_lowering.specs.Statement.{has_put}
-use Rattle.pass_sizes.specs.Sizes.{is_preparing}
+use Rattle.lowering_fits.specs.of_flat_form.Row as row
+use Rattle.lowering_fits.specs.of_flat_form.Row.{Row}
+use Rattle.lowering_fits.specs.of_zpl_lowering.Statement.{has_put}
+use Rattle.pass_parts.specs.of_pass_sizes.Sizes.{is_preparing}
 
 abbrev pub is_putting : Row → Bool
 is_putting (row.Loop slot group) = has_put group

@@ -9,9 +9,9 @@ use Rattle.std.specs.Prelude.{◌≡◌, ◌⊎◌, ℕ, ◌==◌, Bool, true, n
 use Rattle.std.specs.List.{list_any}
 use Rattle.node_form.specs.declared.words.ExprOp.{ExprOp}
 use Rattle.node_form.specs.declared.words.ExprOp.TheVariants as word
-use Rattle.flat_form.specs.Row as row
-use Rattle.flat_form.specs.Row.{Row, Member, Words, member_words}
-use Rattle.zpl_lowering.specs.Statement.{has_put}
+use Rattle.lowering_fits.specs.of_flat_form.Row as row
+use Rattle.lowering_fits.specs.of_flat_form.Row.{Row, Member, Words, member_words}
+use Rattle.lowering_fits.specs.of_zpl_lowering.Statement.{has_put}
 use Rattle.lowering_checks.specs.Walked.{Since, behind_row}
 
 -- ---- what is accumulated

@@ -9,7 +9,7 @@ use Rattle.node_form.specs.declared.instructions.Instr.TheVariants as instr
 use Rattle.node_form.specs.declared.tables.Tables.{Tables}
 use Rattle.code_parts.specs.Stretch.{IsStretch}
 use Rattle.code_parts.specs.Uses.{member_words, members_of, put_by, scalars_in, share}
-use Rattle.fuse_contract.specs.Fusing.{all_accumulated, are_like}
+use Rattle.pass_parts.specs.of_fuse_contract.Fusing.{all_accumulated, are_like}
 use Rattle.pass_parts.specs.Checks.{is_check}
 
 abbrev pub ReadsApart : Tables → Type 0

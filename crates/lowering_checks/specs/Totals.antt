@@ -11,10 +11,10 @@ use Rattle.node_form.specs.declared.instructions.Instr.TheVariants as instr
 use Rattle.node_form.specs.declared.tables.Tables.{Tables}
 use Rattle.code_parts.specs.Stretch.{IsStretch}
 use Rattle.code_parts.specs.Uses.{members_of, put_by}
-use Rattle.flat_form.specs.Row as row
-use Rattle.flat_form.specs.Row.{Row, Member}
-use Rattle.zpl_lowering.specs.Statement.{has_put}
-use Rattle.fuse_contract.specs.Fusing.{is_accumulating}
+use Rattle.lowering_fits.specs.of_flat_form.Row as row
+use Rattle.lowering_fits.specs.of_flat_form.Row.{Row, Member}
+use Rattle.lowering_fits.specs.of_zpl_lowering.Statement.{has_put}
+use Rattle.pass_parts.specs.of_fuse_contract.Fusing.{is_accumulating}
 use Rattle.pass_parts.specs.Checks.{is_check}
 
 abbrev pub has_total : List Member → Bool

@@ -12,11 +12,11 @@ use Rattle.node_form.specs.declared.instructions.Instr.{Instr}
 use Rattle.node_form.specs.declared.instructions.Instr.TheVariants as instr
 use Rattle.node_form.specs.Value.{unmoved}
 use Rattle.row_runs.specs.Structured.{Piece, flattened}
-use Rattle.flat_form.specs.Laws.{IsPlain}
-use Rattle.flat_form.specs.Row as row
-use Rattle.flat_form.specs.Row.{Row, Member, Words}
-use Rattle.zpl_lowering.specs.Check.{Check, flat_row}
-use Rattle.fuse_contract.specs.Fusing.{reference}
+use Rattle.lowering_fits.specs.of_flat_form.Laws.{IsPlain}
+use Rattle.lowering_fits.specs.of_flat_form.Row as row
+use Rattle.lowering_fits.specs.of_flat_form.Row.{Row, Member, Words}
+use Rattle.lowering_fits.specs.of_zpl_lowering.Check.{Check, flat_row}
+use Rattle.pass_parts.specs.of_fuse_contract.Fusing.{reference}
 use Rattle.pass_parts.specs.Checks.{is_one_of}
 
 -- ---- references that are known

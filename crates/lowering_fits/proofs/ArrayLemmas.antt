@@ -12,16 +12,16 @@ use Rattle.zpl_region.specs.declared.dims.Dim.TheVariants as dim
 use Rattle.zpl_region.specs.declared.regions.Region.{Region}
 use Rattle.zpl_region.specs.Dim.{IsUpTo}
 use Rattle.zpl_region.specs.Region.{padding, IsWithinLimit}
-use Rattle.node_form.specs.declared.arrays.ArrayDim.{ArrayDim}
-use Rattle.node_form.specs.declared.arrays.ArrayRow.{ArrayRow}
-use Rattle.node_form.specs.declared.tables.Tables.{Tables}
-use Rattle.node_form.specs.Fits.{IsRank, storage_dim, storage_of, IsWidth, HasFringe, IsUnused, IsUnusedOrStar, IsRange, FitsArray}
-use Rattle.node_form.specs.Grid.{IsGrid}
-use Rattle.flat_form.specs.Flat.{IsFlat}
-use Rattle.zpl_lowering.specs.Hoist.{Shifted}
-use Rattle.zpl_lowering.specs.Where.{Next}
-use Rattle.zpl_lowering.specs.Lowered.{Lowered}
-use Rattle.zpl_lowering.specs.Tables.{Fringe, no_fringe, wider, all_wider, widened, fringes_of, stored_dims, stored_row, stored_rows, temp_dims, temp_row, empty_tables, tables_of}
+use Rattle.stored_shifts.specs.of_node_form.declared.arrays.ArrayDim.{ArrayDim}
+use Rattle.stored_shifts.specs.of_node_form.declared.arrays.ArrayRow.{ArrayRow}
+use Rattle.stored_shifts.specs.of_node_form.declared.tables.Tables.{Tables}
+use Rattle.stored_shifts.specs.of_node_form.Fits.{IsRank, storage_dim, storage_of, IsWidth, HasFringe, IsUnused, IsUnusedOrStar, IsRange, FitsArray}
+use Rattle.stored_shifts.specs.of_node_form.Grid.{IsGrid}
+use Rattle.lower_numbers.specs.of_flat_form.Flat.{IsFlat}
+use Rattle.lower_numbers.specs.of_zpl_lowering.Hoist.{Shifted}
+use Rattle.lower_numbers.specs.of_zpl_lowering.Where.{Next}
+use Rattle.lower_numbers.specs.of_zpl_lowering.Lowered.{Lowered}
+use Rattle.lower_numbers.specs.of_zpl_lowering.Tables.{Fringe, no_fringe, wider, all_wider, widened, fringes_of, stored_dims, stored_row, stored_rows, temp_dims, temp_row, empty_tables, tables_of}
 use Rattle.lowering_fits.specs.Slates.{SlotsAt, TempsAt, AllRanges, AreDimsOf, IsRowOf, StoragesAt, AllTemps, AllShifts}
 use Rattle.lowering_fits.specs.Lowerings.{AllRanks, IsLaidOut, FitsLowered}
 use Rattle.lowering_fits.specs.Whole.{IsNumbered}

@@ -1,16 +1,16 @@
 -- The code of a procedure that is called fits, where its body stands as it must.
 use Rattle.std.proofs.Common.{ℕ, Bool, List, [], ◌∷◌}
 use Rattle.std.specs.Prelude.{Option}
-use Rattle.zpl_tree.specs.Syntax.{VarDef}
-use Rattle.zpl_names.specs.Declared.{Routine}
-use Rattle.zpl_names.specs.Expansion.{formal_names}
-use Rattle.zpl_meaning.specs.Context.{Currents, Edge, Setup}
-use Rattle.zpl_meaning.specs.Visited.{IsVisited}
-use Rattle.node_form.specs.declared.tables.Tables.{Tables}
-use Rattle.zpl_lowering.specs.Where.{Next}
-use Rattle.zpl_lowering.specs.Lowered.{Lowered}
-use Rattle.zpl_lowering.specs.Statement.{Calling, lowered}
-use Rattle.zpl_lowering.specs.Program.{Framed, Entry, locals_code, where_in, body_code}
+use Rattle.meaning_ranks.specs.of_zpl_tree.Syntax.{VarDef}
+use Rattle.meaning_ranks.specs.of_zpl_names.Declared.{Routine}
+use Rattle.meaning_ranks.specs.of_zpl_names.Expansion.{formal_names}
+use Rattle.meaning_ranks.specs.of_zpl_meaning.Context.{Currents, Edge, Setup}
+use Rattle.meaning_ranks.specs.of_zpl_meaning.Visited.{IsVisited}
+use Rattle.stored_shifts.specs.of_node_form.declared.tables.Tables.{Tables}
+use Rattle.lower_numbers.specs.of_zpl_lowering.Where.{Next}
+use Rattle.lower_numbers.specs.of_zpl_lowering.Lowered.{Lowered}
+use Rattle.lower_numbers.specs.of_zpl_lowering.Statement.{Calling, lowered}
+use Rattle.lower_numbers.specs.of_zpl_lowering.Program.{Framed, Entry, locals_code, where_in, body_code}
 use Rattle.lowering_fits.specs.Slates.{FitNumbers}
 use Rattle.lowering_fits.specs.Reach.{place_at}
 use Rattle.lowering_fits.specs.Lowerings.{IsLaidOut, FitsLowered, IsSoundStmt}

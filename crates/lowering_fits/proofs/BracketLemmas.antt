@@ -11,29 +11,29 @@ use Rattle.zpl_region.specs.Dim.{HasStep, dim_outside_of, dim_inside_of, dim_mov
 use Rattle.zpl_region.specs.Region.{IsPadded, IsWithinLimit, each, outside_of, inside_of, moved, strided, formed, components}
 use Rattle.zpl_region.specs.Tests.{is_within_limit}
 use Rattle.zpl_region.specs.Hull.{all_from}
-use Rattle.zpl_tree.specs.Syntax.{Name, Pre, NamedRegion, Ditto, Expr, Number, Truth, Coord, Named, Shifted, Around, Remap, Call, Paren, Neg, Not, Abs, Pair, Reduce, Scan, Flood, NamedDir, Inner, Rexpr, Dims, Posts, NoPost, ThenPost, DimText, Blank, Star, One, Span, DimTexts, NoDim, ThenDim}
-use Rattle.zpl_names.specs.Kinds.{Rank}
-use Rattle.zpl_names.specs.Scope.{Scope, kind_of}
-use Rattle.zpl_names.specs.Ranks.{is_index, inner_rank, region_shape, dims_count}
-use Rattle.zpl_binding.proofs.KeptLemmas.{formed-kept}
-use Rattle.zpl_binding.specs.Outcome.{RegionLimit, Outcome, Gives, Fails, outcome_of, value_or}
-use Rattle.zpl_binding.specs.Regions.{Known, dims_of, region_over, limited, formed_by, behind, before, no_region, region_named}
-use Rattle.zpl_binding.specs.Vectors.{three_components, dir_of}
-use Rattle.zpl_meaning.specs.Store.{Environment, Thing, Scalar, ArrayAt, Fixed, thing_of}
-use Rattle.zpl_meaning.specs.Regions.{vector_in}
-use Rattle.zpl_meaning.specs.Context.{Currents, Edge}
-use Rattle.zpl_meaning.specs.Context.{no_currents}
-use Rattle.zpl_meaning.specs.Proper.{HasCurrent, IsProperName, IsProperInner, AreProperDims}
+use Rattle.meaning_ranks.specs.of_zpl_tree.Syntax.{Name, Pre, NamedRegion, Ditto, Expr, Number, Truth, Coord, Named, Shifted, Around, Remap, Call, Paren, Neg, Not, Abs, Pair, Reduce, Scan, Flood, NamedDir, Inner, Rexpr, Dims, Posts, NoPost, ThenPost, DimText, Blank, Star, One, Span, DimTexts, NoDim, ThenDim}
+use Rattle.meaning_ranks.specs.of_zpl_names.Kinds.{Rank}
+use Rattle.meaning_ranks.specs.of_zpl_names.Scope.{Scope, kind_of}
+use Rattle.meaning_ranks.specs.of_zpl_names.Ranks.{is_index, inner_rank, region_shape, dims_count}
+use Rattle.meaning_ranks.proofs.of_zpl_binding.KeptLemmas.{formed-kept}
+use Rattle.meaning_ranks.specs.of_zpl_binding.Outcome.{RegionLimit, Outcome, Gives, Fails, outcome_of, value_or}
+use Rattle.meaning_ranks.specs.of_zpl_binding.Regions.{Known, dims_of, region_over, limited, formed_by, behind, before, no_region, region_named}
+use Rattle.meaning_ranks.specs.of_zpl_binding.Vectors.{three_components, dir_of}
+use Rattle.meaning_ranks.specs.of_zpl_meaning.Store.{Environment, Thing, Scalar, ArrayAt, Fixed, thing_of}
+use Rattle.meaning_ranks.specs.of_zpl_meaning.Regions.{vector_in}
+use Rattle.meaning_ranks.specs.of_zpl_meaning.Context.{Currents, Edge}
+use Rattle.meaning_ranks.specs.of_zpl_meaning.Context.{no_currents}
+use Rattle.meaning_ranks.specs.of_zpl_meaning.Proper.{HasCurrent, IsProperName, IsProperInner, AreProperDims}
 use Rattle.meaning_ranks.specs.Ranked.{ArePresOf, ArePostsOf, IsInnerOf}
-use Rattle.node_form.specs.Expression.{words_of}
-use Rattle.node_form.specs.declared.tables.Tables.{Tables}
-use Rattle.node_form.specs.declared.instructions.Instr.TheVariants as instr
-use Rattle.node_form.specs.Fits.{IsRank, HasSlot}
-use Rattle.flat_form.specs.Row as row
-use Rattle.flat_form.specs.Row.{Row, Part}
-use Rattle.zpl_lowering.specs.Where.{Slotted, Where, flood_of, is_flood}
-use Rattle.zpl_lowering.specs.Words.{thing_code, scalar_code}
-use Rattle.zpl_lowering.specs.Bracket.{Form, Opened, standing, filled, parts_of, dims_flood, three_parts, spanned, post_forms, pre_form, pre_forms, forms_of, formed as formed_rows, named_region, name_opened, computed, one_row, fixed_or, bracket, both, constant_of, constant_dim, constant_dims, within, constant_span, constant_name, constant_region}
+use Rattle.stored_shifts.specs.of_node_form.Expression.{words_of}
+use Rattle.stored_shifts.specs.of_node_form.declared.tables.Tables.{Tables}
+use Rattle.stored_shifts.specs.of_node_form.declared.instructions.Instr.TheVariants as instr
+use Rattle.stored_shifts.specs.of_node_form.Fits.{IsRank, HasSlot}
+use Rattle.lower_numbers.specs.of_flat_form.Row as row
+use Rattle.lower_numbers.specs.of_flat_form.Row.{Row, Part}
+use Rattle.lower_numbers.specs.of_zpl_lowering.Where.{Slotted, Where, flood_of, is_flood}
+use Rattle.lower_numbers.specs.of_zpl_lowering.Words.{thing_code, scalar_code}
+use Rattle.lower_numbers.specs.of_zpl_lowering.Bracket.{Form, Opened, standing, filled, parts_of, dims_flood, three_parts, spanned, post_forms, pre_form, pre_forms, forms_of, formed as formed_rows, named_region, name_opened, computed, one_row, fixed_or, bracket, both, constant_of, constant_dim, constant_dims, within, constant_span, constant_name, constant_region}
 use Rattle.lowering_fits.specs.Inline.{FitsScalar, FitRows, AllDims, AllStars, StarsPast}
 use Rattle.lowering_fits.specs.Slates.{SlotsAt, FitNumbers, FitsBox, FitsTree, FitsVector}
 use Rattle.lowering_fits.specs.Reach.{IsBox, IsGivenBox, FitsKnown, place_at}

@@ -4,36 +4,36 @@ use Rattle.std.specs.Prelude.{Option, Some, None, slice_get}
 use Rattle.std.specs.List.{flat_map}
 use Rattle.std.specs.Option.{IsSomeAnd, is_some}
 use Rattle.zpl_region.specs.declared.regions.Region.{Region}
-use Rattle.zpl_tree.specs.Grammar.{IsProgram}
-use Rattle.zpl_tree.specs.Syntax.{Base, Name, Exprs, NoExpr, ThenExpr, Prefix, Prefixed, Form, Assign, Invoke, Block, If, While, Repeat, For, Border, Write, Return, Param, Program}
-use Rattle.zpl_names.specs.Kinds as kind
-use Rattle.zpl_names.specs.Kinds.{Kind, Shape, Formal, ScalarFormal, ArrayFormal, Signature}
-use Rattle.zpl_names.specs.Scope.{Entry, Scope, kind_in, kind_of, is_procedure}
-use Rattle.zpl_names.specs.Ranks.{array_shape}
-use Rattle.zpl_names.specs.Shapes.{Shapes, unknown_shapes, variable_kind}
-use Rattle.zpl_names.specs.Faults.{answers}
-use Rattle.zpl_names.specs.Accepted.{IsFaultless}
-use Rattle.zpl_names.specs.Declared.{Routine, IsProcedureOf, own_entries, globals_of, head_scope, entry_for, routines_of, scope_of}
-use Rattle.zpl_names.specs.Expansion.{formal_names}
-use Rattle.zpl_names.specs.Reached.{IsReached, Called as Reaching}
-use Rattle.zpl_names.specs.Sites.{Reach, AsStatement as AsOne, call_place, routine_sites}
-use Rattle.zpl_names.proofs.ListLemmas.{Among}
-use Rattle.zpl_names.proofs.NameLemmas.{no_place}
-use Rattle.zpl_binding.specs.Settings.{Setting}
-use Rattle.zpl_meaning.specs.Store.{Thing, Scalar, ArrayAt, Fixed, Names, Environment, thing_of}
-use Rattle.zpl_meaning.specs.Context.{Mask, Over, Currents, Setup, Place}
-use Rattle.zpl_meaning.specs.Calls.{formals_in, actual_thing}
-use Rattle.zpl_meaning.specs.Proper.{AreProperActuals}
-use Rattle.zpl_meaning.specs.Visited.{IsCall, AsStatement, AsAnswer, first_setup}
-use Rattle.zpl_meaning.proofs.NamesLemmas.{routine_sound}
-use Rattle.zpl_meaning.proofs.ProperLemmas.{taken}
-use Rattle.zpl_meaning.proofs.VisitLemmas.{Laws, Inside, InStmt, call_there}
+use Rattle.meaning_ranks.specs.of_zpl_tree.Grammar.{IsProgram}
+use Rattle.meaning_ranks.specs.of_zpl_tree.Syntax.{Base, Name, Exprs, NoExpr, ThenExpr, Prefix, Prefixed, Form, Assign, Invoke, Block, If, While, Repeat, For, Border, Write, Return, Param, Program}
+use Rattle.meaning_ranks.specs.of_zpl_names.Kinds as kind
+use Rattle.meaning_ranks.specs.of_zpl_names.Kinds.{Kind, Shape, Formal, ScalarFormal, ArrayFormal, Signature}
+use Rattle.meaning_ranks.specs.of_zpl_names.Scope.{Entry, Scope, kind_in, kind_of, is_procedure}
+use Rattle.meaning_ranks.specs.of_zpl_names.Ranks.{array_shape}
+use Rattle.meaning_ranks.specs.of_zpl_names.Shapes.{Shapes, unknown_shapes, variable_kind}
+use Rattle.meaning_ranks.specs.of_zpl_names.Faults.{answers}
+use Rattle.meaning_ranks.specs.of_zpl_names.Accepted.{IsFaultless}
+use Rattle.meaning_ranks.specs.of_zpl_names.Declared.{Routine, IsProcedureOf, own_entries, globals_of, head_scope, entry_for, routines_of, scope_of}
+use Rattle.meaning_ranks.specs.of_zpl_names.Expansion.{formal_names}
+use Rattle.meaning_ranks.specs.of_zpl_names.Reached.{IsReached, Called as Reaching}
+use Rattle.meaning_ranks.specs.of_zpl_names.Sites.{Reach, AsStatement as AsOne, call_place, routine_sites}
+use Rattle.meaning_ranks.proofs.of_zpl_names.ListLemmas.{Among}
+use Rattle.meaning_ranks.proofs.of_zpl_names.NameLemmas.{no_place}
+use Rattle.meaning_ranks.specs.of_zpl_binding.Settings.{Setting}
+use Rattle.meaning_ranks.specs.of_zpl_meaning.Store.{Thing, Scalar, ArrayAt, Fixed, Names, Environment, thing_of}
+use Rattle.meaning_ranks.specs.of_zpl_meaning.Context.{Mask, Over, Currents, Setup, Place}
+use Rattle.meaning_ranks.specs.of_zpl_meaning.Calls.{formals_in, actual_thing}
+use Rattle.meaning_ranks.specs.of_zpl_meaning.Proper.{AreProperActuals}
+use Rattle.meaning_ranks.specs.of_zpl_meaning.Visited.{IsCall, AsStatement, AsAnswer, first_setup}
+use Rattle.meaning_ranks.proofs.of_zpl_meaning.NamesLemmas.{routine_sound}
+use Rattle.meaning_ranks.proofs.of_zpl_meaning.ProperLemmas.{taken}
+use Rattle.meaning_ranks.proofs.of_zpl_meaning.VisitLemmas.{Laws, Inside, InStmt, call_there}
 use Rattle.meaning_ranks.proofs.PlaceLemmas.{inside_at, same_scope, visited_at}
-use Rattle.node_form.specs.declared.tables.Tables.{Tables}
-use Rattle.zpl_lowering.specs.Where.{Stored, Numbers, Slotted, SlotCurrents, slotted_or, Where, Next}
-use Rattle.zpl_lowering.specs.Lowered.{Lowered}
-use Rattle.zpl_lowering.specs.Statement.{Given, Copied, referring, copying, value_exprs, given_to, Calling}
-use Rattle.zpl_lowering.specs.Program.{Framed, Entry as CallEntry, where_in, body_code, reads_round, in_call, out_of_call, routine_code, call_code}
+use Rattle.stored_shifts.specs.of_node_form.declared.tables.Tables.{Tables}
+use Rattle.lower_numbers.specs.of_zpl_lowering.Where.{Stored, Numbers, Slotted, SlotCurrents, slotted_or, Where, Next}
+use Rattle.lower_numbers.specs.of_zpl_lowering.Lowered.{Lowered}
+use Rattle.lower_numbers.specs.of_zpl_lowering.Statement.{Given, Copied, referring, copying, value_exprs, given_to, Calling}
+use Rattle.lower_numbers.specs.of_zpl_lowering.Program.{Framed, Entry as CallEntry, where_in, body_code, reads_round, in_call, out_of_call, routine_code, call_code}
 use Rattle.lowering_fits.specs.Slates.{StoragesAt, AllStored, FitNumbers, HasStorage, IsMaskOf}
 use Rattle.lowering_fits.specs.Storages.{IsStorage, AllKept}
 use Rattle.lowering_fits.specs.Declarations.{FitAllDeclared}

@@ -4,25 +4,25 @@ use Rattle.std.specs.Prelude.{option_map, Option, Some, None}
 use Rattle.std.specs.List.{AllByRecursion}
 use Rattle.std.specs.Str.{bytes_eq}
 use Rattle.zpl_region.specs.declared.regions.Region.{Region}
-use Rattle.zpl_tree.specs.Syntax.{Name, Program}
-use Rattle.zpl_tree.specs.Grammar.{IsDecl}
-use Rattle.zpl_names.specs.Kinds as kind
-use Rattle.zpl_names.specs.Kinds.{Kind, Shape}
-use Rattle.zpl_names.specs.Scope.{kind_in, kind_of}
-use Rattle.zpl_names.specs.Ranks.{region_shape}
-use Rattle.zpl_names.specs.Declared.{Routine, own_entries, routine_named, routines_of, scope_of}
-use Rattle.zpl_names.specs.Accepted.{IsFaultless}
-use Rattle.zpl_names.proofs.ListLemmas.{Among}
-use Rattle.zpl_binding.specs.Outcome.{Outcome, Gives, Fails, outcome_of}
-use Rattle.zpl_binding.specs.Regions.{no_region, region_named}
-use Rattle.zpl_binding.specs.Settings.{Setting}
-use Rattle.zpl_binding.specs.Declarations.{known_of}
-use Rattle.zpl_meaning.specs.Given.{IsGiven}
-use Rattle.zpl_meaning.proofs.NamesLemmas.{IsSound, routine_sound}
-use Rattle.zpl_meaning.proofs.VisitLemmas.{find_among, IsOwn, all_own, own_in}
+use Rattle.meaning_ranks.specs.of_zpl_tree.Syntax.{Name, Program}
+use Rattle.meaning_ranks.specs.of_zpl_tree.Grammar.{IsDecl}
+use Rattle.meaning_ranks.specs.of_zpl_names.Kinds as kind
+use Rattle.meaning_ranks.specs.of_zpl_names.Kinds.{Kind, Shape}
+use Rattle.meaning_ranks.specs.of_zpl_names.Scope.{kind_in, kind_of}
+use Rattle.meaning_ranks.specs.of_zpl_names.Ranks.{region_shape}
+use Rattle.meaning_ranks.specs.of_zpl_names.Declared.{Routine, own_entries, routine_named, routines_of, scope_of}
+use Rattle.meaning_ranks.specs.of_zpl_names.Accepted.{IsFaultless}
+use Rattle.meaning_ranks.proofs.of_zpl_names.ListLemmas.{Among}
+use Rattle.meaning_ranks.specs.of_zpl_binding.Outcome.{Outcome, Gives, Fails, outcome_of}
+use Rattle.meaning_ranks.specs.of_zpl_binding.Regions.{no_region, region_named}
+use Rattle.meaning_ranks.specs.of_zpl_binding.Settings.{Setting}
+use Rattle.meaning_ranks.specs.of_zpl_binding.Declarations.{known_of}
+use Rattle.meaning_ranks.specs.of_zpl_meaning.Given.{IsGiven}
+use Rattle.meaning_ranks.proofs.of_zpl_meaning.NamesLemmas.{IsSound, routine_sound}
+use Rattle.meaning_ranks.proofs.of_zpl_meaning.VisitLemmas.{find_among, IsOwn, all_own, own_in}
 use Rattle.meaning_ranks.proofs.ShapeLemmas.{Fits}
 use Rattle.meaning_ranks.proofs.RegionLemmas.{reach_fits}
-use Rattle.node_form.specs.declared.tables.Tables.{Tables}
+use Rattle.stored_shifts.specs.of_node_form.declared.tables.Tables.{Tables}
 use Rattle.lowering_fits.specs.Slates.{SlotsAt}
 use Rattle.lowering_fits.specs.Reach.{FitsKnown}
 use Rattle.lowering_fits.specs.Lowerings.{region_rank}

@@ -2,10 +2,10 @@
 use Rattle.std.proofs.Common.{ℕ, List, [], ◌∷◌, ◌++◌}
 use Rattle.std.specs.Prelude.{All, Option, Some, None, flat_map}
 use Rattle.std.proofs.lemmas.List.Elements.{All-append, All-cons, All-nil}
-use Rattle.node_form.specs.declared.tables.Tables.{Tables}
-use Rattle.flat_form.specs.Row as row
-use Rattle.flat_form.specs.Row.{Words, Member, Part, Row, mask_words, member_words, part_words}
-use Rattle.flat_form.specs.Row.{row_words}
+use Rattle.stored_shifts.specs.of_node_form.declared.tables.Tables.{Tables}
+use Rattle.lower_numbers.specs.of_flat_form.Row as row
+use Rattle.lower_numbers.specs.of_flat_form.Row.{Words, Member, Part, Row, mask_words, member_words, part_words}
+use Rattle.lower_numbers.specs.of_flat_form.Row.{row_words}
 use Rattle.lowering_fits.specs.Inline.{AllDims, AllInside, FitRows, FitsDim, FitsInside, FitsMask}
 use Rattle.lowering_fits.specs.Inline.{FitsRow, FitsScalar, FitsWords}
 

@@ -3,29 +3,29 @@ use Rattle.std.proofs.Common.{◌≡◌, ℕ, suc, ◌+◌, ◌<◌, Bool, true,
 use Rattle.std.specs.Prelude.{Option, Some, None, slice_get, Contains}
 use Rattle.std.specs.Option.{IsSomeAnd}
 use Rattle.zpl_nums.specs.declared.operators.Op.{Op}
-use Rattle.zpl_tree.specs.Syntax.{Name, Expr, Number, Truth, Coord, Named, Shifted, Around, Remap, Call, Paren, Neg, Not, Abs, Pair, Reduce, Scan, Flood, Exprs, NoExpr, ThenExpr, Prefix, ForHead, Stmt, Prefixed, Stmts, NoStmt, ThenStmt, Form, Assign, Invoke, Block, If, While, Repeat, For, Border, Write, Return, Tested, Arms, NoArm, ThenArm, Otherwise, NoElse, Else}
-use Rattle.zpl_names.specs.Kinds.{Formal, ScalarFormal, ArrayFormal}
-use Rattle.zpl_names.specs.Scope.{kind_of}
-use Rattle.zpl_names.specs.Sites.{Result, Test, Assigned, is_shattered, tests_rank}
-use Rattle.zpl_meaning.specs.Store.{Thing, Scalar, ArrayAt, Fixed, thing_of}
-use Rattle.zpl_meaning.specs.Context.{Currents, Edge, Setup, Place}
-use Rattle.zpl_meaning.specs.Points.{assigned_expr}
-use Rattle.zpl_meaning.specs.Calls.{formals_in}
-use Rattle.zpl_meaning.specs.Statement.{arms_at, step_expr}
-use Rattle.zpl_meaning.specs.Proper.{HasCurrent, IsProperScalar, IsVariable, IsPlainAssign, IsProperCall, AreProperActuals, IsPointForm, AreProperTests, HasProperTests, IsProperTested, IsProperForm}
-use Rattle.zpl_meaning.specs.Visited.{IsUnder, list_of, arms_parts, else_parts, IsCall, AsStatement, AsAnswer, IsVisited, Holds}
+use Rattle.meaning_ranks.specs.of_zpl_tree.Syntax.{Name, Expr, Number, Truth, Coord, Named, Shifted, Around, Remap, Call, Paren, Neg, Not, Abs, Pair, Reduce, Scan, Flood, Exprs, NoExpr, ThenExpr, Prefix, ForHead, Stmt, Prefixed, Stmts, NoStmt, ThenStmt, Form, Assign, Invoke, Block, If, While, Repeat, For, Border, Write, Return, Tested, Arms, NoArm, ThenArm, Otherwise, NoElse, Else}
+use Rattle.meaning_ranks.specs.of_zpl_names.Kinds.{Formal, ScalarFormal, ArrayFormal}
+use Rattle.meaning_ranks.specs.of_zpl_names.Scope.{kind_of}
+use Rattle.meaning_ranks.specs.of_zpl_names.Sites.{Result, Test, Assigned, is_shattered, tests_rank}
+use Rattle.meaning_ranks.specs.of_zpl_meaning.Store.{Thing, Scalar, ArrayAt, Fixed, thing_of}
+use Rattle.meaning_ranks.specs.of_zpl_meaning.Context.{Currents, Edge, Setup, Place}
+use Rattle.meaning_ranks.specs.of_zpl_meaning.Points.{assigned_expr}
+use Rattle.meaning_ranks.specs.of_zpl_meaning.Calls.{formals_in}
+use Rattle.meaning_ranks.specs.of_zpl_meaning.Statement.{arms_at, step_expr}
+use Rattle.meaning_ranks.specs.of_zpl_meaning.Proper.{HasCurrent, IsProperScalar, IsVariable, IsPlainAssign, IsProperCall, AreProperActuals, IsPointForm, AreProperTests, HasProperTests, IsProperTested, IsProperForm}
+use Rattle.meaning_ranks.specs.of_zpl_meaning.Visited.{IsUnder, list_of, arms_parts, else_parts, IsCall, AsStatement, AsAnswer, IsVisited, Holds}
 use Rattle.meaning_ranks.specs.Ranked.{IsRanked, IsRankedValue, AreShapedActuals, IsRankedCall, IsPointFormOf, AreRankedTests, HasRankedTests, IsRankedTested, IsRankedForm}
-use Rattle.node_form.specs.Expression as expr
-use Rattle.node_form.specs.Expression.{Expression, words_of}
-use Rattle.node_form.specs.declared.tables.Tables.{Tables}
-use Rattle.row_runs.specs.Structured as piece
-use Rattle.row_runs.specs.Structured.{Piece}
-use Rattle.flat_form.specs.Row.{Row}
-use Rattle.zpl_lowering.specs.Check.{Check}
-use Rattle.zpl_lowering.specs.Where.{Where, Next, reach_of, line_of}
-use Rattle.zpl_lowering.specs.Slate.{Placed}
-use Rattle.zpl_lowering.specs.Lowered.{Lowered, rows_alone, behind, joined, followed, Phased, phased, check_of}
-use Rattle.zpl_lowering.specs.Statement.{Calling, Lowering, placed_in, Testing, test_of, set_row, lowered_to, value_exprs, value_rows, with_values, lowered_invoke, scalar_of, scalar_or, target_of, lowered_assign, is_border, Counter, counter_from, onward, enters, is_done, step_row, head_exprs, counted, lowered_for, shattered, choose_code, chosen, when, while_code, repeat_code, ends_arms, lowered, lowered_all, lowered_form, lowered_arms, lowered_arm, lowered_otherwise}
+use Rattle.stored_shifts.specs.of_node_form.Expression as expr
+use Rattle.stored_shifts.specs.of_node_form.Expression.{Expression, words_of}
+use Rattle.stored_shifts.specs.of_node_form.declared.tables.Tables.{Tables}
+use Rattle.lower_numbers.specs.of_row_runs.Structured as piece
+use Rattle.lower_numbers.specs.of_row_runs.Structured.{Piece}
+use Rattle.lower_numbers.specs.of_flat_form.Row.{Row}
+use Rattle.lower_numbers.specs.of_zpl_lowering.Check.{Check}
+use Rattle.lower_numbers.specs.of_zpl_lowering.Where.{Where, Next, reach_of, line_of}
+use Rattle.lower_numbers.specs.of_zpl_lowering.Slate.{Placed}
+use Rattle.lower_numbers.specs.of_zpl_lowering.Lowered.{Lowered, rows_alone, behind, joined, followed, Phased, phased, check_of}
+use Rattle.lower_numbers.specs.of_zpl_lowering.Statement.{Calling, Lowering, placed_in, Testing, test_of, set_row, lowered_to, value_exprs, value_rows, with_values, lowered_invoke, scalar_of, scalar_or, target_of, lowered_assign, is_border, Counter, counter_from, onward, enters, is_done, step_row, head_exprs, counted, lowered_for, shattered, choose_code, chosen, when, while_code, repeat_code, ends_arms, lowered, lowered_all, lowered_form, lowered_arms, lowered_arm, lowered_otherwise}
 use Rattle.lowering_fits.specs.Inline.{FitsScalar, FitRows, FitsPiece}
 use Rattle.lowering_fits.specs.Reach.{place_at, HasFlatRemaps, HaveFlatRemaps, IsReach}
 use Rattle.lowering_fits.specs.Lowerings.{IsLaidOut, FitsLowered, IsSoundStmt, AreSoundStmts, IsSoundForm, AreSoundArms, IsSoundElse}

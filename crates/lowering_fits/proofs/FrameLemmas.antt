@@ -8,17 +8,17 @@ use Rattle.zpl_region.specs.declared.dims.Dim.{Dim}
 use Rattle.zpl_region.specs.declared.dims.Dim.TheVariants as dim
 use Rattle.zpl_region.specs.declared.regions.Region.{Region}
 use Rattle.zpl_region.specs.Dim.{HasStep}
-use Rattle.zpl_tree.specs.Syntax.{Name, Bracket, NoBracket, Bracketed}
-use Rattle.zpl_names.specs.Expansion.{FormalName}
-use Rattle.zpl_meaning.specs.Context.{Setup}
-use Rattle.zpl_meaning.specs.Variables.{home_box, storage_box}
-use Rattle.node_form.specs.Expression as expr
-use Rattle.node_form.specs.declared.tables.Tables.{Tables}
-use Rattle.row_runs.specs.Structured as piece
-use Rattle.zpl_lowering.specs.Where.{Stored, Numbers, Next}
-use Rattle.zpl_lowering.specs.Lowered.{Lowered, rows_alone, behind}
-use Rattle.zpl_lowering.specs.Statement.{Given, Valued, Copied, Referring}
-use Rattle.zpl_lowering.specs.Program.{Framed, with_scalar, with_array, Entry, zero_row, clear_row, made_copy, givens_code, names_code}
+use Rattle.meaning_ranks.specs.of_zpl_tree.Syntax.{Name, Bracket, NoBracket, Bracketed}
+use Rattle.meaning_ranks.specs.of_zpl_names.Expansion.{FormalName}
+use Rattle.meaning_ranks.specs.of_zpl_meaning.Context.{Setup}
+use Rattle.meaning_ranks.specs.of_zpl_meaning.Variables.{home_box, storage_box}
+use Rattle.stored_shifts.specs.of_node_form.Expression as expr
+use Rattle.stored_shifts.specs.of_node_form.declared.tables.Tables.{Tables}
+use Rattle.lower_numbers.specs.of_row_runs.Structured as piece
+use Rattle.lower_numbers.specs.of_zpl_lowering.Where.{Stored, Numbers, Next}
+use Rattle.lower_numbers.specs.of_zpl_lowering.Lowered.{Lowered, rows_alone, behind}
+use Rattle.lower_numbers.specs.of_zpl_lowering.Statement.{Given, Valued, Copied, Referring}
+use Rattle.lower_numbers.specs.of_zpl_lowering.Program.{Framed, with_scalar, with_array, Entry, zero_row, clear_row, made_copy, givens_code, names_code}
 use Rattle.lowering_fits.specs.Inline.{FitRows}
 use Rattle.lowering_fits.specs.Slates.{HasStorage, AllBelow, AllStored, FitNumbers, FitsBox}
 use Rattle.lowering_fits.specs.Lowerings.{IsLaidOut, FitsLowered}

@@ -15,17 +15,17 @@ use Rattle.zpl_region.specs.Region.{components, each, moved}
 use Rattle.zpl_region.specs.Ends.{has_none}
 use Rattle.zpl_region.specs.Hull.{dim_hull, emptied, hull, each_hull_with, hull_with}
 use Rattle.zpl_region.proofs.ListLemmas.{test_from_le}
-use Rattle.zpl_arrays.specs.Around.{copy_shift, copy_storage, each_rest, zeros}
-use Rattle.node_form.specs.declared.arrays.ArrayDim.{ArrayDim}
-use Rattle.node_form.specs.declared.arrays.ArrayDim.TheVariants as array
-use Rattle.node_form.specs.declared.arrays.ArrayRow.{ArrayRow}
-use Rattle.node_form.specs.declared.tables.Tables.{Tables}
-use Rattle.node_form.specs.Fits.{IsVector}
-use Rattle.node_form.specs.Value.{unmoved}
-use Rattle.flat_form.specs.Static.{array_has_fringe, is_in_fringe}
-use Rattle.zpl_lowering.specs.Reference.{shift_in, vector_over}
-use Rattle.zpl_lowering.specs.Hoist.{Shifted}
-use Rattle.zpl_lowering.specs.Tables.{Fringe, no_fringe, all_wider, widened, fringes_of, stored_dims, stored_rows, temp_row}
+use Rattle.stored_shifts.specs.of_zpl_arrays.Around.{copy_shift, copy_storage, each_rest, zeros}
+use Rattle.stored_shifts.specs.of_node_form.declared.arrays.ArrayDim.{ArrayDim}
+use Rattle.stored_shifts.specs.of_node_form.declared.arrays.ArrayDim.TheVariants as array
+use Rattle.stored_shifts.specs.of_node_form.declared.arrays.ArrayRow.{ArrayRow}
+use Rattle.stored_shifts.specs.of_node_form.declared.tables.Tables.{Tables}
+use Rattle.stored_shifts.specs.of_node_form.Fits.{IsVector}
+use Rattle.stored_shifts.specs.of_node_form.Value.{unmoved}
+use Rattle.lower_numbers.specs.of_flat_form.Static.{array_has_fringe, is_in_fringe}
+use Rattle.lower_numbers.specs.of_zpl_lowering.Reference.{shift_in, vector_over}
+use Rattle.lower_numbers.specs.of_zpl_lowering.Hoist.{Shifted}
+use Rattle.lower_numbers.specs.of_zpl_lowering.Tables.{Fringe, no_fringe, all_wider, widened, fringes_of, stored_dims, stored_rows, temp_row}
 use Rattle.lowering_fits.specs.Slates.{AreDimsOf, IsRowOf, HasStorage, IsLevel, IsCovered, Covers, AllCovered}
 
 -- ---- vectors that move nothing in flood dimensions

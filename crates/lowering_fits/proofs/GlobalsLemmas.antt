@@ -5,23 +5,23 @@ use Rattle.std.specs.Option.{IsSomeAnd}
 use Rattle.std.specs.Str.{bytes_eq}
 use Rattle.std.proofs.lemmas.Slice.Eq.{bytes_eq-Decides}
 use Rattle.zpl_region.specs.declared.regions.Region.{Region}
-use Rattle.zpl_arrays.specs.Array.{Array}
-use Rattle.zpl_tree.specs.Syntax.{Name, Bracket, NoBracket, Bracketed, Base, Define, VarDef, Decl, Config, Constant, Regions, Directions, Vars, Defined, Program}
-use Rattle.zpl_names.specs.Kinds as kind
-use Rattle.zpl_names.specs.Kinds.{Kind, Shape}
-use Rattle.zpl_names.specs.Scope.{Entry, Scope, kind_in}
-use Rattle.zpl_names.specs.Faults.{repeated}
-use Rattle.zpl_names.specs.Shapes.{declared_shape, variable_kind}
-use Rattle.zpl_names.specs.Declared.{declaring, entry_for, globals_of, region_entry, direction_entry, procedure_entry, with_each, with_decl, with_define, with_region, with_direction, with_variables as with_vars}
-use Rattle.zpl_names.proofs.ListLemmas.{Among, Contains-from_among}
-use Rattle.zpl_names.proofs.FaultlessLemmas.{left-among, right-among}
-use Rattle.zpl_names.proofs.NameLemmas.{kind_in-distinct}
-use Rattle.zpl_meaning.specs.Context.{Setup}
-use Rattle.zpl_meaning.specs.Store.{Thing, Scalar, ArrayAt, Fixed, Names}
-use Rattle.zpl_meaning.specs.Variables.{Frame, home_box, storage_box, zero_array, with_thing, with_scalar_named, with_array_named, with_name, with_names, with_variables, with_values, with_declared, with_declarations, empty_frame}
+use Rattle.stored_shifts.specs.of_zpl_arrays.Array.{Array}
+use Rattle.meaning_ranks.specs.of_zpl_tree.Syntax.{Name, Bracket, NoBracket, Bracketed, Base, Define, VarDef, Decl, Config, Constant, Regions, Directions, Vars, Defined, Program}
+use Rattle.meaning_ranks.specs.of_zpl_names.Kinds as kind
+use Rattle.meaning_ranks.specs.of_zpl_names.Kinds.{Kind, Shape}
+use Rattle.meaning_ranks.specs.of_zpl_names.Scope.{Entry, Scope, kind_in}
+use Rattle.meaning_ranks.specs.of_zpl_names.Faults.{repeated}
+use Rattle.meaning_ranks.specs.of_zpl_names.Shapes.{declared_shape, variable_kind}
+use Rattle.meaning_ranks.specs.of_zpl_names.Declared.{declaring, entry_for, globals_of, region_entry, direction_entry, procedure_entry, with_each, with_decl, with_define, with_region, with_direction, with_variables as with_vars}
+use Rattle.meaning_ranks.proofs.of_zpl_names.ListLemmas.{Among, Contains-from_among}
+use Rattle.meaning_ranks.proofs.of_zpl_names.FaultlessLemmas.{left-among, right-among}
+use Rattle.meaning_ranks.proofs.of_zpl_names.NameLemmas.{kind_in-distinct}
+use Rattle.meaning_ranks.specs.of_zpl_meaning.Context.{Setup}
+use Rattle.meaning_ranks.specs.of_zpl_meaning.Store.{Thing, Scalar, ArrayAt, Fixed, Names}
+use Rattle.meaning_ranks.specs.of_zpl_meaning.Variables.{Frame, home_box, storage_box, zero_array, with_thing, with_scalar_named, with_array_named, with_name, with_names, with_variables, with_values, with_declared, with_declarations, empty_frame}
 use Rattle.lowering_fits.specs.Slates.{FitsBox}
-use Rattle.zpl_lowering.specs.Where.{Stored, Numbers}
-use Rattle.zpl_lowering.specs.Program.{global_numbers, scalars_from, arrays_from}
+use Rattle.lower_numbers.specs.of_zpl_lowering.Where.{Stored, Numbers}
+use Rattle.lower_numbers.specs.of_zpl_lowering.Program.{global_numbers, scalars_from, arrays_from}
 use Rattle.lowering_fits.specs.Reach.{IsStoredAs, IsKept, named_thing, AreGlobals}
 use Rattle.lowering_fits.specs.Declarations.{FitsDeclared, FitGlobals, FitsDecl, FitDecls}
 use Rattle.lowering_fits.specs.Storages.{IsHomeIn}

@@ -9,12 +9,12 @@ use Rattle.zpl_region.specs.Region.{components, each, outside_of}
 use Rattle.zpl_region.specs.Ends.{has_none}
 use Rattle.zpl_region.specs.Hull.{dim_hull, emptied, hull, each_hull_with, hull_with}
 use Rattle.zpl_region.specs.Tests.{is_within_limit}
-use Rattle.zpl_tree.specs.Syntax.{Inner}
-use Rattle.zpl_names.specs.Kinds.{Shape}
-use Rattle.zpl_binding.specs.Outcome.{RegionLimit, Outcome, Gives, Fails, and_then, outcome_of}
-use Rattle.zpl_binding.specs.Vectors.{three_components}
-use Rattle.zpl_binding.specs.Regions.{Known, limited, inner_of}
-use Rattle.zpl_binding.specs.Storages.{Border, widened, shape_borders, storage_of}
+use Rattle.meaning_ranks.specs.of_zpl_tree.Syntax.{Inner}
+use Rattle.meaning_ranks.specs.of_zpl_names.Kinds.{Shape}
+use Rattle.meaning_ranks.specs.of_zpl_binding.Outcome.{RegionLimit, Outcome, Gives, Fails, and_then, outcome_of}
+use Rattle.meaning_ranks.specs.of_zpl_binding.Vectors.{three_components}
+use Rattle.meaning_ranks.specs.of_zpl_binding.Regions.{Known, limited, inner_of}
+use Rattle.meaning_ranks.specs.of_zpl_binding.Storages.{Border, widened, shape_borders, storage_of}
 use Rattle.meaning_ranks.specs.Shaped.{AreFloods}
 use Rattle.lowering_fits.specs.Slates.{AllRanges}
 

@@ -6,20 +6,20 @@ use Rattle.std.specs.List.{flat_map}
 use Rattle.std.specs.Option.{IsSomeAnd}
 use Rattle.std.specs.Str.{bytes_eq}
 use Rattle.zpl_region.specs.declared.regions.Region.{Region}
-use Rattle.zpl_tree.specs.Syntax.{Name, Bracket, NoBracket, Bracketed, Base, Param, VarDef}
-use Rattle.zpl_names.specs.Kinds as kind
-use Rattle.zpl_names.specs.Kinds.{Kind, Shape, Formal, ScalarFormal, ArrayFormal}
-use Rattle.zpl_names.specs.Scope.{Entry, Scope, kind_in}
-use Rattle.zpl_names.specs.Shapes.{declared_shape, variable_kind}
-use Rattle.zpl_names.specs.Declared.{entry_for, formal_of, formals_of}
-use Rattle.zpl_names.specs.Expansion.{FormalName, formal_names}
-use Rattle.zpl_meaning.specs.Context.{Setup}
-use Rattle.zpl_meaning.specs.Store.{Thing, Scalar, ArrayAt, Fixed, Names}
-use Rattle.zpl_meaning.specs.Variables.{home_box, storage_box}
+use Rattle.meaning_ranks.specs.of_zpl_tree.Syntax.{Name, Bracket, NoBracket, Bracketed, Base, Param, VarDef}
+use Rattle.meaning_ranks.specs.of_zpl_names.Kinds as kind
+use Rattle.meaning_ranks.specs.of_zpl_names.Kinds.{Kind, Shape, Formal, ScalarFormal, ArrayFormal}
+use Rattle.meaning_ranks.specs.of_zpl_names.Scope.{Entry, Scope, kind_in}
+use Rattle.meaning_ranks.specs.of_zpl_names.Shapes.{declared_shape, variable_kind}
+use Rattle.meaning_ranks.specs.of_zpl_names.Declared.{entry_for, formal_of, formals_of}
+use Rattle.meaning_ranks.specs.of_zpl_names.Expansion.{FormalName, formal_names}
+use Rattle.meaning_ranks.specs.of_zpl_meaning.Context.{Setup}
+use Rattle.meaning_ranks.specs.of_zpl_meaning.Store.{Thing, Scalar, ArrayAt, Fixed, Names}
+use Rattle.meaning_ranks.specs.of_zpl_meaning.Variables.{home_box, storage_box}
 use Rattle.lowering_fits.specs.Slates.{FitsBox}
-use Rattle.zpl_lowering.specs.Where.{Stored, Numbers, Next}
-use Rattle.zpl_lowering.specs.Statement.{Given, Valued, Copied, Referring}
-use Rattle.zpl_lowering.specs.Program.{Framed, with_scalar, with_array, Entry as CallEntry}
+use Rattle.lower_numbers.specs.of_zpl_lowering.Where.{Stored, Numbers, Next}
+use Rattle.lower_numbers.specs.of_zpl_lowering.Statement.{Given, Valued, Copied, Referring}
+use Rattle.lower_numbers.specs.of_zpl_lowering.Program.{Framed, with_scalar, with_array, Entry as CallEntry}
 use Rattle.lowering_fits.specs.Reach.{IsStoredAs, FitsName, IsKept, named_thing}
 use Rattle.lowering_fits.specs.Storages.{IsHomeIn}
 use Rattle.lowering_fits.specs.Declarations.{FitsDeclared, FitAllDeclared}

@@ -6,19 +6,19 @@ use Rattle.std.specs.List.{list_all}
 use Rattle.std.specs.Str.{bytes_eq}
 use Rattle.std.proofs.lemmas.Int.{ints}
 use Rattle.zpl_region.specs.Dim.{IsUpTo}
-use Rattle.zpl_tree.specs.Syntax.{Name, Exprs, NoExpr, ThenExpr, Bracket, NoBracket, Bracketed, Base, Define, RegionDef, DirDef, VarDef, Decl, Config, Constant, Regions, Directions, Vars, Defined, Program}
-use Rattle.zpl_names.specs.Kinds as kind
-use Rattle.zpl_names.specs.Kinds.{Kind, Rank}
-use Rattle.zpl_names.specs.Scope.{Entry, Scope, kind_in}
-use Rattle.zpl_names.specs.Ranks.{exprs_count, at_most_three}
-use Rattle.zpl_names.specs.Shapes.{declared_shape, variable_kind}
-use Rattle.zpl_names.specs.Declared.{entry_for, declaring, with_define, with_region, with_direction, with_variables, with_each, with_decl, signature_of, globals_of}
-use Rattle.zpl_binding.specs.Outcome.{DirectionLimit, Outcome, Gives, Fails, and_then, value_or, Computed}
-use Rattle.zpl_binding.specs.Constants.{value_of}
-use Rattle.zpl_binding.specs.Vectors.{components_of, three_components, values_of, limited_vector, is_component, vector_of}
-use Rattle.zpl_binding.specs.Regions.{Known}
-use Rattle.zpl_binding.specs.Settings.{Setting}
-use Rattle.zpl_binding.specs.Declarations.{with_all, with_config, with_constant, with_direction as known_direction, with_region as known_region, with_decl as known_decl, nothing_known, known_of}
+use Rattle.meaning_ranks.specs.of_zpl_tree.Syntax.{Name, Exprs, NoExpr, ThenExpr, Bracket, NoBracket, Bracketed, Base, Define, RegionDef, DirDef, VarDef, Decl, Config, Constant, Regions, Directions, Vars, Defined, Program}
+use Rattle.meaning_ranks.specs.of_zpl_names.Kinds as kind
+use Rattle.meaning_ranks.specs.of_zpl_names.Kinds.{Kind, Rank}
+use Rattle.meaning_ranks.specs.of_zpl_names.Scope.{Entry, Scope, kind_in}
+use Rattle.meaning_ranks.specs.of_zpl_names.Ranks.{exprs_count, at_most_three}
+use Rattle.meaning_ranks.specs.of_zpl_names.Shapes.{declared_shape, variable_kind}
+use Rattle.meaning_ranks.specs.of_zpl_names.Declared.{entry_for, declaring, with_define, with_region, with_direction, with_variables, with_each, with_decl, signature_of, globals_of}
+use Rattle.meaning_ranks.specs.of_zpl_binding.Outcome.{DirectionLimit, Outcome, Gives, Fails, and_then, value_or, Computed}
+use Rattle.meaning_ranks.specs.of_zpl_binding.Constants.{value_of}
+use Rattle.meaning_ranks.specs.of_zpl_binding.Vectors.{components_of, three_components, values_of, limited_vector, is_component, vector_of}
+use Rattle.meaning_ranks.specs.of_zpl_binding.Regions.{Known}
+use Rattle.meaning_ranks.specs.of_zpl_binding.Settings.{Setting}
+use Rattle.meaning_ranks.specs.of_zpl_binding.Declarations.{with_all, with_config, with_constant, with_direction as known_direction, with_region as known_region, with_decl as known_decl, nothing_known, known_of}
 use Rattle.lowering_fits.proofs.VectorLemmas.{VectorBy}
 
 -- ---- the first of a name, in longer lists

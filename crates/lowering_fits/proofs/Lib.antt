@@ -46,3 +46,9 @@ pub mod CallsFitLemmas
 pub mod GlobalsLemmas
 pub mod RegionRankLemmas
 pub mod ProgramFitLemmas
+pub use Rattle.lower_numbers.proofs.of_flat_form as of_flat_form
+pub use Rattle.lower_numbers.proofs as of_lower_numbers
+pub use Rattle.meaning_ranks.proofs as of_meaning_ranks
+pub use Rattle.lower_numbers.proofs.of_text_sharing as of_text_sharing
+pub use Rattle.lower_numbers.proofs.of_zpl_lowering as of_zpl_lowering
+pub use Rattle.meaning_ranks.proofs.of_zpl_meaning as of_zpl_meaning

@@ -3,28 +3,28 @@ use Rattle.std.proofs.Common.{◌≡◌, ℕ, ◌+◌, true, false, List, [], �
 use Rattle.std.specs.Prelude.{Option, Some, None, slice_get}
 use Rattle.zpl_nums.specs.declared.operators.Op.{Op}
 use Rattle.zpl_region.specs.declared.regions.Region.{Region}
-use Rattle.zpl_arrays.specs.Around.{copy_storage}
-use Rattle.zpl_tree.specs.Syntax.{Name, Expr, Number, Truth, Coord, Named, Shifted, Around, Remap, Call, Paren, Neg, Not, Abs, Pair, Reduce, Scan, Flood, Exprs, NoExpr, ThenExpr, Dir, Prefix, Prefixed, Form, Assign}
-use Rattle.zpl_names.specs.Kinds.{Rank, Formal, ScalarFormal, ArrayFormal}
-use Rattle.zpl_names.specs.Scope.{Scope, kind_of}
-use Rattle.zpl_names.specs.Accepted.{HasNoFault}
-use Rattle.zpl_names.specs.Sites.{Reach, Role, Actual, Assigned, CallRole, whole_rank, inside, Site, AtExpr, AtCall, actuals_sites, whole_sites, call_place, value_sites}
-use Rattle.zpl_meaning.specs.Store.{Thing, Scalar, ArrayAt, Fixed, Environment, thing_of}
-use Rattle.zpl_meaning.specs.Context.{Currents, Edge, Setup, Place}
-use Rattle.zpl_meaning.specs.Regions.{vector_in}
-use Rattle.zpl_meaning.specs.Calls.{formals_in}
-use Rattle.zpl_meaning.specs.Points.{assigned_expr}
-use Rattle.zpl_meaning.specs.Proper.{IsProper, IsTarget, IsPlainAssign, AreProperActuals, IsProperCall, IsProperForm}
-use Rattle.zpl_meaning.specs.Visited.{IsUnder, IsCall, AsAnswer, IsVisited}
-use Rattle.zpl_meaning.proofs.DepthLemmas.{Each, each_left, each_right}
+use Rattle.stored_shifts.specs.of_zpl_arrays.Around.{copy_storage}
+use Rattle.meaning_ranks.specs.of_zpl_tree.Syntax.{Name, Expr, Number, Truth, Coord, Named, Shifted, Around, Remap, Call, Paren, Neg, Not, Abs, Pair, Reduce, Scan, Flood, Exprs, NoExpr, ThenExpr, Dir, Prefix, Prefixed, Form, Assign}
+use Rattle.meaning_ranks.specs.of_zpl_names.Kinds.{Rank, Formal, ScalarFormal, ArrayFormal}
+use Rattle.meaning_ranks.specs.of_zpl_names.Scope.{Scope, kind_of}
+use Rattle.meaning_ranks.specs.of_zpl_names.Accepted.{HasNoFault}
+use Rattle.meaning_ranks.specs.of_zpl_names.Sites.{Reach, Role, Actual, Assigned, CallRole, whole_rank, inside, Site, AtExpr, AtCall, actuals_sites, whole_sites, call_place, value_sites}
+use Rattle.meaning_ranks.specs.of_zpl_meaning.Store.{Thing, Scalar, ArrayAt, Fixed, Environment, thing_of}
+use Rattle.meaning_ranks.specs.of_zpl_meaning.Context.{Currents, Edge, Setup, Place}
+use Rattle.meaning_ranks.specs.of_zpl_meaning.Regions.{vector_in}
+use Rattle.meaning_ranks.specs.of_zpl_meaning.Calls.{formals_in}
+use Rattle.meaning_ranks.specs.of_zpl_meaning.Points.{assigned_expr}
+use Rattle.meaning_ranks.specs.of_zpl_meaning.Proper.{IsProper, IsTarget, IsPlainAssign, AreProperActuals, IsProperCall, IsProperForm}
+use Rattle.meaning_ranks.specs.of_zpl_meaning.Visited.{IsUnder, IsCall, AsAnswer, IsVisited}
+use Rattle.meaning_ranks.proofs.of_zpl_meaning.DepthLemmas.{Each, each_left, each_right}
 use Rattle.meaning_ranks.specs.Ranked.{IsRankedCall, IsRankedForm}
-use Rattle.row_runs.specs.Structured as piece
-use Rattle.zpl_lowering.specs.Where.{Numbers, Where, Next, slotted_at, rank_for}
-use Rattle.zpl_lowering.specs.Slate.{Placed, settled, settled_each}
-use Rattle.zpl_lowering.specs.Slate as settle
-use Rattle.zpl_lowering.specs.Reference.{refer_to, over_reference}
-use Rattle.zpl_lowering.specs.Lowered.{Lowered, rows_alone, behind, Phased, phased, phased_with, first_left}
-use Rattle.zpl_lowering.specs.Statement.{Calling, placed_in, put_row, lowered_to, value_exprs, lowered_invoke, with_values, value_rows, target_of, lowered_assign, set_row, lowered}
+use Rattle.lower_numbers.specs.of_row_runs.Structured as piece
+use Rattle.lower_numbers.specs.of_zpl_lowering.Where.{Numbers, Where, Next, slotted_at, rank_for}
+use Rattle.lower_numbers.specs.of_zpl_lowering.Slate.{Placed, settled, settled_each}
+use Rattle.lower_numbers.specs.of_zpl_lowering.Slate as settle
+use Rattle.lower_numbers.specs.of_zpl_lowering.Reference.{refer_to, over_reference}
+use Rattle.lower_numbers.specs.of_zpl_lowering.Lowered.{Lowered, rows_alone, behind, Phased, phased, phased_with, first_left}
+use Rattle.lower_numbers.specs.of_zpl_lowering.Statement.{Calling, placed_in, put_row, lowered_to, value_exprs, lowered_invoke, with_values, value_rows, target_of, lowered_assign, set_row, lowered}
 use Rattle.lowering_fits.specs.Reach.{place_at}
 use Rattle.lowering_fits.specs.Standing.{calling_of}
 use Rattle.lowering_fits.proofs.PartLemmas.{AreRight}

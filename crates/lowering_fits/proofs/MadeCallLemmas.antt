@@ -3,39 +3,39 @@ use Rattle.std.proofs.Common.{◌≡◌, ℕ, zero, suc, ◌+◌, true, ℤ, pos
 use Rattle.std.specs.Prelude.{Option, Some, None}
 use Rattle.std.specs.List.{sum_by}
 use Rattle.zpl_region.specs.declared.regions.Region.{Region}
-use Rattle.zpl_arrays.specs.Array.{array_of}
-use Rattle.zpl_arrays.specs.Around.{copy_storage}
-use Rattle.zpl_tree.specs.Grammar.{IsProgram}
-use Rattle.zpl_tree.specs.Syntax.{Prefix, Prefixed, Form, Name, Around, Exprs, Dir, Program}
-use Rattle.zpl_names.specs.Kinds as kind
-use Rattle.zpl_names.specs.Kinds.{Rank, Kind, Formal, ScalarFormal, ArrayFormal, Signature}
-use Rattle.zpl_names.specs.Scope.{Scope, kind_in, kind_of}
-use Rattle.zpl_names.specs.Shapes.{unknown_shapes}
-use Rattle.zpl_names.specs.Accepted.{HasNoFault, IsFaultless}
-use Rattle.zpl_names.specs.Declared.{Routine, IsProcedureOf, globals_of, head_scope, formals_of, routine_named, routines_of, scope_of}
-use Rattle.zpl_names.specs.Expansion.{formal_names, expanded}
-use Rattle.zpl_names.specs.Sites.{Reach, Site, AtExpr, routine_sites, in_body}
+use Rattle.stored_shifts.specs.of_zpl_arrays.Array.{array_of}
+use Rattle.stored_shifts.specs.of_zpl_arrays.Around.{copy_storage}
+use Rattle.meaning_ranks.specs.of_zpl_tree.Grammar.{IsProgram}
+use Rattle.meaning_ranks.specs.of_zpl_tree.Syntax.{Prefix, Prefixed, Form, Name, Around, Exprs, Dir, Program}
+use Rattle.meaning_ranks.specs.of_zpl_names.Kinds as kind
+use Rattle.meaning_ranks.specs.of_zpl_names.Kinds.{Rank, Kind, Formal, ScalarFormal, ArrayFormal, Signature}
+use Rattle.meaning_ranks.specs.of_zpl_names.Scope.{Scope, kind_in, kind_of}
+use Rattle.meaning_ranks.specs.of_zpl_names.Shapes.{unknown_shapes}
+use Rattle.meaning_ranks.specs.of_zpl_names.Accepted.{HasNoFault, IsFaultless}
+use Rattle.meaning_ranks.specs.of_zpl_names.Declared.{Routine, IsProcedureOf, globals_of, head_scope, formals_of, routine_named, routines_of, scope_of}
+use Rattle.meaning_ranks.specs.of_zpl_names.Expansion.{formal_names, expanded}
+use Rattle.meaning_ranks.specs.of_zpl_names.Sites.{Reach, Site, AtExpr, routine_sites, in_body}
 use Rattle.std.specs.Str.{bytes_eq}
 use Rattle.std.proofs.Common.{inl, inr}
 use Rattle.std.proofs.lemmas.List.{length-map}
-use Rattle.zpl_names.proofs.ListLemmas.{Among}
-use Rattle.zpl_names.proofs.FaultlessLemmas.{clean-routine}
-use Rattle.zpl_names.proofs.NameLemmas.{procedure_is_there}
-use Rattle.zpl_binding.specs.Settings.{Setting}
-use Rattle.zpl_meaning.specs.Store.{ArrayAt, Names, Environment, thing_of, Store}
-use Rattle.zpl_meaning.specs.Context.{Currents, Edge, Setup, Place}
-use Rattle.zpl_meaning.specs.Regions.{vector_in}
-use Rattle.zpl_meaning.specs.Calls.{Handed, formals_in, value_exprs as values_taken, handed_on, entered, with_formals}
-use Rattle.zpl_meaning.specs.Proper.{AreProperActuals, IsProperCall}
-use Rattle.zpl_meaning.specs.Variables.{Frame}
-use Rattle.zpl_meaning.specs.Visited.{IsUnder, IsCall, IsVisited, Calls, first_setup}
-use Rattle.zpl_meaning.proofs.DepthLemmas.{Each}
-use Rattle.zpl_meaning.proofs.NamesLemmas.{AreHanded, IsSound, routine_sound}
-use Rattle.zpl_meaning.proofs.VisitLemmas.{all_handed, find_among, global_procedure, own_in, all_own, AllOwn}
-use Rattle.zpl_lowering.specs.Where.{Numbers, Where, Next}
-use Rattle.zpl_lowering.specs.Lowered.{Lowered}
-use Rattle.zpl_lowering.specs.Statement.{given_to, Calling, lowered}
-use Rattle.zpl_lowering.specs.Program.{Framed, Entry, where_in, body_code, locals_code, reads_round, in_call, out_of_call, routine_code, call_code}
+use Rattle.meaning_ranks.proofs.of_zpl_names.ListLemmas.{Among}
+use Rattle.meaning_ranks.proofs.of_zpl_names.FaultlessLemmas.{clean-routine}
+use Rattle.meaning_ranks.proofs.of_zpl_names.NameLemmas.{procedure_is_there}
+use Rattle.meaning_ranks.specs.of_zpl_binding.Settings.{Setting}
+use Rattle.meaning_ranks.specs.of_zpl_meaning.Store.{ArrayAt, Names, Environment, thing_of, Store}
+use Rattle.meaning_ranks.specs.of_zpl_meaning.Context.{Currents, Edge, Setup, Place}
+use Rattle.meaning_ranks.specs.of_zpl_meaning.Regions.{vector_in}
+use Rattle.meaning_ranks.specs.of_zpl_meaning.Calls.{Handed, formals_in, value_exprs as values_taken, handed_on, entered, with_formals}
+use Rattle.meaning_ranks.specs.of_zpl_meaning.Proper.{AreProperActuals, IsProperCall}
+use Rattle.meaning_ranks.specs.of_zpl_meaning.Variables.{Frame}
+use Rattle.meaning_ranks.specs.of_zpl_meaning.Visited.{IsUnder, IsCall, IsVisited, Calls, first_setup}
+use Rattle.meaning_ranks.proofs.of_zpl_meaning.DepthLemmas.{Each}
+use Rattle.meaning_ranks.proofs.of_zpl_meaning.NamesLemmas.{AreHanded, IsSound, routine_sound}
+use Rattle.meaning_ranks.proofs.of_zpl_meaning.VisitLemmas.{all_handed, find_among, global_procedure, own_in, all_own, AllOwn}
+use Rattle.lower_numbers.specs.of_zpl_lowering.Where.{Numbers, Where, Next}
+use Rattle.lower_numbers.specs.of_zpl_lowering.Lowered.{Lowered}
+use Rattle.lower_numbers.specs.of_zpl_lowering.Statement.{given_to, Calling, lowered}
+use Rattle.lower_numbers.specs.of_zpl_lowering.Program.{Framed, Entry, where_in, body_code, locals_code, reads_round, in_call, out_of_call, routine_code, call_code}
 use Rattle.lower_numbers.specs.Arrays.{param_arrays, var_arrays, own_arrays}
 use Rattle.lowering_fits.specs.Reach.{place_at}
 use Rattle.lowering_fits.specs.Standing.{calling_of}

@@ -1,15 +1,15 @@
 -- What code has of its own, by the sites of its text: lowered code in parts.
 use Rattle.std.proofs.Common.{◌≡◌, ℕ, ◌+◌, List, [], ◌∷◌, ◌++◌, length, refl, sym, ap, ◌∙◌, subst, arith, length-append}
 use Rattle.zpl_region.specs.declared.regions.Region.{Region}
-use Rattle.zpl_names.specs.Sites.{Site}
-use Rattle.row_runs.specs.Structured.{Piece}
-use Rattle.flat_form.specs.Row.{Row}
-use Rattle.zpl_lowering.specs.Check.{Check}
-use Rattle.zpl_lowering.specs.Where.{Where, Next}
-use Rattle.zpl_lowering.specs.Slate as settle
-use Rattle.zpl_lowering.specs.Slate.{Slate, Slates, NoSlate, ThenSlate, Settled, Placed, settled, settled_each}
-use Rattle.zpl_lowering.specs.Reference.{Reference}
-use Rattle.zpl_lowering.specs.Lowered.{Lowered, joined, phased_with}
+use Rattle.meaning_ranks.specs.of_zpl_names.Sites.{Site}
+use Rattle.lower_numbers.specs.of_row_runs.Structured.{Piece}
+use Rattle.lower_numbers.specs.of_flat_form.Row.{Row}
+use Rattle.lower_numbers.specs.of_zpl_lowering.Check.{Check}
+use Rattle.lower_numbers.specs.of_zpl_lowering.Where.{Where, Next}
+use Rattle.lower_numbers.specs.of_zpl_lowering.Slate as settle
+use Rattle.lower_numbers.specs.of_zpl_lowering.Slate.{Slate, Slates, NoSlate, ThenSlate, Settled, Placed, settled, settled_each}
+use Rattle.lower_numbers.specs.of_zpl_lowering.Reference.{Reference}
+use Rattle.lower_numbers.specs.of_zpl_lowering.Lowered.{Lowered, joined, phased_with}
 use Rattle.lowering_fits.proofs.TallyLemmas.{round, called, tally, rounds_append, calls_append, IsSilent, no_sites}
 use Rattle.lowering_fits.proofs.MadeLemmas.{AllOf, all_of_both, IsSettled}
 

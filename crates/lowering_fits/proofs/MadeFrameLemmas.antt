@@ -4,24 +4,24 @@ use Rattle.std.proofs.Common.{◌≡◌, ℕ, suc, ◌+◌, Bool, true, false, L
 use Rattle.std.specs.List.{sum_by}
 use Rattle.std.proofs.lemmas.List.Sums.{sum_by-cons}
 use Rattle.zpl_region.specs.declared.regions.Region.{Region}
-use Rattle.zpl_tree.specs.Syntax.{Name, Bracket, NoBracket, Bracketed, Param, VarDef}
-use Rattle.zpl_names.specs.Kinds.{Formal, ScalarFormal, ArrayFormal}
-use Rattle.zpl_names.specs.Scope.{Scope}
-use Rattle.zpl_names.specs.Declared.{formal_of, formals_of}
-use Rattle.zpl_names.specs.Expansion.{FormalName, formal_names}
-use Rattle.zpl_names.specs.Sites.{Site}
-use Rattle.zpl_meaning.specs.Context.{Setup}
-use Rattle.zpl_meaning.specs.Calls.{Handed, Copied as CopiedValue, CopiedArray, Referred}
-use Rattle.zpl_meaning.specs.Variables.{home_box, storage_box}
-use Rattle.zpl_meaning.proofs.NamesLemmas.{IsHanded, AreHanded}
-use Rattle.row_runs.specs.Structured as piece
-use Rattle.row_runs.specs.Structured.{Piece}
-use Rattle.flat_form.specs.Row.{Row}
-use Rattle.zpl_lowering.specs.Check.{Check}
-use Rattle.zpl_lowering.specs.Where.{Next}
-use Rattle.zpl_lowering.specs.Lowered.{Lowered, rows_alone, behind, joined}
-use Rattle.zpl_lowering.specs.Statement.{Given, Valued, Copied, Referring}
-use Rattle.zpl_lowering.specs.Program.{Framed, with_scalar, with_array, Entry, zero_row, clear_row, made_copy, givens_code, names_code, locals_code}
+use Rattle.meaning_ranks.specs.of_zpl_tree.Syntax.{Name, Bracket, NoBracket, Bracketed, Param, VarDef}
+use Rattle.meaning_ranks.specs.of_zpl_names.Kinds.{Formal, ScalarFormal, ArrayFormal}
+use Rattle.meaning_ranks.specs.of_zpl_names.Scope.{Scope}
+use Rattle.meaning_ranks.specs.of_zpl_names.Declared.{formal_of, formals_of}
+use Rattle.meaning_ranks.specs.of_zpl_names.Expansion.{FormalName, formal_names}
+use Rattle.meaning_ranks.specs.of_zpl_names.Sites.{Site}
+use Rattle.meaning_ranks.specs.of_zpl_meaning.Context.{Setup}
+use Rattle.meaning_ranks.specs.of_zpl_meaning.Calls.{Handed, Copied as CopiedValue, CopiedArray, Referred}
+use Rattle.meaning_ranks.specs.of_zpl_meaning.Variables.{home_box, storage_box}
+use Rattle.meaning_ranks.proofs.of_zpl_meaning.NamesLemmas.{IsHanded, AreHanded}
+use Rattle.lower_numbers.specs.of_row_runs.Structured as piece
+use Rattle.lower_numbers.specs.of_row_runs.Structured.{Piece}
+use Rattle.lower_numbers.specs.of_flat_form.Row.{Row}
+use Rattle.lower_numbers.specs.of_zpl_lowering.Check.{Check}
+use Rattle.lower_numbers.specs.of_zpl_lowering.Where.{Next}
+use Rattle.lower_numbers.specs.of_zpl_lowering.Lowered.{Lowered, rows_alone, behind, joined}
+use Rattle.lower_numbers.specs.of_zpl_lowering.Statement.{Given, Valued, Copied, Referring}
+use Rattle.lower_numbers.specs.of_zpl_lowering.Program.{Framed, with_scalar, with_array, Entry, zero_row, clear_row, made_copy, givens_code, names_code, locals_code}
 use Rattle.lower_numbers.specs.Arrays.{bracket_arrays, var_arrays, value_arrays, param_arrays}
 use Rattle.lowering_fits.specs.Whole.{given_frames, name_frames, local_frames}
 use Rattle.lowering_fits.proofs.TallyLemmas.{round, called, tally}

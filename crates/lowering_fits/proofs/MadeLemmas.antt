@@ -3,23 +3,23 @@
 use Rattle.std.proofs.Common.{◌≡◌, ℕ, Bool, true, false, ◌&&◌, List, [], ◌∷◌, ◌++◌, length, refl, sym, ◌∙◌, subst, arith, length-append}
 use Rattle.std.specs.Prelude.{Option, Some, None}
 use Rattle.zpl_region.specs.declared.regions.Region.{Region}
-use Rattle.zpl_arrays.specs.Around.{copy_storage}
-use Rattle.zpl_tree.specs.Syntax.{Name, Expr, Number, Truth, Coord, Named, Shifted, Around, Remap, Call, Paren, Neg, Not, Abs, Pair, Reduce, Scan, Flood, Exprs, NoExpr, ThenExpr, Dir, Inner, Rexpr, Dims, NoBracket, Bracketed, Blank, Star, One, Span, DimTexts, NoDim, ThenDim}
-use Rattle.zpl_names.specs.Kinds.{Rank}
-use Rattle.zpl_names.specs.Ranks.{own_rank, operand_rank, inner_rank}
-use Rattle.zpl_names.specs.Sites.{Reach, Operand, whole_rank, over_source, Site, AtExpr, expr_sites, exprs_sites, dir_sites, region_sites}
-use Rattle.zpl_names.specs.Types.{is_elementwise}
-use Rattle.zpl_names.specs.Accepted.{HasNoFault}
-use Rattle.zpl_binding.specs.Regions.{Known, no_region}
-use Rattle.zpl_meaning.specs.Store.{Thing, Scalar, ArrayAt, Fixed, Environment, thing_of}
-use Rattle.zpl_meaning.specs.Regions.{vector_in, under_source}
-use Rattle.zpl_meaning.specs.Context.{Place}
-use Rattle.zpl_meaning.specs.Settled.{source_rank}
-use Rattle.zpl_meaning.specs.Proper.{IsArray, IsProperInner, AreProperDims, IsProper, AreProper}
-use Rattle.zpl_meaning.proofs.DepthLemmas.{Each, each_left, each_right}
-use Rattle.zpl_lowering.specs.Where.{Slotted, slotted_at, Where, Next}
-use Rattle.zpl_lowering.specs.Slate as settle
-use Rattle.zpl_lowering.specs.Slate.{Slate, Slates, ThenSlate, Settled, Placed, alone, settled, settled_all, settled_each, around_slate, named_slate, shifted_slate, remap_slate}
+use Rattle.stored_shifts.specs.of_zpl_arrays.Around.{copy_storage}
+use Rattle.meaning_ranks.specs.of_zpl_tree.Syntax.{Name, Expr, Number, Truth, Coord, Named, Shifted, Around, Remap, Call, Paren, Neg, Not, Abs, Pair, Reduce, Scan, Flood, Exprs, NoExpr, ThenExpr, Dir, Inner, Rexpr, Dims, NoBracket, Bracketed, Blank, Star, One, Span, DimTexts, NoDim, ThenDim}
+use Rattle.meaning_ranks.specs.of_zpl_names.Kinds.{Rank}
+use Rattle.meaning_ranks.specs.of_zpl_names.Ranks.{own_rank, operand_rank, inner_rank}
+use Rattle.meaning_ranks.specs.of_zpl_names.Sites.{Reach, Operand, whole_rank, over_source, Site, AtExpr, expr_sites, exprs_sites, dir_sites, region_sites}
+use Rattle.meaning_ranks.specs.of_zpl_names.Types.{is_elementwise}
+use Rattle.meaning_ranks.specs.of_zpl_names.Accepted.{HasNoFault}
+use Rattle.meaning_ranks.specs.of_zpl_binding.Regions.{Known, no_region}
+use Rattle.meaning_ranks.specs.of_zpl_meaning.Store.{Thing, Scalar, ArrayAt, Fixed, Environment, thing_of}
+use Rattle.meaning_ranks.specs.of_zpl_meaning.Regions.{vector_in, under_source}
+use Rattle.meaning_ranks.specs.of_zpl_meaning.Context.{Place}
+use Rattle.meaning_ranks.specs.of_zpl_meaning.Settled.{source_rank}
+use Rattle.meaning_ranks.specs.of_zpl_meaning.Proper.{IsArray, IsProperInner, AreProperDims, IsProper, AreProper}
+use Rattle.meaning_ranks.proofs.of_zpl_meaning.DepthLemmas.{Each, each_left, each_right}
+use Rattle.lower_numbers.specs.of_zpl_lowering.Where.{Slotted, slotted_at, Where, Next}
+use Rattle.lower_numbers.specs.of_zpl_lowering.Slate as settle
+use Rattle.lower_numbers.specs.of_zpl_lowering.Slate.{Slate, Slates, ThenSlate, Settled, Placed, alone, settled, settled_all, settled_each, around_slate, named_slate, shifted_slate, remap_slate}
 use Rattle.lowering_fits.proofs.TallyLemmas.{round, called, tally, rounds_append, calls_append, IsSilent, silent_both, dir_silent, AreTameDims, IsTameInner, region_silent}
 
 -- ---- expressions that need no more than names of arrays

@@ -5,21 +5,21 @@ use Rattle.std.specs.Str.{bytes_eq}
 use Rattle.std.specs.List.{filter_map, cons_option, sum_by}
 use Rattle.std.proofs.lemmas.List.Sums.{sum_by-cons}
 use Rattle.zpl_region.specs.declared.regions.Region.{Region}
-use Rattle.zpl_tree.specs.Syntax.{Name, Exprs, NoExpr, ThenExpr, Bracket, NoBracket, Bracketed, VarDef, Program}
-use Rattle.zpl_names.specs.Kinds.{Formal, ScalarFormal, ArrayFormal}
-use Rattle.zpl_names.specs.Scope.{is_procedure}
-use Rattle.zpl_names.specs.Accepted.{HasNoFault}
-use Rattle.zpl_names.specs.Declared.{Routine, routine_named}
-use Rattle.zpl_names.specs.Expansion.{FormalName, expanded}
-use Rattle.zpl_names.specs.Sites.{Site, AtWhole, AtExpr, AtCall, AtNamed, AtDir, AtRegion, AtMask, AtStmt, AtBase, AtPosts, AtProcedure, CallSite, call_of}
-use Rattle.zpl_meaning.specs.Store.{Thing, Scalar, ArrayAt, Fixed, Names, thing_of}
-use Rattle.zpl_meaning.specs.Context.{Setup}
-use Rattle.zpl_meaning.specs.Calls.{actual_thing}
-use Rattle.zpl_meaning.proofs.DepthLemmas.{Each}
-use Rattle.zpl_meaning.proofs.ProperLemmas.{taken}
-use Rattle.zpl_lowering.specs.Where.{Stored, Numbers, Where, Next}
-use Rattle.zpl_lowering.specs.Statement.{Given, Valued, Copied, Referring, referring, copying, given_to}
-use Rattle.zpl_lowering.specs.Program.{Framed, with_scalar, with_array, Entry}
+use Rattle.meaning_ranks.specs.of_zpl_tree.Syntax.{Name, Exprs, NoExpr, ThenExpr, Bracket, NoBracket, Bracketed, VarDef, Program}
+use Rattle.meaning_ranks.specs.of_zpl_names.Kinds.{Formal, ScalarFormal, ArrayFormal}
+use Rattle.meaning_ranks.specs.of_zpl_names.Scope.{is_procedure}
+use Rattle.meaning_ranks.specs.of_zpl_names.Accepted.{HasNoFault}
+use Rattle.meaning_ranks.specs.of_zpl_names.Declared.{Routine, routine_named}
+use Rattle.meaning_ranks.specs.of_zpl_names.Expansion.{FormalName, expanded}
+use Rattle.meaning_ranks.specs.of_zpl_names.Sites.{Site, AtWhole, AtExpr, AtCall, AtNamed, AtDir, AtRegion, AtMask, AtStmt, AtBase, AtPosts, AtProcedure, CallSite, call_of}
+use Rattle.meaning_ranks.specs.of_zpl_meaning.Store.{Thing, Scalar, ArrayAt, Fixed, Names, thing_of}
+use Rattle.meaning_ranks.specs.of_zpl_meaning.Context.{Setup}
+use Rattle.meaning_ranks.specs.of_zpl_meaning.Calls.{actual_thing}
+use Rattle.meaning_ranks.proofs.of_zpl_meaning.DepthLemmas.{Each}
+use Rattle.meaning_ranks.proofs.of_zpl_meaning.ProperLemmas.{taken}
+use Rattle.lower_numbers.specs.of_zpl_lowering.Where.{Stored, Numbers, Where, Next}
+use Rattle.lower_numbers.specs.of_zpl_lowering.Statement.{Given, Valued, Copied, Referring, referring, copying, given_to}
+use Rattle.lower_numbers.specs.of_zpl_lowering.Program.{Framed, with_scalar, with_array, Entry}
 use Rattle.lowering_fits.specs.Whole.{given_frame, given_frames, local_frame, name_frames, local_frames}
 use Rattle.lowering_fits.proofs.TallyLemmas.{called, tally}
 use Rattle.lowering_fits.proofs.NamedLemmas.{IsBelow, AreBelow, AllBelow, names_below, both_below, OptBelow, actual_below}

@@ -4,33 +4,33 @@ use Rattle.std.proofs.Common.{◌≡◌, ℕ, ◌+◌, Bool, true, false, List, 
 use Rattle.std.specs.Prelude.{Option, Some, None, Contains}
 use Rattle.std.specs.Option.{option_to_list}
 use Rattle.std.specs.List.{flat_map}
-use Rattle.node_form.specs.Expression.{Variable}
+use Rattle.stored_shifts.specs.of_node_form.Expression.{Variable}
 use Rattle.zpl_region.specs.declared.regions.Region.{Region}
-use Rattle.zpl_arrays.specs.Around.{copy_storage}
-use Rattle.zpl_tree.specs.Grammar.{IsBody}
-use Rattle.zpl_tree.specs.Syntax.{Base, Name, Expr, Around, Exprs, Dir, Mask as MaskText, Prefix, ForHead, Item, Str, Value, Stmt, Prefixed, Stmts, NoStmt, ThenStmt, Form, Assign, Invoke, Block, If, While, Repeat, For, Border, Write, Return, Tested, Arms, NoArm, ThenArm, Otherwise, NoElse, Else}
-use Rattle.zpl_names.specs.Kinds.{Rank}
-use Rattle.zpl_names.specs.Scope.{Scope}
-use Rattle.zpl_names.specs.Ranks.{inner_rank, mask_rank}
-use Rattle.zpl_names.specs.Shapes.{prefix_rank}
-use Rattle.zpl_names.specs.Accepted.{HasNoFault}
-use Rattle.zpl_names.specs.Sites.{Reach, Role, Limit, Result, Test, Printed, AsStatement as AsOne, under_prefix as reach_under, under_prefixes, inside, Site, AtExpr, AtMask, AtStmt, region_sites, whole_sites, prefix_sites, prefixes_sites, item_sites, step_sites, test_rank, arms_rank, tests_rank, is_shattered, stmt_sites, stmts_sites, form_sites, arms_sites, otherwise_sites, body_sites, outermost_sites}
-use Rattle.zpl_binding.specs.Regions.{no_region}
-use Rattle.zpl_meaning.specs.Store.{ArrayAt, Environment, thing_of}
-use Rattle.zpl_meaning.specs.Context.{Over, Currents, with_over, Edge, Setup, Place}
-use Rattle.zpl_meaning.specs.Regions.{vector_in, mask_in, edge_in, current_for as region_for}
-use Rattle.zpl_meaning.specs.Statement.{arms_at, step_expr}
-use Rattle.zpl_meaning.specs.Proper.{IsProper, IsProperScalar, IsProperWhole, IsProperPrefix, AreProperTests, HasProperTests, IsProperTested, AreProperItems, IsProperUnder, IsProperForm}
-use Rattle.zpl_meaning.specs.Visited.{IsUnder, Itself, Behind, list_of, arms_parts, else_parts, AsStatement, IsVisited, Holds}
-use Rattle.zpl_meaning.proofs.DepthLemmas.{Each, each_left, each_right}
+use Rattle.stored_shifts.specs.of_zpl_arrays.Around.{copy_storage}
+use Rattle.meaning_ranks.specs.of_zpl_tree.Grammar.{IsBody}
+use Rattle.meaning_ranks.specs.of_zpl_tree.Syntax.{Base, Name, Expr, Around, Exprs, Dir, Mask as MaskText, Prefix, ForHead, Item, Str, Value, Stmt, Prefixed, Stmts, NoStmt, ThenStmt, Form, Assign, Invoke, Block, If, While, Repeat, For, Border, Write, Return, Tested, Arms, NoArm, ThenArm, Otherwise, NoElse, Else}
+use Rattle.meaning_ranks.specs.of_zpl_names.Kinds.{Rank}
+use Rattle.meaning_ranks.specs.of_zpl_names.Scope.{Scope}
+use Rattle.meaning_ranks.specs.of_zpl_names.Ranks.{inner_rank, mask_rank}
+use Rattle.meaning_ranks.specs.of_zpl_names.Shapes.{prefix_rank}
+use Rattle.meaning_ranks.specs.of_zpl_names.Accepted.{HasNoFault}
+use Rattle.meaning_ranks.specs.of_zpl_names.Sites.{Reach, Role, Limit, Result, Test, Printed, AsStatement as AsOne, under_prefix as reach_under, under_prefixes, inside, Site, AtExpr, AtMask, AtStmt, region_sites, whole_sites, prefix_sites, prefixes_sites, item_sites, step_sites, test_rank, arms_rank, tests_rank, is_shattered, stmt_sites, stmts_sites, form_sites, arms_sites, otherwise_sites, body_sites, outermost_sites}
+use Rattle.meaning_ranks.specs.of_zpl_binding.Regions.{no_region}
+use Rattle.meaning_ranks.specs.of_zpl_meaning.Store.{ArrayAt, Environment, thing_of}
+use Rattle.meaning_ranks.specs.of_zpl_meaning.Context.{Over, Currents, with_over, Edge, Setup, Place}
+use Rattle.meaning_ranks.specs.of_zpl_meaning.Regions.{vector_in, mask_in, edge_in, current_for as region_for}
+use Rattle.meaning_ranks.specs.of_zpl_meaning.Statement.{arms_at, step_expr}
+use Rattle.meaning_ranks.specs.of_zpl_meaning.Proper.{IsProper, IsProperScalar, IsProperWhole, IsProperPrefix, AreProperTests, HasProperTests, IsProperTested, AreProperItems, IsProperUnder, IsProperForm}
+use Rattle.meaning_ranks.specs.of_zpl_meaning.Visited.{IsUnder, Itself, Behind, list_of, arms_parts, else_parts, AsStatement, IsVisited, Holds}
+use Rattle.meaning_ranks.proofs.of_zpl_meaning.DepthLemmas.{Each, each_left, each_right}
 use Rattle.meaning_ranks.specs.Ranked.{IsRankedTested, IsRankedUnder, IsRankedForm}
-use Rattle.row_runs.specs.Structured as piece
-use Rattle.zpl_lowering.specs.Where.{Numbers, Where, Next, reach_of, line_of}
-use Rattle.zpl_lowering.specs.Bracket.{Opened}
-use Rattle.zpl_lowering.specs.Slate.{Placed, settled, settled_each}
-use Rattle.zpl_lowering.specs.Slate as settle
-use Rattle.zpl_lowering.specs.Lowered.{Lowered, rows_alone, behind, joined, both, followed, phased, first_left}
-use Rattle.zpl_lowering.specs.Statement.{Calling, Lowering, placed_in, Testing, test_of, with_values, value_rows, lowered_borders, is_border, prefix_opened, current_for, under_prefix, of_opened, is_last, lowered_under, head_exprs, counter_from, counted, lowered_for, scalar_of, set_row, printed_exprs, items_of, of_prints, lowered_write, shattered, choose_code, chosen, when, while_code, repeat_code, ends_arms, lowered, lowered_all, lowered_form, lowered_arms, lowered_arm, lowered_otherwise}
+use Rattle.lower_numbers.specs.of_row_runs.Structured as piece
+use Rattle.lower_numbers.specs.of_zpl_lowering.Where.{Numbers, Where, Next, reach_of, line_of}
+use Rattle.lower_numbers.specs.of_zpl_lowering.Bracket.{Opened}
+use Rattle.lower_numbers.specs.of_zpl_lowering.Slate.{Placed, settled, settled_each}
+use Rattle.lower_numbers.specs.of_zpl_lowering.Slate as settle
+use Rattle.lower_numbers.specs.of_zpl_lowering.Lowered.{Lowered, rows_alone, behind, joined, both, followed, phased, first_left}
+use Rattle.lower_numbers.specs.of_zpl_lowering.Statement.{Calling, Lowering, placed_in, Testing, test_of, with_values, value_rows, lowered_borders, is_border, prefix_opened, current_for, under_prefix, of_opened, is_last, lowered_under, head_exprs, counter_from, counted, lowered_for, scalar_of, set_row, printed_exprs, items_of, of_prints, lowered_write, shattered, choose_code, chosen, when, while_code, repeat_code, ends_arms, lowered, lowered_all, lowered_form, lowered_arms, lowered_arm, lowered_otherwise}
 use Rattle.lowering_fits.specs.Reach.{place_at}
 use Rattle.lowering_fits.specs.Standing.{calling_of}
 use Rattle.lowering_fits.proofs.PartLemmas.{AreRight, contains_first, contains_later, contains_left, contains_right}

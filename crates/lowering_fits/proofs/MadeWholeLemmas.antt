@@ -4,31 +4,31 @@ use Rattle.std.specs.Prelude.{Option, Some, None}
 use Rattle.std.specs.List.{sum_by}
 use Rattle.std.proofs.lemmas.List.Sums.{sum_by-cons}
 use Rattle.zpl_region.specs.declared.regions.Region.{Region}
-use Rattle.zpl_arrays.specs.Array.{Array}
-use Rattle.zpl_arrays.specs.Around.{copy_storage}
-use Rattle.zpl_tree.specs.Grammar.{IsProgram}
-use Rattle.zpl_tree.specs.Syntax.{Name, Around, Exprs, Dir, Bracket, NoBracket, Bracketed, VarDef, Program}
-use Rattle.zpl_names.specs.Kinds.{Rank}
-use Rattle.zpl_names.specs.Shapes.{unknown_shapes}
-use Rattle.zpl_names.specs.Accepted.{IsFaultless}
-use Rattle.zpl_names.specs.Declared.{Routine, routine_named, routines_of, entry_of, scope_of}
-use Rattle.zpl_names.specs.Expansion.{FormalName, formal_names, expanded}
-use Rattle.zpl_names.specs.Sites.{Reach, AtExpr, routine_sites}
+use Rattle.stored_shifts.specs.of_zpl_arrays.Array.{Array}
+use Rattle.stored_shifts.specs.of_zpl_arrays.Around.{copy_storage}
+use Rattle.meaning_ranks.specs.of_zpl_tree.Grammar.{IsProgram}
+use Rattle.meaning_ranks.specs.of_zpl_tree.Syntax.{Name, Around, Exprs, Dir, Bracket, NoBracket, Bracketed, VarDef, Program}
+use Rattle.meaning_ranks.specs.of_zpl_names.Kinds.{Rank}
+use Rattle.meaning_ranks.specs.of_zpl_names.Shapes.{unknown_shapes}
+use Rattle.meaning_ranks.specs.of_zpl_names.Accepted.{IsFaultless}
+use Rattle.meaning_ranks.specs.of_zpl_names.Declared.{Routine, routine_named, routines_of, entry_of, scope_of}
+use Rattle.meaning_ranks.specs.of_zpl_names.Expansion.{FormalName, formal_names, expanded}
+use Rattle.meaning_ranks.specs.of_zpl_names.Sites.{Reach, AtExpr, routine_sites}
 use Rattle.std.specs.Str.{bytes_eq}
 use Rattle.std.proofs.lemmas.List.{length-map}
-use Rattle.zpl_names.proofs.ListLemmas.{Among}
-use Rattle.zpl_binding.specs.Settings.{Setting}
-use Rattle.zpl_meaning.specs.Store.{Scalar, ArrayAt, Fixed, Names, Environment, thing_of}
-use Rattle.zpl_meaning.specs.Context.{Setup}
-use Rattle.zpl_meaning.specs.Regions.{vector_in}
-use Rattle.zpl_meaning.specs.Calls.{entered, with_formals}
-use Rattle.zpl_meaning.specs.Variables.{Frame, with_variables}
-use Rattle.zpl_meaning.specs.Visited.{IsVisited, Begins, first_setup}
-use Rattle.zpl_meaning.proofs.VisitLemmas.{find_among}
-use Rattle.zpl_lowering.specs.Where.{Numbers, Where, Next}
-use Rattle.zpl_lowering.specs.Lowered.{Lowered}
-use Rattle.zpl_lowering.specs.Statement.{Calling}
-use Rattle.zpl_lowering.specs.Program.{Framed, Entry, where_in, body_code, reads_round, in_call, routine_code, call_code}
+use Rattle.meaning_ranks.proofs.of_zpl_names.ListLemmas.{Among}
+use Rattle.meaning_ranks.specs.of_zpl_binding.Settings.{Setting}
+use Rattle.meaning_ranks.specs.of_zpl_meaning.Store.{Scalar, ArrayAt, Fixed, Names, Environment, thing_of}
+use Rattle.meaning_ranks.specs.of_zpl_meaning.Context.{Setup}
+use Rattle.meaning_ranks.specs.of_zpl_meaning.Regions.{vector_in}
+use Rattle.meaning_ranks.specs.of_zpl_meaning.Calls.{entered, with_formals}
+use Rattle.meaning_ranks.specs.of_zpl_meaning.Variables.{Frame, with_variables}
+use Rattle.meaning_ranks.specs.of_zpl_meaning.Visited.{IsVisited, Begins, first_setup}
+use Rattle.meaning_ranks.proofs.of_zpl_meaning.VisitLemmas.{find_among}
+use Rattle.lower_numbers.specs.of_zpl_lowering.Where.{Numbers, Where, Next}
+use Rattle.lower_numbers.specs.of_zpl_lowering.Lowered.{Lowered}
+use Rattle.lower_numbers.specs.of_zpl_lowering.Statement.{Calling}
+use Rattle.lower_numbers.specs.of_zpl_lowering.Program.{Framed, Entry, where_in, body_code, reads_round, in_call, routine_code, call_code}
 use Rattle.lower_numbers.specs.Arrays.{param_arrays, var_arrays, own_arrays}
 use Rattle.lowering_fits.specs.Reach.{place_at}
 use Rattle.lowering_fits.specs.Standing.{calling_of}
@@ -39,21 +39,21 @@ use Rattle.lowering_fits.proofs.MadeAssignLemmas.{IsCalling, IsMadeCall}
 use Rattle.lowering_fits.proofs.NamedLemmas.{AreBelow, found_below, names_below, both_below, OptBelow, Agrees, formals_agree, locals_agree}
 use Rattle.lowering_fits.proofs.MadeFrameLemmas.{IsMadeMore, given_copies, FineVars}
 use Rattle.lowering_fits.proofs.MadeProgramLemmas.{down, by_name, AllFine}
-use Rattle.zpl_tree.specs.Syntax.{Base, Param, Define, Decl, Config, Constant, Regions, Directions, Vars, Defined}
-use Rattle.zpl_names.specs.Accepted.{NoEntry, is_entry, no_entry}
-use Rattle.zpl_names.specs.Expansion.{expanded_arrays, expanded_of, expanded_from, instances_of}
-use Rattle.zpl_names.specs.Reached.{longest_chain}
-use Rattle.zpl_names.proofs.NameLemmas.{no_place}
-use Rattle.zpl_binding.specs.Declarations.{known_of}
-use Rattle.zpl_binding.specs.Regions.{Known}
-use Rattle.zpl_binding.specs.Storages.{Border, borders_of}
-use Rattle.zpl_meaning.specs.Context.{no_currents}
-use Rattle.zpl_meaning.specs.Program.{first_frame}
-use Rattle.zpl_meaning.specs.Variables.{with_scalar_named, with_array_named, with_thing, with_name, with_names, with_values, with_declared, with_declarations, empty_frame}
-use Rattle.zpl_meaning.proofs.ProperLemmas.{not_false}
-use Rattle.zpl_meaning.proofs.VisitLemmas.{none_there}
-use Rattle.zpl_lowering.specs.Lowered.{behind as behind_of}
-use Rattle.zpl_lowering.specs.Program.{global_numbers, globals_made, scalars_from, arrays_from, first_next, entry_calling, entry_code, lowered_program}
+use Rattle.meaning_ranks.specs.of_zpl_tree.Syntax.{Base, Param, Define, Decl, Config, Constant, Regions, Directions, Vars, Defined}
+use Rattle.meaning_ranks.specs.of_zpl_names.Accepted.{NoEntry, is_entry, no_entry}
+use Rattle.meaning_ranks.specs.of_zpl_names.Expansion.{expanded_arrays, expanded_of, expanded_from, instances_of}
+use Rattle.meaning_ranks.specs.of_zpl_names.Reached.{longest_chain}
+use Rattle.meaning_ranks.proofs.of_zpl_names.NameLemmas.{no_place}
+use Rattle.meaning_ranks.specs.of_zpl_binding.Declarations.{known_of}
+use Rattle.meaning_ranks.specs.of_zpl_binding.Regions.{Known}
+use Rattle.meaning_ranks.specs.of_zpl_binding.Storages.{Border, borders_of}
+use Rattle.meaning_ranks.specs.of_zpl_meaning.Context.{no_currents}
+use Rattle.meaning_ranks.specs.of_zpl_meaning.Program.{first_frame}
+use Rattle.meaning_ranks.specs.of_zpl_meaning.Variables.{with_scalar_named, with_array_named, with_thing, with_name, with_names, with_values, with_declared, with_declarations, empty_frame}
+use Rattle.meaning_ranks.proofs.of_zpl_meaning.ProperLemmas.{not_false}
+use Rattle.meaning_ranks.proofs.of_zpl_meaning.VisitLemmas.{none_there}
+use Rattle.lower_numbers.specs.of_zpl_lowering.Lowered.{behind as behind_of}
+use Rattle.lower_numbers.specs.of_zpl_lowering.Program.{global_numbers, globals_made, scalars_from, arrays_from, first_next, entry_calling, entry_code, lowered_program}
 use Rattle.lower_numbers.specs.Arrays.{bracket_arrays, decl_arrays, global_arrays}
 use Rattle.lower_numbers.proofs.InstanceLemmas.{arrays_are, copies_are}
 use Rattle.lowering_fits.specs.Whole.{IsNumbered}

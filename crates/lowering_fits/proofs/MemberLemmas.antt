@@ -3,32 +3,32 @@ use Rattle.std.proofs.Common.{◌≡◌, ℕ, ◌+◌, ◌≤◌, true, List, []
 use Rattle.std.specs.Prelude.{Bool, false, pos, Option, Some, None, option_and_then, slice_get, flat_map}
 use Rattle.std.specs.Option.{IsSomeAnd}
 use Rattle.zpl_nums.specs.declared.operators.Op.{Op}
-use Rattle.zpl_tree.specs.Syntax.{Name, Expr, Number, Truth, Coord, Named, Shifted, Around, Remap, Call, Paren, Neg, Not, Abs, Pair, Reduce, Scan, Flood, Stmt, Prefixed, Stmts, NoStmt, ThenStmt, Form, Assign, Invoke, Block, If, While, Repeat, For, Border, Write, Return, Arm, Tested, Arms, NoArm, ThenArm, Otherwise, NoElse, Else}
-use Rattle.zpl_names.specs.Kinds.{Rank}
-use Rattle.zpl_names.specs.Scope.{Scope, kind_of}
-use Rattle.zpl_names.specs.Ranks.{array_rank, array_shape}
-use Rattle.zpl_names.specs.Types.{is_elementwise}
-use Rattle.zpl_names.specs.Sites.{tests_rank}
-use Rattle.zpl_meaning.specs.Store.{Thing, Scalar, ArrayAt, Fixed, thing_of}
-use Rattle.zpl_meaning.specs.Context.{Currents, Edge}
-use Rattle.zpl_meaning.specs.Points.{assigned_expr}
-use Rattle.zpl_meaning.specs.Proper.{HasCurrent, IsArray, IsRead, IsProper, IsPoint, ArePoints, IsPointForm, ArePointArms, IsPointArm, IsPointElse}
+use Rattle.meaning_ranks.specs.of_zpl_tree.Syntax.{Name, Expr, Number, Truth, Coord, Named, Shifted, Around, Remap, Call, Paren, Neg, Not, Abs, Pair, Reduce, Scan, Flood, Stmt, Prefixed, Stmts, NoStmt, ThenStmt, Form, Assign, Invoke, Block, If, While, Repeat, For, Border, Write, Return, Arm, Tested, Arms, NoArm, ThenArm, Otherwise, NoElse, Else}
+use Rattle.meaning_ranks.specs.of_zpl_names.Kinds.{Rank}
+use Rattle.meaning_ranks.specs.of_zpl_names.Scope.{Scope, kind_of}
+use Rattle.meaning_ranks.specs.of_zpl_names.Ranks.{array_rank, array_shape}
+use Rattle.meaning_ranks.specs.of_zpl_names.Types.{is_elementwise}
+use Rattle.meaning_ranks.specs.of_zpl_names.Sites.{tests_rank}
+use Rattle.meaning_ranks.specs.of_zpl_meaning.Store.{Thing, Scalar, ArrayAt, Fixed, thing_of}
+use Rattle.meaning_ranks.specs.of_zpl_meaning.Context.{Currents, Edge}
+use Rattle.meaning_ranks.specs.of_zpl_meaning.Points.{assigned_expr}
+use Rattle.meaning_ranks.specs.of_zpl_meaning.Proper.{HasCurrent, IsArray, IsRead, IsProper, IsPoint, ArePoints, IsPointForm, ArePointArms, IsPointArm, IsPointElse}
 use Rattle.meaning_ranks.specs.Ranked.{IsNameOf, IsPointExpr, IsPointOf, ArePointsOf, IsPointFormOf, ArePointArmsOf, IsPointArmOf, IsPointElseOf}
-use Rattle.node_form.specs.declared.tables.Tables.{Tables}
-use Rattle.node_form.specs.declared.nests.Opening.{Opening}
-use Rattle.node_form.specs.declared.nests.Opening.TheVariants as opening
-use Rattle.node_form.specs.Nest.{IsNest, opened}
-use Rattle.node_form.specs.Fits.{HasArray}
-use Rattle.node_form.specs.Expression.{Expression, Constant}
-use Rattle.node_form.proofs.NestLemmas.{opened-append, IsNest-opened}
-use Rattle.flat_form.specs.Row as row
-use Rattle.flat_form.specs.Row.{Member, Words, member_words, member_coded, group_coded}
-use Rattle.zpl_lowering.specs.Where.{Stored, Slotted, slotted_at, Where, Next, reach_of}
-use Rattle.zpl_lowering.specs.Slate.{Slate, Settled, settled}
-use Rattle.zpl_lowering.specs.Reference.{Reference, needs, over_reference}
-use Rattle.zpl_lowering.specs.Hoist.{Hoisted, Free, hoisted, mask_code}
-use Rattle.zpl_lowering.specs.Lowered.{rows_alone}
-use Rattle.zpl_lowering.specs.Statement.{Inside, no_members, both_inside, Elementwise, elementwise, put_member, put_thing, opening as opening_members, otherwise_members, stmt_inside, stmts_inside, form_inside, arms_inside, arm_inside, otherwise_inside, masked_members, has_put, apart_rows, kept_apart, shattered}
+use Rattle.stored_shifts.specs.of_node_form.declared.tables.Tables.{Tables}
+use Rattle.stored_shifts.specs.of_node_form.declared.nests.Opening.{Opening}
+use Rattle.stored_shifts.specs.of_node_form.declared.nests.Opening.TheVariants as opening
+use Rattle.stored_shifts.specs.of_node_form.Nest.{IsNest, opened}
+use Rattle.stored_shifts.specs.of_node_form.Fits.{HasArray}
+use Rattle.stored_shifts.specs.of_node_form.Expression.{Expression, Constant}
+use Rattle.stored_shifts.proofs.of_node_form.NestLemmas.{opened-append, IsNest-opened}
+use Rattle.lower_numbers.specs.of_flat_form.Row as row
+use Rattle.lower_numbers.specs.of_flat_form.Row.{Member, Words, member_words, member_coded, group_coded}
+use Rattle.lower_numbers.specs.of_zpl_lowering.Where.{Stored, Slotted, slotted_at, Where, Next, reach_of}
+use Rattle.lower_numbers.specs.of_zpl_lowering.Slate.{Slate, Settled, settled}
+use Rattle.lower_numbers.specs.of_zpl_lowering.Reference.{Reference, needs, over_reference}
+use Rattle.lower_numbers.specs.of_zpl_lowering.Hoist.{Hoisted, Free, hoisted, mask_code}
+use Rattle.lower_numbers.specs.of_zpl_lowering.Lowered.{rows_alone}
+use Rattle.lower_numbers.specs.of_zpl_lowering.Statement.{Inside, no_members, both_inside, Elementwise, elementwise, put_member, put_thing, opening as opening_members, otherwise_members, stmt_inside, stmts_inside, form_inside, arms_inside, arm_inside, otherwise_inside, masked_members, has_put, apart_rows, kept_apart, shattered}
 use Rattle.lowering_fits.specs.Inline.{FitsWords, FitsMask, FitsInside, AllInside}
 use Rattle.lowering_fits.specs.Slates.{SlotsAt, TempsAt, StoragesAt, AllCovered}
 use Rattle.lowering_fits.specs.Reach.{place_at, IsStoredAs, HasFlatRemaps, IsReach}

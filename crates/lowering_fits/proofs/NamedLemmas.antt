@@ -4,17 +4,17 @@ use Rattle.std.proofs.Common.{◌≡◌, ℕ, zero, suc, ◌<◌, ◌≤◌, Boo
 use Rattle.std.specs.Prelude.{Option, Some, None, option_map, find, slice_get}
 use Rattle.std.specs.Str.{bytes_eq}
 use Rattle.zpl_region.specs.declared.regions.Region.{Region}
-use Rattle.zpl_tree.specs.Syntax.{Name, Expr, Number, Truth, Coord, Named, Shifted, Around, Remap, Call, Paren, Neg, Not, Abs, Pair, Reduce, Scan, Flood, Exprs, NoExpr, ThenExpr, Bracket, NoBracket, Bracketed, VarDef}
-use Rattle.zpl_names.specs.Kinds.{Formal, ScalarFormal, ArrayFormal}
-use Rattle.zpl_names.specs.Expansion.{FormalName}
-use Rattle.zpl_meaning.specs.Store.{Thing, Scalar, ArrayAt, Fixed, Names, Environment, thing_of, Store}
-use Rattle.zpl_meaning.specs.Context.{Currents, Edge, Setup}
-use Rattle.zpl_meaning.specs.Calls.{Handed, Copied as CopiedValue, CopiedArray, Referred, actual_thing, referred, copied_array, value_exprs as values_taken, handed_on, with_formals}
-use Rattle.zpl_meaning.specs.Proper.{IsArray, IsVariable, AreProperActuals}
-use Rattle.zpl_meaning.specs.Variables.{Frame, with_thing, with_scalar_named, with_array_named, with_name, with_names, with_variables}
-use Rattle.zpl_lowering.specs.Where.{Stored, Numbers, Where, Next}
-use Rattle.zpl_lowering.specs.Statement.{Given, Valued, Copied, Referring, referring, copying, given_to}
-use Rattle.zpl_lowering.specs.Program.{Framed, with_scalar, with_array, Entry}
+use Rattle.meaning_ranks.specs.of_zpl_tree.Syntax.{Name, Expr, Number, Truth, Coord, Named, Shifted, Around, Remap, Call, Paren, Neg, Not, Abs, Pair, Reduce, Scan, Flood, Exprs, NoExpr, ThenExpr, Bracket, NoBracket, Bracketed, VarDef}
+use Rattle.meaning_ranks.specs.of_zpl_names.Kinds.{Formal, ScalarFormal, ArrayFormal}
+use Rattle.meaning_ranks.specs.of_zpl_names.Expansion.{FormalName}
+use Rattle.meaning_ranks.specs.of_zpl_meaning.Store.{Thing, Scalar, ArrayAt, Fixed, Names, Environment, thing_of, Store}
+use Rattle.meaning_ranks.specs.of_zpl_meaning.Context.{Currents, Edge, Setup}
+use Rattle.meaning_ranks.specs.of_zpl_meaning.Calls.{Handed, Copied as CopiedValue, CopiedArray, Referred, actual_thing, referred, copied_array, value_exprs as values_taken, handed_on, with_formals}
+use Rattle.meaning_ranks.specs.of_zpl_meaning.Proper.{IsArray, IsVariable, AreProperActuals}
+use Rattle.meaning_ranks.specs.of_zpl_meaning.Variables.{Frame, with_thing, with_scalar_named, with_array_named, with_name, with_names, with_variables}
+use Rattle.lower_numbers.specs.of_zpl_lowering.Where.{Stored, Numbers, Where, Next}
+use Rattle.lower_numbers.specs.of_zpl_lowering.Statement.{Given, Valued, Copied, Referring, referring, copying, given_to}
+use Rattle.lower_numbers.specs.of_zpl_lowering.Program.{Framed, with_scalar, with_array, Entry}
 use Rattle.lowering_fits.specs.Reach.{place_at}
 use Rattle.lowering_fits.specs.Whole.{given_frame, given_frames, local_frame, name_frames, local_frames}
 

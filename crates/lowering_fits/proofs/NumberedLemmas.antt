@@ -2,18 +2,18 @@
 use Rattle.std.proofs.Common.{◌≡◌, ℕ, List, [], ◌∷◌, map}
 use Rattle.std.specs.List.{sum_by}
 use Rattle.zpl_region.specs.declared.regions.Region.{Region}
-use Rattle.zpl_tree.specs.Grammar.{IsProgram}
-use Rattle.zpl_tree.specs.Syntax.{NoBracket, Bracketed, Bracket, VarDef, Program}
-use Rattle.zpl_names.specs.Accepted.{IsFaultless}
-use Rattle.zpl_names.specs.Declared.{Routine}
-use Rattle.zpl_names.specs.Expansion.{expanded_of, instances_of}
-use Rattle.zpl_binding.specs.Settings.{Setting}
-use Rattle.zpl_binding.specs.Declarations.{known_of}
-use Rattle.zpl_binding.specs.Storages.{borders_of}
-use Rattle.zpl_meaning.specs.Context.{Setup}
-use Rattle.zpl_meaning.specs.Program.{first_frame}
-use Rattle.zpl_meaning.specs.Visited.{first_setup}
-use Rattle.zpl_lowering.specs.Program.{first_next, lowered_program}
+use Rattle.meaning_ranks.specs.of_zpl_tree.Grammar.{IsProgram}
+use Rattle.meaning_ranks.specs.of_zpl_tree.Syntax.{NoBracket, Bracketed, Bracket, VarDef, Program}
+use Rattle.meaning_ranks.specs.of_zpl_names.Accepted.{IsFaultless}
+use Rattle.meaning_ranks.specs.of_zpl_names.Declared.{Routine}
+use Rattle.meaning_ranks.specs.of_zpl_names.Expansion.{expanded_of, instances_of}
+use Rattle.meaning_ranks.specs.of_zpl_binding.Settings.{Setting}
+use Rattle.meaning_ranks.specs.of_zpl_binding.Declarations.{known_of}
+use Rattle.meaning_ranks.specs.of_zpl_binding.Storages.{borders_of}
+use Rattle.meaning_ranks.specs.of_zpl_meaning.Context.{Setup}
+use Rattle.meaning_ranks.specs.of_zpl_meaning.Program.{first_frame}
+use Rattle.meaning_ranks.specs.of_zpl_meaning.Visited.{first_setup}
+use Rattle.lower_numbers.specs.of_zpl_lowering.Program.{first_next, lowered_program}
 use Rattle.lowering_fits.specs.Whole.{IsNumbered}
 use Rattle.lowering_fits.proofs.PartLemmas.{AreRight}
 use Rattle.lowering_fits.proofs.MadeLemmas.{AllOf}

@@ -1,10 +1,10 @@
 -- Statements in statements, and what is right of all that a run visits.
 use Rattle.std.proofs.Common.{zero, suc, List, [], ◌∷◌, ◌++◌, refl, arith}
 use Rattle.std.specs.Prelude.{Contains}
-use Rattle.zpl_tree.specs.Syntax.{Stmt}
-use Rattle.zpl_meaning.specs.Context.{Setup, Place}
-use Rattle.zpl_meaning.specs.Proper.{IsProperStmt}
-use Rattle.zpl_meaning.specs.Visited.{IsVisited}
+use Rattle.meaning_ranks.specs.of_zpl_tree.Syntax.{Stmt}
+use Rattle.meaning_ranks.specs.of_zpl_meaning.Context.{Setup, Place}
+use Rattle.meaning_ranks.specs.of_zpl_meaning.Proper.{IsProperStmt}
+use Rattle.meaning_ranks.specs.of_zpl_meaning.Visited.{IsVisited}
 use Rattle.meaning_ranks.specs.Ranked.{IsRankedStmt}
 
 -- ---- lists

@@ -2,22 +2,22 @@
 use Rattle.std.proofs.Common.{◌≡◌, ℕ, Bool, true, false, ℤ, List, [], ◌∷◌, ◌++◌, map, arith}
 use Rattle.std.specs.Prelude.{not, filter, cond, Option, Some, None, slice_get}
 use Rattle.std.specs.Option.{IsSomeAnd}
-use Rattle.zpl_meaning.specs.Context.{Mask, Currents, Edge, Place}
-use Rattle.zpl_meaning.specs.Proper.{IsProper}
+use Rattle.meaning_ranks.specs.of_zpl_meaning.Context.{Mask, Currents, Edge, Place}
+use Rattle.meaning_ranks.specs.of_zpl_meaning.Proper.{IsProper}
 use Rattle.meaning_ranks.specs.Ranked.{IsOfRank as IsRankedAt}
-use Rattle.node_form.specs.Expression.{Expression}
-use Rattle.node_form.specs.declared.tables.Tables.{Tables}
-use Rattle.node_form.specs.Fits.{IsVector, HasSlot, HasArray, IsStored}
-use Rattle.row_runs.specs.Structured as piece
-use Rattle.row_runs.specs.Structured.{Piece}
-use Rattle.flat_form.specs.Row.{Row}
-use Rattle.zpl_lowering.specs.Check.{Check}
-use Rattle.zpl_lowering.specs.Where.{Stored, Numbers, Slotted, Where, Next}
-use Rattle.zpl_lowering.specs.Slate as slate
-use Rattle.zpl_lowering.specs.Slate.{Slate, Slates, NoSlate, ThenSlate, Settled, Placed, behind as behind_settled, alone, settled, settled_each}
-use Rattle.zpl_lowering.specs.Reference.{conforming, all_conforming, Reference, is_same, each_once, need_of, needs, refer_to, mask_reference, over_reference, referred, all_referred}
-use Rattle.zpl_lowering.specs.Hoist.{Hoisted, Free, behind as behind_hoisted, hoisted, all_hoisted}
-use Rattle.zpl_lowering.specs.Lowered.{Lowered, rows_alone, behind, joined, both, Phased, free_at, phased_with, then_rows}
+use Rattle.stored_shifts.specs.of_node_form.Expression.{Expression}
+use Rattle.stored_shifts.specs.of_node_form.declared.tables.Tables.{Tables}
+use Rattle.stored_shifts.specs.of_node_form.Fits.{IsVector, HasSlot, HasArray, IsStored}
+use Rattle.lower_numbers.specs.of_row_runs.Structured as piece
+use Rattle.lower_numbers.specs.of_row_runs.Structured.{Piece}
+use Rattle.lower_numbers.specs.of_flat_form.Row.{Row}
+use Rattle.lower_numbers.specs.of_zpl_lowering.Check.{Check}
+use Rattle.lower_numbers.specs.of_zpl_lowering.Where.{Stored, Numbers, Slotted, Where, Next}
+use Rattle.lower_numbers.specs.of_zpl_lowering.Slate as slate
+use Rattle.lower_numbers.specs.of_zpl_lowering.Slate.{Slate, Slates, NoSlate, ThenSlate, Settled, Placed, behind as behind_settled, alone, settled, settled_each}
+use Rattle.lower_numbers.specs.of_zpl_lowering.Reference.{conforming, all_conforming, Reference, is_same, each_once, need_of, needs, refer_to, mask_reference, over_reference, referred, all_referred}
+use Rattle.lower_numbers.specs.of_zpl_lowering.Hoist.{Hoisted, Free, behind as behind_hoisted, hoisted, all_hoisted}
+use Rattle.lower_numbers.specs.of_zpl_lowering.Lowered.{Lowered, rows_alone, behind, joined, both, Phased, free_at, phased_with, then_rows}
 use Rattle.lowering_fits.specs.Inline.{FitRows, FitsPiece}
 use Rattle.lowering_fits.specs.Slates.{FitNumbers, IsOfRank, IsMaskOf, FitsOver, FitsSlate, FitsSlates, FitsTree, AllCovered, IsPlaced, FitsHoist}
 use Rattle.lowering_fits.specs.Reach.{place_at, HasFlatRemaps, IsReach}

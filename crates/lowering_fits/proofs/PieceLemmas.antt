@@ -2,23 +2,23 @@
 use Rattle.std.proofs.Common.{◌≡◌, ℕ, ◌+◌, ◌≤◌, List, [], ◌∷◌, ◌++◌, map, length, refl, arith, length-append}
 use Rattle.std.specs.Prelude.{All}
 use Rattle.std.proofs.lemmas.List.{length-map, length-replicate}
-use Rattle.node_form.specs.declared.instructions.Instr.{Instr}
-use Rattle.node_form.specs.declared.instructions.Instr.TheVariants as instr
-use Rattle.node_form.specs.declared.tables.Tables.{Tables}
-use Rattle.node_form.specs.Fits.{IsRank, FitsArray, Grows}
-use Rattle.node_form.specs.Grid.{IsGrid}
-use Rattle.node_form.proofs.GrowthLemmas.{Keeps-same, FitsInstr-grows}
-use Rattle.row_runs.specs.Code.{CodeRow, Straight, Jump, Unless}
-use Rattle.row_runs.specs.Straight.{Every}
-use Rattle.row_runs.specs.Structured as piece
-use Rattle.row_runs.specs.Structured.{Piece, size, flattened}
-use Rattle.flat_form.specs.Flat.{IsFlat}
-use Rattle.flat_form.specs.Laws.{IsInline, IsPlain}
-use Rattle.flat_form.specs.Row as row
-use Rattle.flat_form.specs.Row.{Row}
-use Rattle.zpl_lowering.specs.Check.{Check, flat_row}
-use Rattle.zpl_lowering.specs.Lowered.{Lowered}
-use Rattle.zpl_lowering.specs.Tables.{empty_tables, rows_of, tables_of}
+use Rattle.stored_shifts.specs.of_node_form.declared.instructions.Instr.{Instr}
+use Rattle.stored_shifts.specs.of_node_form.declared.instructions.Instr.TheVariants as instr
+use Rattle.stored_shifts.specs.of_node_form.declared.tables.Tables.{Tables}
+use Rattle.stored_shifts.specs.of_node_form.Fits.{IsRank, FitsArray, Grows}
+use Rattle.stored_shifts.specs.of_node_form.Grid.{IsGrid}
+use Rattle.stored_shifts.proofs.of_node_form.GrowthLemmas.{Keeps-same, FitsInstr-grows}
+use Rattle.lower_numbers.specs.of_row_runs.Code.{CodeRow, Straight, Jump, Unless}
+use Rattle.lower_numbers.specs.of_row_runs.Straight.{Every}
+use Rattle.lower_numbers.specs.of_row_runs.Structured as piece
+use Rattle.lower_numbers.specs.of_row_runs.Structured.{Piece, size, flattened}
+use Rattle.lower_numbers.specs.of_flat_form.Flat.{IsFlat}
+use Rattle.lower_numbers.specs.of_flat_form.Laws.{IsInline, IsPlain}
+use Rattle.lower_numbers.specs.of_flat_form.Row as row
+use Rattle.lower_numbers.specs.of_flat_form.Row.{Row}
+use Rattle.lower_numbers.specs.of_zpl_lowering.Check.{Check, flat_row}
+use Rattle.lower_numbers.specs.of_zpl_lowering.Lowered.{Lowered}
+use Rattle.lower_numbers.specs.of_zpl_lowering.Tables.{empty_tables, rows_of, tables_of}
 use Rattle.lowering_fits.specs.Inline.{long, IsOwnRow, FitsRow, FitRows, FitsPiece, IsGround}
 use Rattle.lowering_fits.proofs.TableLemmas.{rows_make_flat}
 

@@ -3,14 +3,14 @@
 use Rattle.std.proofs.Common.{◌≡◌, true, List, [], ◌∷◌, ◌++◌, refl}
 use Rattle.std.specs.Prelude.{Option, Some, None}
 use Rattle.zpl_nums.specs.declared.operators.Op.{Op}
-use Rattle.zpl_tree.specs.Syntax.{Name, Expr, Number, Truth, Coord, Named, Shifted, Around, Remap, Call, Paren, Neg, Not, Abs, Pair, Reduce, Scan, Flood, Exprs, ThenExpr, Stmt, Prefixed, Stmts, NoStmt, ThenStmt, Form, Assign, Invoke, Block, If, While, Repeat, For, Border, Write, Return, Tested, Arms, NoArm, ThenArm, Otherwise, NoElse, Else}
-use Rattle.zpl_names.specs.Kinds.{Rank}
-use Rattle.zpl_names.specs.Types.{is_elementwise}
-use Rattle.zpl_names.specs.Sites.{Reach, Actual, Assigned, Test, whole_rank, inside, Site, AtWhole, AtNamed, expr_sites, actuals_sites, whole_sites, value_sites, test_rank, arms_rank, stmt_sites, stmts_sites, form_sites, arms_sites, otherwise_sites}
-use Rattle.zpl_meaning.specs.Store.{Environment}
-use Rattle.zpl_meaning.specs.Context.{Place}
-use Rattle.zpl_meaning.specs.Calls.{actual_thing}
-use Rattle.zpl_meaning.specs.Proper.{IsArray, IsVariable, IsPoint, ArePoints, IsPointForm, ArePointArms, IsPointElse}
+use Rattle.meaning_ranks.specs.of_zpl_tree.Syntax.{Name, Expr, Number, Truth, Coord, Named, Shifted, Around, Remap, Call, Paren, Neg, Not, Abs, Pair, Reduce, Scan, Flood, Exprs, ThenExpr, Stmt, Prefixed, Stmts, NoStmt, ThenStmt, Form, Assign, Invoke, Block, If, While, Repeat, For, Border, Write, Return, Tested, Arms, NoArm, ThenArm, Otherwise, NoElse, Else}
+use Rattle.meaning_ranks.specs.of_zpl_names.Kinds.{Rank}
+use Rattle.meaning_ranks.specs.of_zpl_names.Types.{is_elementwise}
+use Rattle.meaning_ranks.specs.of_zpl_names.Sites.{Reach, Actual, Assigned, Test, whole_rank, inside, Site, AtWhole, AtNamed, expr_sites, actuals_sites, whole_sites, value_sites, test_rank, arms_rank, stmt_sites, stmts_sites, form_sites, arms_sites, otherwise_sites}
+use Rattle.meaning_ranks.specs.of_zpl_meaning.Store.{Environment}
+use Rattle.meaning_ranks.specs.of_zpl_meaning.Context.{Place}
+use Rattle.meaning_ranks.specs.of_zpl_meaning.Calls.{actual_thing}
+use Rattle.meaning_ranks.specs.of_zpl_meaning.Proper.{IsArray, IsVariable, IsPoint, ArePoints, IsPointForm, ArePointArms, IsPointElse}
 use Rattle.meaning_ranks.specs.Ranked.{IsPointOf, ArePointsOf, IsPointFormOf, ArePointArmsOf, IsPointElseOf}
 use Rattle.lowering_fits.proofs.TallyLemmas.{IsSilent, no_sites, silent_both}
 use Rattle.lowering_fits.proofs.MadeLemmas.{elementwise_silent}

@@ -2,25 +2,25 @@
 use Rattle.std.proofs.Common.{◌≡◌, ℕ, zero, suc, Bool, true, false, List, [], ◌∷◌, length, refl, sym, ap, ◌∙◌, subst}
 use Rattle.std.specs.Prelude.{Option, Some, None, slice_get}
 use Rattle.std.specs.Option.{IsSomeAnd}
-use Rattle.zpl_tree.specs.Syntax.{NamedRegion, Ditto, NamedDir, Inner, Rexpr, Dims, NoPost, ThenPost, Mask as MaskText, Prefix, Form}
-use Rattle.zpl_names.specs.Kinds.{Rank}
-use Rattle.zpl_names.specs.Scope.{Scope, kind_of}
-use Rattle.zpl_names.specs.Ranks.{array_shape, inner_rank, mask_rank}
-use Rattle.zpl_names.specs.Shapes.{prefix_rank}
-use Rattle.zpl_binding.specs.Regions.{Known, no_region}
-use Rattle.zpl_meaning.specs.Store.{Thing, Scalar, ArrayAt, Fixed, thing_of}
-use Rattle.zpl_meaning.specs.Context.{Over, Currents, with_over, Edge, Place}
-use Rattle.zpl_meaning.specs.Regions.{mask_thing, mask_in, edge_in, current_for as region_for}
-use Rattle.zpl_meaning.specs.Proper.{HasCurrent, IsArray, IsArrayRank, IsProperInner, IsProperMask, IsProperPrefix, IsProperUnder, IsProperForm}
-use Rattle.zpl_meaning.specs.Visited.{IsUnder, Itself, Behind}
+use Rattle.meaning_ranks.specs.of_zpl_tree.Syntax.{NamedRegion, Ditto, NamedDir, Inner, Rexpr, Dims, NoPost, ThenPost, Mask as MaskText, Prefix, Form}
+use Rattle.meaning_ranks.specs.of_zpl_names.Kinds.{Rank}
+use Rattle.meaning_ranks.specs.of_zpl_names.Scope.{Scope, kind_of}
+use Rattle.meaning_ranks.specs.of_zpl_names.Ranks.{array_shape, inner_rank, mask_rank}
+use Rattle.meaning_ranks.specs.of_zpl_names.Shapes.{prefix_rank}
+use Rattle.meaning_ranks.specs.of_zpl_binding.Regions.{Known, no_region}
+use Rattle.meaning_ranks.specs.of_zpl_meaning.Store.{Thing, Scalar, ArrayAt, Fixed, thing_of}
+use Rattle.meaning_ranks.specs.of_zpl_meaning.Context.{Over, Currents, with_over, Edge, Place}
+use Rattle.meaning_ranks.specs.of_zpl_meaning.Regions.{mask_thing, mask_in, edge_in, current_for as region_for}
+use Rattle.meaning_ranks.specs.of_zpl_meaning.Proper.{HasCurrent, IsArray, IsArrayRank, IsProperInner, IsProperMask, IsProperPrefix, IsProperUnder, IsProperForm}
+use Rattle.meaning_ranks.specs.of_zpl_meaning.Visited.{IsUnder, Itself, Behind}
 use Rattle.meaning_ranks.specs.Ranked.{IsInnerOf, IsMaskOf as IsRankedMask, IsRankedPrefix, IsRankedUnder, IsRankedForm}
-use Rattle.node_form.specs.declared.tables.Tables.{Tables}
-use Rattle.node_form.specs.Fits.{IsRank, HasSlot}
-use Rattle.row_runs.specs.Structured as piece
-use Rattle.zpl_lowering.specs.Where.{Stored, Slotted, slotted_at, SlotEdge, Where, Next, line_of}
-use Rattle.zpl_lowering.specs.Bracket.{Opened}
-use Rattle.zpl_lowering.specs.Lowered.{Lowered, behind}
-use Rattle.zpl_lowering.specs.Statement.{Lowering, Calling, prefix_opened, current_for, edge_of, under_prefix, of_opened, is_last, lowered_under}
+use Rattle.stored_shifts.specs.of_node_form.declared.tables.Tables.{Tables}
+use Rattle.stored_shifts.specs.of_node_form.Fits.{IsRank, HasSlot}
+use Rattle.lower_numbers.specs.of_row_runs.Structured as piece
+use Rattle.lower_numbers.specs.of_zpl_lowering.Where.{Stored, Slotted, slotted_at, SlotEdge, Where, Next, line_of}
+use Rattle.lower_numbers.specs.of_zpl_lowering.Bracket.{Opened}
+use Rattle.lower_numbers.specs.of_zpl_lowering.Lowered.{Lowered, behind}
+use Rattle.lower_numbers.specs.of_zpl_lowering.Statement.{Lowering, Calling, prefix_opened, current_for, edge_of, under_prefix, of_opened, is_last, lowered_under}
 use Rattle.lowering_fits.specs.Slates.{SlotsAt, IsMaskOf, FitsOver, FitsVector}
 use Rattle.lowering_fits.specs.Reach.{place_at, IsStoredAs, FitsKnown, IsReach}
 use Rattle.lowering_fits.specs.Lowerings.{IsLaidOut, FitsLowered, FitsEdge}

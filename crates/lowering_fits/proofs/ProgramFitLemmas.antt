@@ -3,37 +3,37 @@ use Rattle.std.proofs.Common.{◌≡◌, ℕ, suc, ◌+◌, ◌≤◌, false, �
 use Rattle.std.specs.Prelude.{Option, Some, None}
 use Rattle.std.specs.Str.{bytes_eq}
 use Rattle.zpl_region.specs.declared.regions.Region.{Region}
-use Rattle.zpl_arrays.specs.Array.{Array}
-use Rattle.zpl_tree.specs.Grammar.{IsProgram}
-use Rattle.zpl_tree.specs.Syntax.{Bracket, NoBracket, Bracketed, Base, Name, Define, VarDef, Decl, Config, Constant, Regions, Directions, Vars, Defined, Param, Program}
-use Rattle.zpl_names.specs.Scope.{Entry, Scope}
-use Rattle.zpl_names.specs.Shapes.{no_shapes, unknown_shapes}
-use Rattle.zpl_names.specs.Accepted.{IsFaultless}
-use Rattle.zpl_names.specs.Declared.{Routine, IsProcedureOf, own_entries, declaring, head_scope, formals_of, signature_of, routines_of, entry_of, with_decl, with_variables as with_vars}
-use Rattle.zpl_names.specs.Reached.{longest_chain, Entered}
-use Rattle.zpl_names.specs.Sites.{routine_sites}
-use Rattle.zpl_names.proofs.ListLemmas.{Among, Contains-from_among}
-use Rattle.zpl_binding.specs.Outcome.{Outcome, Gives, Fails, Computed, value_or, outcome_of}
-use Rattle.zpl_binding.specs.Regions.{no_region}
-use Rattle.zpl_binding.specs.Settings.{Setting}
-use Rattle.zpl_binding.specs.Declarations.{known_of}
-use Rattle.zpl_binding.specs.Storages.{borders_of}
-use Rattle.zpl_meaning.specs.Given.{IsGiven}
-use Rattle.zpl_meaning.specs.Context.{no_currents, Setup}
-use Rattle.zpl_meaning.specs.Program.{first_frame}
-use Rattle.zpl_meaning.specs.Variables.{Frame, storage_box, zero_array, with_name, with_names, with_variables, with_values, with_declared, with_declarations, empty_frame}
-use Rattle.zpl_meaning.specs.Visited.{first_setup}
-use Rattle.zpl_meaning.proofs.NamesLemmas.{IsSound, routine_sound}
-use Rattle.zpl_meaning.proofs.VisitLemmas.{Laws, find_among}
+use Rattle.stored_shifts.specs.of_zpl_arrays.Array.{Array}
+use Rattle.meaning_ranks.specs.of_zpl_tree.Grammar.{IsProgram}
+use Rattle.meaning_ranks.specs.of_zpl_tree.Syntax.{Bracket, NoBracket, Bracketed, Base, Name, Define, VarDef, Decl, Config, Constant, Regions, Directions, Vars, Defined, Param, Program}
+use Rattle.meaning_ranks.specs.of_zpl_names.Scope.{Entry, Scope}
+use Rattle.meaning_ranks.specs.of_zpl_names.Shapes.{no_shapes, unknown_shapes}
+use Rattle.meaning_ranks.specs.of_zpl_names.Accepted.{IsFaultless}
+use Rattle.meaning_ranks.specs.of_zpl_names.Declared.{Routine, IsProcedureOf, own_entries, declaring, head_scope, formals_of, signature_of, routines_of, entry_of, with_decl, with_variables as with_vars}
+use Rattle.meaning_ranks.specs.of_zpl_names.Reached.{longest_chain, Entered}
+use Rattle.meaning_ranks.specs.of_zpl_names.Sites.{routine_sites}
+use Rattle.meaning_ranks.proofs.of_zpl_names.ListLemmas.{Among, Contains-from_among}
+use Rattle.meaning_ranks.specs.of_zpl_binding.Outcome.{Outcome, Gives, Fails, Computed, value_or, outcome_of}
+use Rattle.meaning_ranks.specs.of_zpl_binding.Regions.{no_region}
+use Rattle.meaning_ranks.specs.of_zpl_binding.Settings.{Setting}
+use Rattle.meaning_ranks.specs.of_zpl_binding.Declarations.{known_of}
+use Rattle.meaning_ranks.specs.of_zpl_binding.Storages.{borders_of}
+use Rattle.meaning_ranks.specs.of_zpl_meaning.Given.{IsGiven}
+use Rattle.meaning_ranks.specs.of_zpl_meaning.Context.{no_currents, Setup}
+use Rattle.meaning_ranks.specs.of_zpl_meaning.Program.{first_frame}
+use Rattle.meaning_ranks.specs.of_zpl_meaning.Variables.{Frame, storage_box, zero_array, with_name, with_names, with_variables, with_values, with_declared, with_declarations, empty_frame}
+use Rattle.meaning_ranks.specs.of_zpl_meaning.Visited.{first_setup}
+use Rattle.meaning_ranks.proofs.of_zpl_meaning.NamesLemmas.{IsSound, routine_sound}
+use Rattle.meaning_ranks.proofs.of_zpl_meaning.VisitLemmas.{Laws, find_among}
 use Rattle.meaning_ranks.proofs.RegionLemmas.{names_once}
-use Rattle.node_form.specs.declared.tables.Tables.{Tables}
-use Rattle.node_form.specs.Fits.{IsRank}
-use Rattle.row_runs.specs.Structured as piece
-use Rattle.zpl_lowering.specs.Where.{Next}
-use Rattle.zpl_lowering.specs.Lowered.{behind}
-use Rattle.zpl_lowering.specs.Statement.{Calling}
-use Rattle.zpl_lowering.specs.Program.{Entry as CallEntry, body_code, reads_round, in_call, routine_code, call_code, region_rows, scalars_from, arrays_from, global_numbers, globals_made, first_next, entry_calling, entry_code, lowered_program}
-use Rattle.zpl_lowering.specs.Tables.{empty_tables}
+use Rattle.stored_shifts.specs.of_node_form.declared.tables.Tables.{Tables}
+use Rattle.stored_shifts.specs.of_node_form.Fits.{IsRank}
+use Rattle.lower_numbers.specs.of_row_runs.Structured as piece
+use Rattle.lower_numbers.specs.of_zpl_lowering.Where.{Next}
+use Rattle.lower_numbers.specs.of_zpl_lowering.Lowered.{behind}
+use Rattle.lower_numbers.specs.of_zpl_lowering.Statement.{Calling}
+use Rattle.lower_numbers.specs.of_zpl_lowering.Program.{Entry as CallEntry, body_code, reads_round, in_call, routine_code, call_code, region_rows, scalars_from, arrays_from, global_numbers, globals_made, first_next, entry_calling, entry_code, lowered_program}
+use Rattle.lower_numbers.specs.of_zpl_lowering.Tables.{empty_tables}
 use Rattle.lowering_fits.specs.Inline.{FitRows}
 use Rattle.lowering_fits.specs.Slates.{SlotsAt, StoragesAt, AllBelow, AllStored, FitNumbers, FitsBox}
 use Rattle.lowering_fits.specs.Storages.{IsStorage, AllKept}

@@ -4,20 +4,20 @@ use Rattle.std.specs.Prelude.{Option, Some, None, option_map, find, slice_get}
 use Rattle.std.specs.Option.{IsSomeAnd, option_or}
 use Rattle.std.specs.Str.{bytes_eq}
 use Rattle.zpl_region.specs.declared.regions.Region.{Region}
-use Rattle.zpl_tree.specs.Syntax.{Base, Name, Expr, Number, Truth, Coord, Named, Shifted, Around, Remap, Call, Paren, Neg, Not, Abs, Pair, Reduce, Scan, Flood, Exprs, NoExpr, ThenExpr, Program}
-use Rattle.zpl_names.specs.Kinds as kind
-use Rattle.zpl_names.specs.Kinds.{Kind, Shape, Formal, ScalarFormal, ArrayFormal}
-use Rattle.zpl_names.specs.Scope.{Scope, kind_in, kind_of}
-use Rattle.zpl_names.specs.Ranks.{array_shape}
-use Rattle.zpl_names.specs.Declared.{Routine, globals_of, scope_of}
-use Rattle.zpl_meaning.specs.Store.{Thing, Scalar, ArrayAt, Fixed, Names, Environment, thing_of}
-use Rattle.zpl_meaning.specs.Context.{Place}
-use Rattle.zpl_meaning.specs.Calls.{actual_thing}
-use Rattle.zpl_meaning.specs.Proper.{IsArray, IsVariable, AreProperActuals}
+use Rattle.meaning_ranks.specs.of_zpl_tree.Syntax.{Base, Name, Expr, Number, Truth, Coord, Named, Shifted, Around, Remap, Call, Paren, Neg, Not, Abs, Pair, Reduce, Scan, Flood, Exprs, NoExpr, ThenExpr, Program}
+use Rattle.meaning_ranks.specs.of_zpl_names.Kinds as kind
+use Rattle.meaning_ranks.specs.of_zpl_names.Kinds.{Kind, Shape, Formal, ScalarFormal, ArrayFormal}
+use Rattle.meaning_ranks.specs.of_zpl_names.Scope.{Scope, kind_in, kind_of}
+use Rattle.meaning_ranks.specs.of_zpl_names.Ranks.{array_shape}
+use Rattle.meaning_ranks.specs.of_zpl_names.Declared.{Routine, globals_of, scope_of}
+use Rattle.meaning_ranks.specs.of_zpl_meaning.Store.{Thing, Scalar, ArrayAt, Fixed, Names, Environment, thing_of}
+use Rattle.meaning_ranks.specs.of_zpl_meaning.Context.{Place}
+use Rattle.meaning_ranks.specs.of_zpl_meaning.Calls.{actual_thing}
+use Rattle.meaning_ranks.specs.of_zpl_meaning.Proper.{IsArray, IsVariable, AreProperActuals}
 use Rattle.meaning_ranks.specs.Ranked.{IsShapedActual, AreShapedActuals}
-use Rattle.node_form.specs.declared.tables.Tables.{Tables}
-use Rattle.zpl_lowering.specs.Where.{Stored, Numbers, Where}
-use Rattle.zpl_lowering.specs.Statement.{Given, Copied, Referring, referring, copying, given_to}
+use Rattle.stored_shifts.specs.of_node_form.declared.tables.Tables.{Tables}
+use Rattle.lower_numbers.specs.of_zpl_lowering.Where.{Stored, Numbers, Where}
+use Rattle.lower_numbers.specs.of_zpl_lowering.Statement.{Given, Copied, Referring, referring, copying, given_to}
 use Rattle.lowering_fits.specs.Slates.{AllBelow}
 use Rattle.lowering_fits.specs.Reach.{IsStoredAs, FitsName, FitNames, FitScalars, IsKept, named_thing, AreGlobals}
 use Rattle.lowering_fits.specs.Storages.{IsHomeIn}

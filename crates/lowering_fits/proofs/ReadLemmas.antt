@@ -2,13 +2,13 @@
 use Rattle.std.proofs.Common.{◌≡◌, ℕ, List, [], ◌∷◌, ◌++◌, length, refl, sym, ◌∙◌, subst}
 use Rattle.std.proofs.Common.{append_assoc, append-nil}
 use Rattle.std.specs.Prelude.{All, flat_map}
-use Rattle.node_form.specs.declared.words.ExprOp.{ExprOp}
-use Rattle.node_form.specs.declared.words.ExprOp.TheVariants as word
-use Rattle.node_form.specs.declared.tables.Tables.{Tables}
-use Rattle.flat_form.specs.Row.{Words, Row, row_words, with_row, with_rows}
+use Rattle.stored_shifts.specs.of_node_form.declared.words.ExprOp.{ExprOp}
+use Rattle.stored_shifts.specs.of_node_form.declared.words.ExprOp.TheVariants as word
+use Rattle.stored_shifts.specs.of_node_form.declared.tables.Tables.{Tables}
+use Rattle.lower_numbers.specs.of_flat_form.Row.{Words, Row, row_words, with_row, with_rows}
 use Rattle.stored_shifts.specs.Stored.{AreStoredReads, IsStoredRead, ShiftsAreStored}
-use Rattle.zpl_lowering.specs.Lowered.{Lowered}
-use Rattle.zpl_lowering.specs.Tables.{empty_tables, rows_of, tables_of}
+use Rattle.lower_numbers.specs.of_zpl_lowering.Lowered.{Lowered}
+use Rattle.lower_numbers.specs.of_zpl_lowering.Tables.{empty_tables, rows_of, tables_of}
 use Rattle.lowering_fits.specs.Lowerings.{FitsLowered}
 use Rattle.lowering_fits.proofs.ExprLemmas.{rows_have}
 use Rattle.lowering_fits.proofs.PieceLemmas.{all_rows_fit}

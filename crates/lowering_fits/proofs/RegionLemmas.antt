@@ -11,21 +11,21 @@ use Rattle.zpl_region.specs.declared.regions.Region.{Region}
 use Rattle.zpl_region.specs.Dim.{HasStep}
 use Rattle.zpl_region.specs.Hull.{all_from}
 use Rattle.zpl_region.specs.Tests.{is_within_limit}
-use Rattle.zpl_tree.specs.Syntax.{Name, Pre, NamedRegion, Ditto, Inner, Rexpr, Dims, Posts, NoPost, ThenPost, DimText, Blank, Star, One, Span, DimTexts, NoDim, ThenDim, Bracket, NoBracket, Bracketed, Base, Define, RegionDef, DirDef, VarDef, Decl, Config, Constant, Regions, Directions, Vars, Defined, Program}
-use Rattle.zpl_names.specs.Kinds as kind
-use Rattle.zpl_names.specs.Kinds.{Kind}
-use Rattle.zpl_names.specs.Scope.{Entry, Scope}
-use Rattle.zpl_names.specs.Ranks.{exprs_count, at_most_three}
-use Rattle.zpl_names.specs.Shapes.{declared_shape, variable_kind}
-use Rattle.zpl_names.specs.Declared.{declaring, with_define, with_region, with_direction, with_variables, with_each, with_decl, signature_of, globals_of}
-use Rattle.zpl_binding.specs.Outcome.{Outcome, Gives, Fails, and_then, Computed, outcome_or, outcome_of}
-use Rattle.zpl_binding.specs.Constants.{value_of}
-use Rattle.zpl_binding.specs.Regions.{Known, region_over, limited, dim_of, each_dim_of, spanned, behind, before, no_region, is_region_name, region_named, index_of, inner_of, region_of}
-use Rattle.zpl_binding.specs.Settings.{Setting}
-use Rattle.zpl_binding.specs.Declarations.{with_all, with_config, with_constant, with_direction as known_direction, with_region as known_region, with_decl as known_decl, nothing_known, known_of}
-use Rattle.node_form.specs.declared.tables.Tables.{Tables}
-use Rattle.node_form.specs.Fits.{HasSlot}
-use Rattle.zpl_lowering.specs.Bracket.{region_slot}
+use Rattle.meaning_ranks.specs.of_zpl_tree.Syntax.{Name, Pre, NamedRegion, Ditto, Inner, Rexpr, Dims, Posts, NoPost, ThenPost, DimText, Blank, Star, One, Span, DimTexts, NoDim, ThenDim, Bracket, NoBracket, Bracketed, Base, Define, RegionDef, DirDef, VarDef, Decl, Config, Constant, Regions, Directions, Vars, Defined, Program}
+use Rattle.meaning_ranks.specs.of_zpl_names.Kinds as kind
+use Rattle.meaning_ranks.specs.of_zpl_names.Kinds.{Kind}
+use Rattle.meaning_ranks.specs.of_zpl_names.Scope.{Entry, Scope}
+use Rattle.meaning_ranks.specs.of_zpl_names.Ranks.{exprs_count, at_most_three}
+use Rattle.meaning_ranks.specs.of_zpl_names.Shapes.{declared_shape, variable_kind}
+use Rattle.meaning_ranks.specs.of_zpl_names.Declared.{declaring, with_define, with_region, with_direction, with_variables, with_each, with_decl, signature_of, globals_of}
+use Rattle.meaning_ranks.specs.of_zpl_binding.Outcome.{Outcome, Gives, Fails, and_then, Computed, outcome_or, outcome_of}
+use Rattle.meaning_ranks.specs.of_zpl_binding.Constants.{value_of}
+use Rattle.meaning_ranks.specs.of_zpl_binding.Regions.{Known, region_over, limited, dim_of, each_dim_of, spanned, behind, before, no_region, is_region_name, region_named, index_of, inner_of, region_of}
+use Rattle.meaning_ranks.specs.of_zpl_binding.Settings.{Setting}
+use Rattle.meaning_ranks.specs.of_zpl_binding.Declarations.{with_all, with_config, with_constant, with_direction as known_direction, with_region as known_region, with_decl as known_decl, nothing_known, known_of}
+use Rattle.stored_shifts.specs.of_node_form.declared.tables.Tables.{Tables}
+use Rattle.stored_shifts.specs.of_node_form.Fits.{HasSlot}
+use Rattle.lower_numbers.specs.of_zpl_lowering.Bracket.{region_slot}
 use Rattle.lowering_fits.specs.Slates.{SlotsAt}
 use Rattle.lowering_fits.specs.Reach.{IsBox, IsGivenBox}
 use Rattle.lowering_fits.specs.Lowerings.{region_rank}

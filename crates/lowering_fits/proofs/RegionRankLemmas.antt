@@ -4,24 +4,24 @@ use Rattle.std.specs.Prelude.{Option, Some, None, option_map}
 use Rattle.std.specs.List.{AllByRecursion}
 use Rattle.std.proofs.lemmas.List.Elements.{recursion_from_All}
 use Rattle.zpl_region.specs.declared.regions.Region.{Region}
-use Rattle.zpl_tree.specs.Grammar.{IsProgram}
-use Rattle.zpl_tree.specs.Syntax.{Program}
-use Rattle.zpl_names.specs.Kinds.{Shape}
-use Rattle.zpl_names.specs.Scope.{Entry}
-use Rattle.zpl_names.specs.Ranks.{HasRank, IsKnownKind}
-use Rattle.zpl_names.specs.Accepted.{IsFaultless}
-use Rattle.zpl_names.specs.Declared.{globals_of, routines_of}
-use Rattle.zpl_names.proofs.ListLemmas.{Contains-from_among}
-use Rattle.zpl_binding.specs.Outcome.{Outcome, Gives, Fails, Computed, value_or}
-use Rattle.zpl_binding.specs.Regions.{no_region}
-use Rattle.zpl_binding.specs.Settings.{Setting}
-use Rattle.zpl_binding.specs.Declarations.{known_of}
-use Rattle.zpl_meaning.specs.Proper.{IsArrayRank}
-use Rattle.zpl_meaning.proofs.NamesLemmas.{IsGood, globals_shaped}
-use Rattle.zpl_meaning.proofs.VisitLemmas.{Laws, all_good, find_among}
+use Rattle.meaning_ranks.specs.of_zpl_tree.Grammar.{IsProgram}
+use Rattle.meaning_ranks.specs.of_zpl_tree.Syntax.{Program}
+use Rattle.meaning_ranks.specs.of_zpl_names.Kinds.{Shape}
+use Rattle.meaning_ranks.specs.of_zpl_names.Scope.{Entry}
+use Rattle.meaning_ranks.specs.of_zpl_names.Ranks.{HasRank, IsKnownKind}
+use Rattle.meaning_ranks.specs.of_zpl_names.Accepted.{IsFaultless}
+use Rattle.meaning_ranks.specs.of_zpl_names.Declared.{globals_of, routines_of}
+use Rattle.meaning_ranks.proofs.of_zpl_names.ListLemmas.{Contains-from_among}
+use Rattle.meaning_ranks.specs.of_zpl_binding.Outcome.{Outcome, Gives, Fails, Computed, value_or}
+use Rattle.meaning_ranks.specs.of_zpl_binding.Regions.{no_region}
+use Rattle.meaning_ranks.specs.of_zpl_binding.Settings.{Setting}
+use Rattle.meaning_ranks.specs.of_zpl_binding.Declarations.{known_of}
+use Rattle.meaning_ranks.specs.of_zpl_meaning.Proper.{IsArrayRank}
+use Rattle.meaning_ranks.proofs.of_zpl_meaning.NamesLemmas.{IsGood, globals_shaped}
+use Rattle.meaning_ranks.proofs.of_zpl_meaning.VisitLemmas.{Laws, all_good, find_among}
 use Rattle.meaning_ranks.proofs.ShapeLemmas.{Fits}
 use Rattle.meaning_ranks.proofs.RegionLemmas.{Pairs, Nothing, Skips, Adds, globals_fit}
-use Rattle.node_form.specs.Fits.{IsRank}
+use Rattle.stored_shifts.specs.of_node_form.Fits.{IsRank}
 use Rattle.lowering_fits.specs.Lowerings.{AllRanks, region_rank}
 use Rattle.lowering_fits.proofs.SettleLemmas.{array_rank_number}
 use Rattle.lowering_fits.proofs.MadeWholeLemmas.{entry_is_there}

@@ -4,22 +4,22 @@ use Rattle.std.specs.Prelude.{find, option_map, Option, Some, None}
 use Rattle.std.specs.Option.{option_or}
 use Rattle.std.specs.Str.{bytes_eq}
 use Rattle.zpl_region.specs.declared.regions.Region.{Region}
-use Rattle.zpl_tree.specs.Syntax.{Name, Dir, NamedDir, Vector, Program}
-use Rattle.zpl_names.specs.Kinds as kind
-use Rattle.zpl_names.specs.Kinds.{Kind, Shape, Rank}
-use Rattle.zpl_names.specs.Scope.{kind_in, kind_of}
-use Rattle.zpl_names.specs.Ranks.{dir_rank, direction_rank, region_shape}
-use Rattle.zpl_names.specs.Declared.{Routine, globals_of, scope_of}
-use Rattle.zpl_binding.specs.Outcome.{Outcome, Gives, Fails, value_or, Computed, outcome_or, outcome_of}
-use Rattle.zpl_binding.specs.Vectors.{three_components, vector_of}
-use Rattle.zpl_binding.specs.Regions.{Known, no_region, region_named}
-use Rattle.zpl_binding.specs.Settings.{Setting}
-use Rattle.zpl_binding.specs.Declarations.{known_of}
-use Rattle.zpl_meaning.specs.Regions.{vector_in}
-use Rattle.zpl_meaning.specs.Given.{IsGiven}
-use Rattle.node_form.specs.declared.tables.Tables.{Tables}
-use Rattle.node_form.specs.Fits.{HasSlot}
-use Rattle.zpl_lowering.specs.Bracket.{region_slot}
+use Rattle.meaning_ranks.specs.of_zpl_tree.Syntax.{Name, Dir, NamedDir, Vector, Program}
+use Rattle.meaning_ranks.specs.of_zpl_names.Kinds as kind
+use Rattle.meaning_ranks.specs.of_zpl_names.Kinds.{Kind, Shape, Rank}
+use Rattle.meaning_ranks.specs.of_zpl_names.Scope.{kind_in, kind_of}
+use Rattle.meaning_ranks.specs.of_zpl_names.Ranks.{dir_rank, direction_rank, region_shape}
+use Rattle.meaning_ranks.specs.of_zpl_names.Declared.{Routine, globals_of, scope_of}
+use Rattle.meaning_ranks.specs.of_zpl_binding.Outcome.{Outcome, Gives, Fails, value_or, Computed, outcome_or, outcome_of}
+use Rattle.meaning_ranks.specs.of_zpl_binding.Vectors.{three_components, vector_of}
+use Rattle.meaning_ranks.specs.of_zpl_binding.Regions.{Known, no_region, region_named}
+use Rattle.meaning_ranks.specs.of_zpl_binding.Settings.{Setting}
+use Rattle.meaning_ranks.specs.of_zpl_binding.Declarations.{known_of}
+use Rattle.meaning_ranks.specs.of_zpl_meaning.Regions.{vector_in}
+use Rattle.meaning_ranks.specs.of_zpl_meaning.Given.{IsGiven}
+use Rattle.stored_shifts.specs.of_node_form.declared.tables.Tables.{Tables}
+use Rattle.stored_shifts.specs.of_node_form.Fits.{HasSlot}
+use Rattle.lower_numbers.specs.of_zpl_lowering.Bracket.{region_slot}
 use Rattle.lowering_fits.specs.Slates.{SlotsAt, FitsVector}
 use Rattle.lowering_fits.specs.Reach.{IsGivenBox, FitsKnown}
 use Rattle.lowering_fits.specs.Lowerings.{region_rank}

@@ -13,25 +13,25 @@ use Rattle.zpl_region.specs.Dim.{IsUpTo, extent}
 use Rattle.zpl_region.specs.Region.{moved}
 use Rattle.zpl_region.specs.Ends.{has_none}
 use Rattle.zpl_region.specs.Hull.{hull, hull_with, each_hull_with}
-use Rattle.zpl_arrays.specs.Around.{zeros, each_rest, copy_shift, copy_storage}
-use Rattle.zpl_tree.specs.Syntax.{Name, Expr, Number, Truth, Coord, Named, Shifted, Around, Remap, Call, Paren, Neg, Not, Abs, Pair, Reduce, Scan, Flood, Exprs, NoExpr, ThenExpr, Dir, Inner, NoBracket, Bracketed}
-use Rattle.zpl_names.specs.Kinds.{Shape, Rank}
-use Rattle.zpl_names.specs.Scope.{kind_of}
-use Rattle.zpl_names.specs.Ranks.{own_rank, operand_rank, array_rank, array_shape, exprs_count, dir_rank}
-use Rattle.zpl_names.specs.Faults.{has_flood}
-use Rattle.zpl_binding.specs.Regions.{no_region}
-use Rattle.zpl_meaning.specs.Store.{Thing, Scalar, ArrayAt, Fixed, thing_of}
-use Rattle.zpl_meaning.specs.Regions.{vector_in}
-use Rattle.zpl_meaning.specs.Context.{Over, Currents, with_over, Edge}
-use Rattle.zpl_meaning.specs.Proper.{HasCurrent, IsArrayRank, IsProperRegion, IsProperInner, IsRead, IsArrayRead, IsProper, AreProper}
+use Rattle.stored_shifts.specs.of_zpl_arrays.Around.{zeros, each_rest, copy_shift, copy_storage}
+use Rattle.meaning_ranks.specs.of_zpl_tree.Syntax.{Name, Expr, Number, Truth, Coord, Named, Shifted, Around, Remap, Call, Paren, Neg, Not, Abs, Pair, Reduce, Scan, Flood, Exprs, NoExpr, ThenExpr, Dir, Inner, NoBracket, Bracketed}
+use Rattle.meaning_ranks.specs.of_zpl_names.Kinds.{Shape, Rank}
+use Rattle.meaning_ranks.specs.of_zpl_names.Scope.{kind_of}
+use Rattle.meaning_ranks.specs.of_zpl_names.Ranks.{own_rank, operand_rank, array_rank, array_shape, exprs_count, dir_rank}
+use Rattle.meaning_ranks.specs.of_zpl_names.Faults.{has_flood}
+use Rattle.meaning_ranks.specs.of_zpl_binding.Regions.{no_region}
+use Rattle.meaning_ranks.specs.of_zpl_meaning.Store.{Thing, Scalar, ArrayAt, Fixed, thing_of}
+use Rattle.meaning_ranks.specs.of_zpl_meaning.Regions.{vector_in}
+use Rattle.meaning_ranks.specs.of_zpl_meaning.Context.{Over, Currents, with_over, Edge}
+use Rattle.meaning_ranks.specs.of_zpl_meaning.Proper.{HasCurrent, IsArrayRank, IsProperRegion, IsProperInner, IsRead, IsArrayRead, IsProper, AreProper}
 use Rattle.meaning_ranks.specs.Ranked.{IsRegionOf, IsInnerOf, HasDimension, GoesAlong, IsNameOf, IsOfRank as IsRankedAt, AreOfRank as AreRankedAt}
-use Rattle.node_form.specs.declared.tables.Tables.{Tables}
-use Rattle.node_form.specs.Fits.{IsRank}
-use Rattle.zpl_lowering.specs.Where.{Stored, Numbers, Slotted, SlotCurrents, slotted_or, slotted_at, with_slotted, Where, Next}
-use Rattle.zpl_lowering.specs.Slate as slate
-use Rattle.zpl_lowering.specs.Slate.{Slate, Slates, NoSlate, ThenSlate, Settled, alone, behind, both, named_slate, shifted_slate, remap_slate, border_slots, around_slate, source_of, under_source, source_rank, opened_source, of_opened, settled, settled_all}
-use Rattle.zpl_lowering.specs.Bracket.{Opened}
-use Rattle.zpl_lowering.specs.Hoist.{along_of}
+use Rattle.stored_shifts.specs.of_node_form.declared.tables.Tables.{Tables}
+use Rattle.stored_shifts.specs.of_node_form.Fits.{IsRank}
+use Rattle.lower_numbers.specs.of_zpl_lowering.Where.{Stored, Numbers, Slotted, SlotCurrents, slotted_or, slotted_at, with_slotted, Where, Next}
+use Rattle.lower_numbers.specs.of_zpl_lowering.Slate as slate
+use Rattle.lower_numbers.specs.of_zpl_lowering.Slate.{Slate, Slates, NoSlate, ThenSlate, Settled, alone, behind, both, named_slate, shifted_slate, remap_slate, border_slots, around_slate, source_of, under_source, source_rank, opened_source, of_opened, settled, settled_all}
+use Rattle.lower_numbers.specs.of_zpl_lowering.Bracket.{Opened}
+use Rattle.lower_numbers.specs.of_zpl_lowering.Hoist.{along_of}
 use Rattle.lowering_fits.specs.Inline.{FitRows}
 use Rattle.lowering_fits.specs.Slates.{SlotsAt, StoragesAt, IsOfRank, IsRemapOf, FitsOver, slates_count, FitsSlate, FitsSlates, FitsShift, FitsVector, IsWhole}
 use Rattle.lowering_fits.specs.Lowerings.{AllRanks}

@@ -14,25 +14,25 @@ use Rattle.zpl_nums.specs.Fold.{unit_of}
 use Rattle.zpl_region.specs.declared.dims.Dim.{Dim}
 use Rattle.zpl_region.specs.declared.dims.Dim.TheVariants as dim
 use Rattle.zpl_region.specs.declared.regions.Region.{Region}
-use Rattle.zpl_meaning.specs.Context.{Mask}
-use Rattle.node_form.specs.declared.arrays.ArrayRow.{ArrayRow}
-use Rattle.node_form.specs.declared.instructions.Instr.TheVariants as instr
-use Rattle.node_form.specs.declared.tables.Tables.{Tables}
-use Rattle.node_form.specs.Expression as expr
-use Rattle.node_form.specs.Expression.{Expression, words_of}
-use Rattle.node_form.specs.Nest as nest
-use Rattle.node_form.specs.Nest.{IsNest}
-use Rattle.node_form.specs.Fits.{IsRank, IsVector, HasSlot, HasArray, IsTemporary, FitsRemap, IsIndexArray}
-use Rattle.row_runs.specs.Structured as piece
-use Rattle.row_runs.specs.Structured.{Piece}
-use Rattle.flat_form.specs.Row as row
-use Rattle.flat_form.specs.Row.{Row, Member, Words, group_coded}
-use Rattle.zpl_lowering.specs.Where.{Stored, Numbers, Slotted}
-use Rattle.zpl_lowering.specs.Words.{variable_code}
-use Rattle.zpl_lowering.specs.Reference.{is_unmoved, vector_over}
-use Rattle.zpl_lowering.specs.Slate as slate
-use Rattle.zpl_lowering.specs.Slate.{Slate, Slates, NoSlate, ThenSlate, border_slots}
-use Rattle.zpl_lowering.specs.Hoist.{Hoisted, Free, alone, behind, both, neighbour_if, element_code, shifted_if, shifts_of, stored_element, array_code, mask_word, mask_code, unary_code, fold_rows, folding, kept_rows, part_folding, flooding, along_of, scan_row, scan_with, scan_without, masked_scan, number_of, scanning, temps_from, some_of, three_of, rooms, index_puts, past_dims, any_of, outside_code, trap_if, remap_code, remapping, border_vectors, border_rows, wrapping, hoisted, all_hoisted}
+use Rattle.meaning_ranks.specs.of_zpl_meaning.Context.{Mask}
+use Rattle.stored_shifts.specs.of_node_form.declared.arrays.ArrayRow.{ArrayRow}
+use Rattle.stored_shifts.specs.of_node_form.declared.instructions.Instr.TheVariants as instr
+use Rattle.stored_shifts.specs.of_node_form.declared.tables.Tables.{Tables}
+use Rattle.stored_shifts.specs.of_node_form.Expression as expr
+use Rattle.stored_shifts.specs.of_node_form.Expression.{Expression, words_of}
+use Rattle.stored_shifts.specs.of_node_form.Nest as nest
+use Rattle.stored_shifts.specs.of_node_form.Nest.{IsNest}
+use Rattle.stored_shifts.specs.of_node_form.Fits.{IsRank, IsVector, HasSlot, HasArray, IsTemporary, FitsRemap, IsIndexArray}
+use Rattle.lower_numbers.specs.of_row_runs.Structured as piece
+use Rattle.lower_numbers.specs.of_row_runs.Structured.{Piece}
+use Rattle.lower_numbers.specs.of_flat_form.Row as row
+use Rattle.lower_numbers.specs.of_flat_form.Row.{Row, Member, Words, group_coded}
+use Rattle.lower_numbers.specs.of_zpl_lowering.Where.{Stored, Numbers, Slotted}
+use Rattle.lower_numbers.specs.of_zpl_lowering.Words.{variable_code}
+use Rattle.lower_numbers.specs.of_zpl_lowering.Reference.{is_unmoved, vector_over}
+use Rattle.lower_numbers.specs.of_zpl_lowering.Slate as slate
+use Rattle.lower_numbers.specs.of_zpl_lowering.Slate.{Slate, Slates, NoSlate, ThenSlate, border_slots}
+use Rattle.lower_numbers.specs.of_zpl_lowering.Hoist.{Hoisted, Free, alone, behind, both, neighbour_if, element_code, shifted_if, shifts_of, stored_element, array_code, mask_word, mask_code, unary_code, fold_rows, folding, kept_rows, part_folding, flooding, along_of, scan_row, scan_with, scan_without, masked_scan, number_of, scanning, temps_from, some_of, three_of, rooms, index_puts, past_dims, any_of, outside_code, trap_if, remap_code, remapping, border_vectors, border_rows, wrapping, hoisted, all_hoisted}
 use Rattle.lowering_fits.specs.Inline.{long, FitsMask, FitsRow, FitRows, FitsPiece, AllInside, is_still, AllStill, PutsKept, ReadsApart}
 use Rattle.lowering_fits.specs.Slates.{SlotsAt, TempsAt, AllRanges, IsRowOf, HasStorage, FitNumbers, IsOfRank, IsRemapOf, IsMaskOf, FitsOver, slates_count, FitsCopy, FitsSlate, FitsSlates, FitsShift, FitsTree, FitTrees, FitsVector, AllTemps, AllShifts, AllCovered, IsLevel, IsPlaced, FitsHoist}
 use Rattle.lowering_fits.proofs.VectorLemmas.{by_vector, vector_by, opposite_by, VectorsBy, borders_by, AllCount, borders_alike, double, border_count}

@@ -4,19 +4,19 @@ use Rattle.std.proofs.Common.{arith}
 use Rattle.std.specs.Prelude.{Contains, ◌||◌, Option, Some, None, flat_map}
 use Rattle.std.specs.Option.{is_none}
 use Rattle.zpl_nums.specs.declared.operators.Op.{Op}
-use Rattle.zpl_tree.specs.Syntax.{Name, Expr, Number, Truth, Coord, Named, Shifted, Around, Remap, Call, Paren, Neg, Not, Abs, Pair, Reduce, Scan, Flood, Exprs, NoExpr, ThenExpr, NoBracket, Bracketed, Prefix, Item, Str, Value, Base, Stmt, Prefixed, Stmts, NoStmt, ThenStmt, Form, Assign, Invoke, Block, If, While, Repeat, For, Border, Write, Return, Arm, Tested, Arms, NoArm, ThenArm, Otherwise, NoElse, Else}
-use Rattle.zpl_tree.specs.Syntax.{Program}
-use Rattle.zpl_tree.specs.Grammar.{IsBody}
-use Rattle.zpl_names.specs.Kinds.{Rank}
-use Rattle.zpl_names.specs.Shapes.{Shapes}
-use Rattle.zpl_names.specs.Declared.{Routine, routine_named, scope_of}
-use Rattle.zpl_names.specs.Reached.{IsReached, sites_of, sites_at}
-use Rattle.zpl_names.specs.Accepted.{HasNoFault, HasNoFaultUnder}
-use Rattle.zpl_names.specs.Scope.{kind_of}
-use Rattle.zpl_names.specs.Ranks.{own_rank, inner_rank, array_shape}
-use Rattle.zpl_names.specs.Faults.{at_if, has_flood, flood_clashes, return_places}
-use Rattle.zpl_names.specs.Sites.{Reach, in_body, under_prefix, under_prefixes, inside, over_source, Role, Operand, Limit, Result, Test, Printed, Actual, Assigned, whole_rank, Site, AtStmt, expr_sites, exprs_sites, actuals_sites, region_sites, whole_sites, prefixes_sites, value_sites, item_sites, step_sites, test_rank, arms_rank, stmt_sites, stmts_sites, form_sites, arms_sites, arm_sites, otherwise_sites, body_sites, outermost_sites}
-use Rattle.zpl_meaning.specs.Statement.{step_expr}
+use Rattle.meaning_ranks.specs.of_zpl_tree.Syntax.{Name, Expr, Number, Truth, Coord, Named, Shifted, Around, Remap, Call, Paren, Neg, Not, Abs, Pair, Reduce, Scan, Flood, Exprs, NoExpr, ThenExpr, NoBracket, Bracketed, Prefix, Item, Str, Value, Base, Stmt, Prefixed, Stmts, NoStmt, ThenStmt, Form, Assign, Invoke, Block, If, While, Repeat, For, Border, Write, Return, Arm, Tested, Arms, NoArm, ThenArm, Otherwise, NoElse, Else}
+use Rattle.meaning_ranks.specs.of_zpl_tree.Syntax.{Program}
+use Rattle.meaning_ranks.specs.of_zpl_tree.Grammar.{IsBody}
+use Rattle.meaning_ranks.specs.of_zpl_names.Kinds.{Rank}
+use Rattle.meaning_ranks.specs.of_zpl_names.Shapes.{Shapes}
+use Rattle.meaning_ranks.specs.of_zpl_names.Declared.{Routine, routine_named, scope_of}
+use Rattle.meaning_ranks.specs.of_zpl_names.Reached.{IsReached, sites_of, sites_at}
+use Rattle.meaning_ranks.specs.of_zpl_names.Accepted.{HasNoFault, HasNoFaultUnder}
+use Rattle.meaning_ranks.specs.of_zpl_names.Scope.{kind_of}
+use Rattle.meaning_ranks.specs.of_zpl_names.Ranks.{own_rank, inner_rank, array_shape}
+use Rattle.meaning_ranks.specs.of_zpl_names.Faults.{at_if, has_flood, flood_clashes, return_places}
+use Rattle.meaning_ranks.specs.of_zpl_names.Sites.{Reach, in_body, under_prefix, under_prefixes, inside, over_source, Role, Operand, Limit, Result, Test, Printed, Actual, Assigned, whole_rank, Site, AtStmt, expr_sites, exprs_sites, actuals_sites, region_sites, whole_sites, prefixes_sites, value_sites, item_sites, step_sites, test_rank, arms_rank, stmt_sites, stmts_sites, form_sites, arms_sites, arm_sites, otherwise_sites, body_sites, outermost_sites}
+use Rattle.meaning_ranks.specs.of_zpl_meaning.Statement.{step_expr}
 use Rattle.lowering_fits.specs.Reach.{HasFlatRemaps, HaveFlatRemaps}
 use Rattle.lowering_fits.specs.Lowerings.{answering, AreSoundItems, IsSoundStmt, AreSoundStmts, IsSoundForm, AreSoundArms, IsSoundArm, IsSoundElse}
 

@@ -4,25 +4,25 @@ use Rattle.std.specs.Prelude.{◌⊎◌, Option, Some, None, option_map, slice_g
 use Rattle.std.specs.Option.{IsSomeAnd}
 use Rattle.std.proofs.Common.{inl, inr}
 use Rattle.zpl_nums.specs.declared.operators.Op.{Op}
-use Rattle.zpl_tree.specs.Syntax.{Name, Expr}
-use Rattle.zpl_names.specs.Kinds.{Rank, Kind, Config, Constant, Region, Direction, Scalar as ScalarKind, Array as ArrayKind, Procedure}
-use Rattle.zpl_names.specs.Scope.{kind_of}
-use Rattle.zpl_names.specs.Ranks.{array_shape, array_rank}
-use Rattle.zpl_names.specs.Sites.{Role, Test, Assigned, target_rank}
-use Rattle.zpl_meaning.specs.Store.{Thing, Scalar, ArrayAt, Fixed, thing_of}
-use Rattle.zpl_meaning.specs.Context.{Currents, Edge}
-use Rattle.zpl_meaning.specs.Proper.{IsTarget}
+use Rattle.meaning_ranks.specs.of_zpl_tree.Syntax.{Name, Expr}
+use Rattle.meaning_ranks.specs.of_zpl_names.Kinds.{Rank, Kind, Config, Constant, Region, Direction, Scalar as ScalarKind, Array as ArrayKind, Procedure}
+use Rattle.meaning_ranks.specs.of_zpl_names.Scope.{kind_of}
+use Rattle.meaning_ranks.specs.of_zpl_names.Ranks.{array_shape, array_rank}
+use Rattle.meaning_ranks.specs.of_zpl_names.Sites.{Role, Test, Assigned, target_rank}
+use Rattle.meaning_ranks.specs.of_zpl_meaning.Store.{Thing, Scalar, ArrayAt, Fixed, thing_of}
+use Rattle.meaning_ranks.specs.of_zpl_meaning.Context.{Currents, Edge}
+use Rattle.meaning_ranks.specs.of_zpl_meaning.Proper.{IsTarget}
 use Rattle.meaning_ranks.specs.Ranked.{TakesRank}
-use Rattle.node_form.specs.Expression.{Expression}
-use Rattle.node_form.specs.declared.tables.Tables.{Tables}
-use Rattle.row_runs.specs.Structured as piece
-use Rattle.flat_form.specs.Row.{Row}
-use Rattle.zpl_lowering.specs.Where.{Stored, Slotted, slotted_at, Where, Next, rank_in, rank_for, line_of}
-use Rattle.zpl_lowering.specs.Slate.{Placed}
-use Rattle.zpl_lowering.specs.Reference.{Reference, refer_to, over_reference}
-use Rattle.zpl_lowering.specs.Hoist.{mask_code}
-use Rattle.zpl_lowering.specs.Lowered.{Lowered, rows_alone, Phased, phased_with, phased, first_left}
-use Rattle.zpl_lowering.specs.Statement.{placed_in, test_of, set_row, put_row, lowered_scalar, lowered_array, lowered_to, value_rows, with_values}
+use Rattle.stored_shifts.specs.of_node_form.Expression.{Expression}
+use Rattle.stored_shifts.specs.of_node_form.declared.tables.Tables.{Tables}
+use Rattle.lower_numbers.specs.of_row_runs.Structured as piece
+use Rattle.lower_numbers.specs.of_flat_form.Row.{Row}
+use Rattle.lower_numbers.specs.of_zpl_lowering.Where.{Stored, Slotted, slotted_at, Where, Next, rank_in, rank_for, line_of}
+use Rattle.lower_numbers.specs.of_zpl_lowering.Slate.{Placed}
+use Rattle.lower_numbers.specs.of_zpl_lowering.Reference.{Reference, refer_to, over_reference}
+use Rattle.lower_numbers.specs.of_zpl_lowering.Hoist.{mask_code}
+use Rattle.lower_numbers.specs.of_zpl_lowering.Lowered.{Lowered, rows_alone, Phased, phased_with, phased, first_left}
+use Rattle.lower_numbers.specs.of_zpl_lowering.Statement.{placed_in, test_of, set_row, put_row, lowered_scalar, lowered_array, lowered_to, value_rows, with_values}
 use Rattle.lowering_fits.specs.Inline.{FitsScalar, FitRows}
 use Rattle.lowering_fits.specs.Slates.{IsOfRank, FitsOver, FitsTree}
 use Rattle.lowering_fits.specs.Reach.{place_at, IsStoredAs, IsReach}

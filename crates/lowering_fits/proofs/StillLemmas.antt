@@ -3,30 +3,30 @@
 use Rattle.std.proofs.Common.{◌≡◌, ℕ, Bool, true, false, List, [], ◌∷◌, ◌++◌, refl, sym, ap, ◌∙◌, subst, arith}
 use Rattle.std.specs.Prelude.{Option, Some, None, slice_get, flat_map, ◌&&◌}
 use Rattle.zpl_nums.specs.declared.operators.Op.{Op}
-use Rattle.zpl_tree.specs.Syntax.{Name, Expr, Number, Truth, Coord, Named, Shifted, Around, Remap, Call, Paren, Neg, Not, Abs, Pair, Reduce, Scan, Flood, Stmt, Prefixed, Stmts, NoStmt, ThenStmt, Form, Assign, Invoke, Block, If, While, Repeat, For, Border, Write, Return, Arm, Tested, Arms, NoArm, ThenArm, Otherwise, NoElse, Else}
-use Rattle.zpl_names.specs.Kinds.{Rank}
-use Rattle.zpl_names.specs.Types.{is_elementwise}
-use Rattle.zpl_meaning.specs.Store.{Thing, Scalar, ArrayAt, Fixed, thing_of}
-use Rattle.zpl_meaning.specs.Points.{assigned_expr}
+use Rattle.meaning_ranks.specs.of_zpl_tree.Syntax.{Name, Expr, Number, Truth, Coord, Named, Shifted, Around, Remap, Call, Paren, Neg, Not, Abs, Pair, Reduce, Scan, Flood, Stmt, Prefixed, Stmts, NoStmt, ThenStmt, Form, Assign, Invoke, Block, If, While, Repeat, For, Border, Write, Return, Arm, Tested, Arms, NoArm, ThenArm, Otherwise, NoElse, Else}
+use Rattle.meaning_ranks.specs.of_zpl_names.Kinds.{Rank}
+use Rattle.meaning_ranks.specs.of_zpl_names.Types.{is_elementwise}
+use Rattle.meaning_ranks.specs.of_zpl_meaning.Store.{Thing, Scalar, ArrayAt, Fixed, thing_of}
+use Rattle.meaning_ranks.specs.of_zpl_meaning.Points.{assigned_expr}
 use Rattle.meaning_ranks.specs.Ranked.{IsPointOf, ArePointsOf, IsPointFormOf, ArePointArmsOf, IsPointArmOf, IsPointElseOf}
-use Rattle.node_form.specs.Expression.{Expression}
-use Rattle.flat_form.specs.Row as row
-use Rattle.flat_form.specs.Row.{Member, Words, member_words}
-use Rattle.zpl_lowering.specs.Where.{Stored, Numbers, Slotted, slotted_at, Where, Next}
-use Rattle.zpl_lowering.specs.Slate as slate
-use Rattle.zpl_lowering.specs.Slate.{Slate, Settled, settled, named_slate, behind as behind_settled}
-use Rattle.zpl_lowering.specs.Hoist.{Hoisted, Free, behind as behind_hoisted, hoisted, stored_element}
-use Rattle.zpl_lowering.specs.Statement.{Inside, Elementwise, elementwise, put_member, put_thing, otherwise_members, stmt_inside, stmts_inside, form_inside, arms_inside, arm_inside, otherwise_inside, masked_members}
+use Rattle.stored_shifts.specs.of_node_form.Expression.{Expression}
+use Rattle.lower_numbers.specs.of_flat_form.Row as row
+use Rattle.lower_numbers.specs.of_flat_form.Row.{Member, Words, member_words}
+use Rattle.lower_numbers.specs.of_zpl_lowering.Where.{Stored, Numbers, Slotted, slotted_at, Where, Next}
+use Rattle.lower_numbers.specs.of_zpl_lowering.Slate as slate
+use Rattle.lower_numbers.specs.of_zpl_lowering.Slate.{Slate, Settled, settled, named_slate, behind as behind_settled}
+use Rattle.lower_numbers.specs.of_zpl_lowering.Hoist.{Hoisted, Free, behind as behind_hoisted, hoisted, stored_element}
+use Rattle.lower_numbers.specs.of_zpl_lowering.Statement.{Inside, Elementwise, elementwise, put_member, put_thing, otherwise_members, stmt_inside, stmts_inside, form_inside, arms_inside, arm_inside, otherwise_inside, masked_members}
 use Rattle.std.specs.List.{list_all}
 use Rattle.zpl_nums.specs.declared.operators.UnaryOp.{UnaryOp}
 use Rattle.zpl_nums.specs.declared.operators.UnaryOp.TheVariants as unary
-use Rattle.zpl_meaning.specs.Context.{Place}
-use Rattle.node_form.specs.declared.words.ExprOp.{ExprOp}
-use Rattle.node_form.specs.declared.words.ExprOp.TheVariants as word
-use Rattle.node_form.specs.Expression.{words_of}
-use Rattle.flat_form.specs.Row.{mask_words}
-use Rattle.zpl_lowering.specs.Words.{variable_code}
-use Rattle.zpl_lowering.specs.Hoist.{unary_code}
+use Rattle.meaning_ranks.specs.of_zpl_meaning.Context.{Place}
+use Rattle.stored_shifts.specs.of_node_form.declared.words.ExprOp.{ExprOp}
+use Rattle.stored_shifts.specs.of_node_form.declared.words.ExprOp.TheVariants as word
+use Rattle.stored_shifts.specs.of_node_form.Expression.{words_of}
+use Rattle.lower_numbers.specs.of_flat_form.Row.{mask_words}
+use Rattle.lower_numbers.specs.of_zpl_lowering.Words.{variable_code}
+use Rattle.lower_numbers.specs.of_zpl_lowering.Hoist.{unary_code}
 use Rattle.lowering_fits.specs.Inline.{is_still, AllStill}
 
 -- ---- elementwise expressions have nothing of their own

@@ -11,13 +11,13 @@ use Rattle.zpl_region.specs.Region.{padding, outside_of, moved}
 use Rattle.zpl_region.specs.Ends.{has_none}
 use Rattle.zpl_region.specs.Hull.{IsBoxed, dim_hull, emptied, hull, dim_hull_with, each_hull_with, hull_with}
 use Rattle.zpl_region.specs.Tests.{is_within_limit}
-use Rattle.zpl_arrays.specs.Around.{copy_shift, copy_storage}
-use Rattle.zpl_tree.specs.Syntax.{Inner}
-use Rattle.zpl_binding.specs.Outcome.{RegionLimit, Outcome, Gives, Fails, and_then, outcome_of}
-use Rattle.zpl_binding.specs.Vectors.{three_components}
-use Rattle.zpl_binding.specs.Regions.{Known, limited, inner_of}
-use Rattle.zpl_binding.specs.Storages.{Border, widened, shape_borders, storage_of}
-use Rattle.node_form.specs.Fits.{IsRank}
+use Rattle.stored_shifts.specs.of_zpl_arrays.Around.{copy_shift, copy_storage}
+use Rattle.meaning_ranks.specs.of_zpl_tree.Syntax.{Inner}
+use Rattle.meaning_ranks.specs.of_zpl_binding.Outcome.{RegionLimit, Outcome, Gives, Fails, and_then, outcome_of}
+use Rattle.meaning_ranks.specs.of_zpl_binding.Vectors.{three_components}
+use Rattle.meaning_ranks.specs.of_zpl_binding.Regions.{Known, limited, inner_of}
+use Rattle.meaning_ranks.specs.of_zpl_binding.Storages.{Border, widened, shape_borders, storage_of}
+use Rattle.stored_shifts.specs.of_node_form.Fits.{IsRank}
 use Rattle.lowering_fits.specs.Reach.{IsBox}
 use Rattle.lowering_fits.specs.Storages.{AllBoxed, IsStorage}
 use Rattle.lowering_fits.proofs.ArrayLemmas.{PadsFrom, pads}

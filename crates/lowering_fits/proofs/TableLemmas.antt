@@ -5,17 +5,17 @@ use Rattle.std.specs.List.{AllByRecursion}
 use Rattle.std.specs.Option.{IfSome, IsSomeAnd}
 use Rattle.std.proofs.lemmas.List.{length-replicate}
 use Rattle.std.proofs.lemmas.List.Elements.{All-append, All-cons, All-nil, All-from_recursion, All-weaker}
-use Rattle.node_form.specs.declared.words.ExprOp.TheVariants as word
-use Rattle.node_form.specs.declared.members.Member as number
-use Rattle.node_form.specs.declared.instructions.Instr.{Instr}
-use Rattle.node_form.specs.declared.instructions.Instr.TheVariants as instr
-use Rattle.node_form.specs.declared.tables.Tables.{Tables}
-use Rattle.node_form.specs.Fits.{IsRank, HasArray, FitsArray, FitsWord, FitsExpr, IsScalarWord, HasScalarExpr, HasExpr, FitsMember, FitsGroup, FitsPart, IsStar, FitsInstr, Keeps, Grows, FitsExchange}
-use Rattle.node_form.specs.Grid.{IsGrid}
-use Rattle.node_form.proofs.GrowthLemmas.{Keeps-append, Keeps-same, FitsWord-grows, FitsExpr-grows, FitsGroup-grows, FitsInstr-grows}
-use Rattle.flat_form.specs.Flat.{IsFlatRow, IsFlat}
-use Rattle.flat_form.specs.Row as row
-use Rattle.flat_form.specs.Row.{Words, Member, Part, Row, with_row, with_rows, all_coded, member_words, member_coded, mask_words, numbered, part_words, part_coded, row_words, row_groups, row_texts, coded, group_coded}
+use Rattle.stored_shifts.specs.of_node_form.declared.words.ExprOp.TheVariants as word
+use Rattle.stored_shifts.specs.of_node_form.declared.members.Member as number
+use Rattle.stored_shifts.specs.of_node_form.declared.instructions.Instr.{Instr}
+use Rattle.stored_shifts.specs.of_node_form.declared.instructions.Instr.TheVariants as instr
+use Rattle.stored_shifts.specs.of_node_form.declared.tables.Tables.{Tables}
+use Rattle.stored_shifts.specs.of_node_form.Fits.{IsRank, HasArray, FitsArray, FitsWord, FitsExpr, IsScalarWord, HasScalarExpr, HasExpr, FitsMember, FitsGroup, FitsPart, IsStar, FitsInstr, Keeps, Grows, FitsExchange}
+use Rattle.stored_shifts.specs.of_node_form.Grid.{IsGrid}
+use Rattle.stored_shifts.proofs.of_node_form.GrowthLemmas.{Keeps-append, Keeps-same, FitsWord-grows, FitsExpr-grows, FitsGroup-grows, FitsInstr-grows}
+use Rattle.lower_numbers.specs.of_flat_form.Flat.{IsFlatRow, IsFlat}
+use Rattle.lower_numbers.specs.of_flat_form.Row as row
+use Rattle.lower_numbers.specs.of_flat_form.Row.{Words, Member, Part, Row, with_row, with_rows, all_coded, member_words, member_coded, mask_words, numbered, part_words, part_coded, row_words, row_groups, row_texts, coded, group_coded}
 use Rattle.lowering_fits.specs.Inline.{IsOwnRow, FitsWords, FitsScalar, FitsMask, FitsInside, AllInside, FitsDim, AllDims, AllStars, StarsPast, long, FitsRow, FitRows, IsGround}
 
 -- ---- what stands behind other things

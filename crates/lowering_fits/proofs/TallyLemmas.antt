@@ -2,19 +2,19 @@
 use Rattle.std.proofs.Common.{◌≡◌, ℕ, suc, ◌+◌, Bool, true, false, List, [], ◌∷◌, ◌++◌, length, refl, ap, ◌∙◌, arith, cond}
 use Rattle.std.specs.Prelude.{Option, Some, None}
 use Rattle.std.specs.List.{flat_map}
-use Rattle.zpl_tree.specs.Syntax.{Name, Pre, RegionBase, NamedRegion, Ditto, Expr, Number, Truth, Coord, Named, Shifted, Around, Remap, Call, Paren, Neg, Not, Abs, Pair, Reduce, Scan, Flood, Exprs, NoExpr, ThenExpr, Dir, NamedDir, Vector, Inner, Rexpr, Dims, NoBracket, Bracketed, Posts, NoPost, ThenPost, DimText, Blank, Star, One, Span, DimTexts, NoDim, ThenDim}
-use Rattle.zpl_names.specs.Kinds as kind
-use Rattle.zpl_names.specs.Kinds.{Rank, Kind}
-use Rattle.zpl_names.specs.Scope.{kind_in, kind_of, in_reach, is_array}
+use Rattle.meaning_ranks.specs.of_zpl_tree.Syntax.{Name, Pre, RegionBase, NamedRegion, Ditto, Expr, Number, Truth, Coord, Named, Shifted, Around, Remap, Call, Paren, Neg, Not, Abs, Pair, Reduce, Scan, Flood, Exprs, NoExpr, ThenExpr, Dir, NamedDir, Vector, Inner, Rexpr, Dims, NoBracket, Bracketed, Posts, NoPost, ThenPost, DimText, Blank, Star, One, Span, DimTexts, NoDim, ThenDim}
+use Rattle.meaning_ranks.specs.of_zpl_names.Kinds as kind
+use Rattle.meaning_ranks.specs.of_zpl_names.Kinds.{Rank, Kind}
+use Rattle.meaning_ranks.specs.of_zpl_names.Scope.{kind_in, kind_of, in_reach, is_array}
 use Rattle.std.specs.Option.{option_or}
-use Rattle.zpl_names.specs.Ranks.{own_rank, inner_rank, is_index}
-use Rattle.zpl_names.specs.Sites.{Reach, Bound, Component, Operand, whole_rank, in_vector, over_source, Site, AtWhole, AtExpr, AtCall, AtNamed, AtDir, AtRegion, AtMask, AtStmt, AtBase, AtPosts, AtProcedure, index_sites, expr_sites, dir_sites, components_sites, region_sites, posts_sites, dims_sites, dim_sites}
-use Rattle.zpl_names.specs.Accepted.{HasNoFault}
-use Rattle.zpl_meaning.specs.Store.{Environment}
-use Rattle.zpl_meaning.specs.Proper.{HasValue}
-use Rattle.zpl_meaning.proofs.DepthLemmas.{Each, each_left, each_right}
-use Rattle.zpl_meaning.proofs.ProperLemmas.{taken}
-use Rattle.zpl_lowering.specs.Program.{reads_at}
+use Rattle.meaning_ranks.specs.of_zpl_names.Ranks.{own_rank, inner_rank, is_index}
+use Rattle.meaning_ranks.specs.of_zpl_names.Sites.{Reach, Bound, Component, Operand, whole_rank, in_vector, over_source, Site, AtWhole, AtExpr, AtCall, AtNamed, AtDir, AtRegion, AtMask, AtStmt, AtBase, AtPosts, AtProcedure, index_sites, expr_sites, dir_sites, components_sites, region_sites, posts_sites, dims_sites, dim_sites}
+use Rattle.meaning_ranks.specs.of_zpl_names.Accepted.{HasNoFault}
+use Rattle.meaning_ranks.specs.of_zpl_meaning.Store.{Environment}
+use Rattle.meaning_ranks.specs.of_zpl_meaning.Proper.{HasValue}
+use Rattle.meaning_ranks.proofs.of_zpl_meaning.DepthLemmas.{Each, each_left, each_right}
+use Rattle.meaning_ranks.proofs.of_zpl_meaning.ProperLemmas.{taken}
+use Rattle.lower_numbers.specs.of_zpl_lowering.Program.{reads_at}
 
 -- ---- tallies
 

@@ -9,19 +9,19 @@ use Rattle.zpl_region.specs.declared.dims.Dim.{Dim}
 use Rattle.zpl_region.specs.declared.dims.Dim.TheVariants as dim
 use Rattle.zpl_region.specs.declared.regions.Region.{Region}
 use Rattle.zpl_region.specs.Dim.{IsUpTo}
-use Rattle.node_form.specs.declared.arrays.ArrayRow.{ArrayRow}
-use Rattle.node_form.specs.declared.words.ExprOp.{ExprOp}
-use Rattle.node_form.specs.declared.words.ExprOp.TheVariants as word
-use Rattle.node_form.specs.declared.tables.Tables.{Tables}
-use Rattle.node_form.specs.Expression as expr
-use Rattle.node_form.specs.Expression.{Expression, words_of}
-use Rattle.node_form.specs.Value.{unmoved}
-use Rattle.node_form.specs.Fits.{IsVector, HasArray, IsStored, FitsWord, IsScalarWord}
-use Rattle.zpl_lowering.specs.Where.{Stored}
-use Rattle.zpl_lowering.specs.Words.{variable_code}
-use Rattle.zpl_lowering.specs.Reference.{shift_in, vector_over}
-use Rattle.zpl_lowering.specs.Hoist.{Shifted}
-use Rattle.flat_form.specs.Static.{word_has_fringe}
+use Rattle.stored_shifts.specs.of_node_form.declared.arrays.ArrayRow.{ArrayRow}
+use Rattle.stored_shifts.specs.of_node_form.declared.words.ExprOp.{ExprOp}
+use Rattle.stored_shifts.specs.of_node_form.declared.words.ExprOp.TheVariants as word
+use Rattle.stored_shifts.specs.of_node_form.declared.tables.Tables.{Tables}
+use Rattle.stored_shifts.specs.of_node_form.Expression as expr
+use Rattle.stored_shifts.specs.of_node_form.Expression.{Expression, words_of}
+use Rattle.stored_shifts.specs.of_node_form.Value.{unmoved}
+use Rattle.stored_shifts.specs.of_node_form.Fits.{IsVector, HasArray, IsStored, FitsWord, IsScalarWord}
+use Rattle.lower_numbers.specs.of_zpl_lowering.Where.{Stored}
+use Rattle.lower_numbers.specs.of_zpl_lowering.Words.{variable_code}
+use Rattle.lower_numbers.specs.of_zpl_lowering.Reference.{shift_in, vector_over}
+use Rattle.lower_numbers.specs.of_zpl_lowering.Hoist.{Shifted}
+use Rattle.lower_numbers.specs.of_flat_form.Static.{word_has_fringe}
 use Rattle.stored_shifts.specs.Stored.{IsStoredRead}
 use Rattle.typed_tables.specs.Typed.{IsTypedWord}
 use Rattle.lowering_fits.specs.Inline.{FitsWords, FitsScalar}

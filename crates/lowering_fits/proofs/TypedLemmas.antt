@@ -4,26 +4,26 @@ use Rattle.std.specs.Prelude.{All, Bool}
 use Rattle.std.proofs.lemmas.List.Elements.{All-append, All-cons, All-nil}
 use Rattle.zpl_region.specs.declared.dims.Dim.{Dim}
 use Rattle.zpl_region.specs.declared.regions.Region.{Region}
-use Rattle.node_form.specs.declared.instructions.Instr.{Instr}
-use Rattle.node_form.specs.declared.instructions.Instr.TheVariants as instr
-use Rattle.node_form.specs.declared.tables.Tables.{Tables}
-use Rattle.flat_form.specs.Row as row
-use Rattle.flat_form.specs.Row.{Part, Row, part_words}
-use Rattle.flat_form.specs.Row.{with_row, with_rows}
+use Rattle.stored_shifts.specs.of_node_form.declared.instructions.Instr.{Instr}
+use Rattle.stored_shifts.specs.of_node_form.declared.instructions.Instr.TheVariants as instr
+use Rattle.stored_shifts.specs.of_node_form.declared.tables.Tables.{Tables}
+use Rattle.lower_numbers.specs.of_flat_form.Row as row
+use Rattle.lower_numbers.specs.of_flat_form.Row.{Part, Row, part_words}
+use Rattle.lower_numbers.specs.of_flat_form.Row.{with_row, with_rows}
 use Rattle.typed_tables.specs.Typed.{AreTyped, IsTypedArray, IsTypedItem, IsTypedRow, IsTypedWord}
-use Rattle.zpl_lowering.specs.Lowered.{Lowered}
-use Rattle.zpl_lowering.specs.Tables.{empty_tables, rows_of, tables_of}
+use Rattle.lower_numbers.specs.of_zpl_lowering.Lowered.{Lowered}
+use Rattle.lower_numbers.specs.of_zpl_lowering.Tables.{empty_tables, rows_of, tables_of}
 use Rattle.lowering_fits.specs.Inline.{FitRows, FitsRow}
 use Rattle.lowering_fits.specs.Lowerings.{FitsLowered}
 use Rattle.lowering_fits.proofs.ExprLemmas.{rows_have}
 use Rattle.lowering_fits.proofs.PieceLemmas.{all_rows_fit}
-use Rattle.zpl_lowering.specs.Tables.{Fringe, fringes_of, stored_dims, stored_row, stored_rows, temp_dims, temp_row}
-use Rattle.zpl_lowering.specs.Hoist.{Shifted}
+use Rattle.lower_numbers.specs.of_zpl_lowering.Tables.{Fringe, fringes_of, stored_dims, stored_row, stored_rows, temp_dims, temp_row}
+use Rattle.lower_numbers.specs.of_zpl_lowering.Hoist.{Shifted}
 use Rattle.lowering_fits.specs.Inline.{IsOwnRow}
 use Rattle.lowering_fits.specs.Storages.{AllStorages}
 use Rattle.lowering_fits.proofs.ArrayLemmas.{fringes_count}
 use Rattle.lowering_fits.proofs.ReadLemmas.{exprs_are, arrays_are}
-use Rattle.flat_form.specs.Row.{all_coded, coded, part_coded}
+use Rattle.lower_numbers.specs.of_flat_form.Row.{all_coded, coded, part_coded}
 
 -- ---- rows as they stand in tables
 coded_count : (n : ℕ) (parts : List Part) →

@@ -7,9 +7,9 @@ use Rattle.std.proofs.lemmas.Int.{ints}
 use Rattle.std.proofs.lemmas.List.Elements.{All-from_recursion, recursion_from_All}
 use Rattle.zpl_nums.specs.Integer.{is_true}
 use Rattle.zpl_region.specs.Dim.{IsUpTo}
-use Rattle.node_form.specs.Fits.{IsVector}
-use Rattle.zpl_lowering.specs.Slate.{is_moving, border_slots}
-use Rattle.zpl_lowering.specs.Hoist.{kept_or_not, choices, border_vectors}
+use Rattle.stored_shifts.specs.of_node_form.Fits.{IsVector}
+use Rattle.lower_numbers.specs.of_zpl_lowering.Slate.{is_moving, border_slots}
+use Rattle.lower_numbers.specs.of_zpl_lowering.Hoist.{kept_or_not, choices, border_vectors}
 
 -- ---- component by component
 

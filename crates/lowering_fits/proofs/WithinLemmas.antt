@@ -2,11 +2,11 @@
 use Rattle.std.proofs.Common.{◌≡◌, ℕ, true, List, length, sym, subst}
 use Rattle.std.specs.Prelude.{All}
 use Rattle.std.specs.List.{list_all}
-use Rattle.node_form.specs.declared.tables.Tables.{Tables}
-use Rattle.flat_form.specs.Row.{Row, with_rows}
-use Rattle.flat_form.specs.Static.{HasFringes, word_has_fringe}
-use Rattle.zpl_lowering.specs.Lowered.{Lowered}
-use Rattle.zpl_lowering.specs.Tables.{empty_tables, rows_of, tables_of}
+use Rattle.stored_shifts.specs.of_node_form.declared.tables.Tables.{Tables}
+use Rattle.lower_numbers.specs.of_flat_form.Row.{Row, with_rows}
+use Rattle.lower_numbers.specs.of_flat_form.Static.{HasFringes, word_has_fringe}
+use Rattle.lower_numbers.specs.of_zpl_lowering.Lowered.{Lowered}
+use Rattle.lower_numbers.specs.of_zpl_lowering.Tables.{empty_tables, rows_of, tables_of}
 use Rattle.lowering_fits.specs.Lowerings.{FitsLowered}
 use Rattle.lowering_fits.proofs.ExprLemmas.{rows_have}
 use Rattle.lowering_fits.proofs.PieceLemmas.{all_rows_fit}

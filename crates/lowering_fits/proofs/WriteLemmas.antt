@@ -5,26 +5,26 @@ use Rattle.std.specs.Prelude.{neg_ℤ, Option, Some, None, slice_get}
 use Rattle.std.specs.Option.{IsSomeAnd}
 use Rattle.zpl_nums.specs.declared.ends.Border.{Border as BorderKind}
 use Rattle.zpl_nums.specs.declared.ends.Border.TheVariants as border
-use Rattle.zpl_tree.specs.Syntax.{Name, Item, Str, Value}
-use Rattle.zpl_names.specs.Kinds.{Rank}
-use Rattle.zpl_names.specs.Scope.{kind_of}
-use Rattle.zpl_names.specs.Ranks.{array_rank, array_shape}
-use Rattle.zpl_names.specs.Sites.{Printed}
-use Rattle.zpl_names.specs.Types.{type_of}
-use Rattle.zpl_meaning.specs.Store.{Thing, Scalar, ArrayAt, Fixed, thing_of}
-use Rattle.zpl_meaning.specs.Context.{Currents, Edge}
-use Rattle.zpl_meaning.specs.Proper.{HasCurrent, IsUnderCurrent, AreProperItems}
+use Rattle.meaning_ranks.specs.of_zpl_tree.Syntax.{Name, Item, Str, Value}
+use Rattle.meaning_ranks.specs.of_zpl_names.Kinds.{Rank}
+use Rattle.meaning_ranks.specs.of_zpl_names.Scope.{kind_of}
+use Rattle.meaning_ranks.specs.of_zpl_names.Ranks.{array_rank, array_shape}
+use Rattle.meaning_ranks.specs.of_zpl_names.Sites.{Printed}
+use Rattle.meaning_ranks.specs.of_zpl_names.Types.{type_of}
+use Rattle.meaning_ranks.specs.of_zpl_meaning.Store.{Thing, Scalar, ArrayAt, Fixed, thing_of}
+use Rattle.meaning_ranks.specs.of_zpl_meaning.Context.{Currents, Edge}
+use Rattle.meaning_ranks.specs.of_zpl_meaning.Proper.{HasCurrent, IsUnderCurrent, AreProperItems}
 use Rattle.meaning_ranks.specs.Ranked.{AreArraysOf, AreRankedItems}
-use Rattle.node_form.specs.Expression as expr
-use Rattle.node_form.specs.Expression.{Expression, words_of}
-use Rattle.node_form.specs.declared.tables.Tables.{Tables}
-use Rattle.node_form.specs.Fits.{IsRank, HasSlot, HasArray, IsStored}
-use Rattle.row_runs.specs.Structured as piece
-use Rattle.flat_form.specs.Row as row
-use Rattle.flat_form.specs.Row.{Row, Words}
-use Rattle.zpl_lowering.specs.Where.{Stored, Slotted, slotted_at, SlotEdge, Where, Next, rank_in}
-use Rattle.zpl_lowering.specs.Lowered.{Lowered, behind, Phased, phased}
-use Rattle.zpl_lowering.specs.Statement.{border_rows, border_thing, each_border, source_shift, lowered_borders, printed_exprs, Shown, scalar_print, shown_at, shown_of, Prints, newline, items_of, of_prints, lowered_write, is_truth}
+use Rattle.stored_shifts.specs.of_node_form.Expression as expr
+use Rattle.stored_shifts.specs.of_node_form.Expression.{Expression, words_of}
+use Rattle.stored_shifts.specs.of_node_form.declared.tables.Tables.{Tables}
+use Rattle.stored_shifts.specs.of_node_form.Fits.{IsRank, HasSlot, HasArray, IsStored}
+use Rattle.lower_numbers.specs.of_row_runs.Structured as piece
+use Rattle.lower_numbers.specs.of_flat_form.Row as row
+use Rattle.lower_numbers.specs.of_flat_form.Row.{Row, Words}
+use Rattle.lower_numbers.specs.of_zpl_lowering.Where.{Stored, Slotted, slotted_at, SlotEdge, Where, Next, rank_in}
+use Rattle.lower_numbers.specs.of_zpl_lowering.Lowered.{Lowered, behind, Phased, phased}
+use Rattle.lower_numbers.specs.of_zpl_lowering.Statement.{border_rows, border_thing, each_border, source_shift, lowered_borders, printed_exprs, Shown, scalar_print, shown_at, shown_of, Prints, newline, items_of, of_prints, lowered_write, is_truth}
 use Rattle.lowering_fits.specs.Inline.{FitsScalar, FitRows}
 use Rattle.lowering_fits.specs.Slates.{TempsAt, FitsOver, FitsTree, FitsVector, AllTemps}
 use Rattle.lowering_fits.specs.Reach.{place_at, IsStoredAs, IsReach}

@@ -1,13 +1,13 @@
 -- When arrays are declared as the text says: their ranks, and which dimensions are flood dimensions.
 use Rattle.std.specs.Prelude.{◌≡◌, List, [], ◌∷◌, length, Some, option_map, Contains}
-use Rattle.zpl_tree.specs.Syntax.{Bracket, NoBracket, Bracketed, VarDef, Decl, Config, Constant, Regions, Directions, Vars, Defined, Program}
-use Rattle.zpl_names.specs.Scope.{Entry, Scope}
-use Rattle.zpl_names.specs.Shapes.{declared_shape}
-use Rattle.zpl_names.specs.Declared.{Routine, own_entries, declaring, head_scope, routines_of, with_decl, with_variables}
-use Rattle.zpl_binding.specs.Settings.{Setting}
-use Rattle.zpl_meaning.specs.Context.{Setup}
-use Rattle.zpl_meaning.specs.Variables.{home_box, storage_box}
-use Rattle.zpl_meaning.specs.Visited.{first_setup}
+use Rattle.meaning_ranks.specs.of_zpl_tree.Syntax.{Bracket, NoBracket, Bracketed, VarDef, Decl, Config, Constant, Regions, Directions, Vars, Defined, Program}
+use Rattle.meaning_ranks.specs.of_zpl_names.Scope.{Entry, Scope}
+use Rattle.meaning_ranks.specs.of_zpl_names.Shapes.{declared_shape}
+use Rattle.meaning_ranks.specs.of_zpl_names.Declared.{Routine, own_entries, declaring, head_scope, routines_of, with_decl, with_variables}
+use Rattle.meaning_ranks.specs.of_zpl_binding.Settings.{Setting}
+use Rattle.meaning_ranks.specs.of_zpl_meaning.Context.{Setup}
+use Rattle.meaning_ranks.specs.of_zpl_meaning.Variables.{home_box, storage_box}
+use Rattle.meaning_ranks.specs.of_zpl_meaning.Visited.{first_setup}
 use Rattle.lowering_fits.specs.Slates.{FitsBox}
 use Rattle.lowering_fits.specs.Storages.{IsHomeIn, IsStorage}
 use Rattle.lowering_fits.specs.Reach.{IsStoredAs}

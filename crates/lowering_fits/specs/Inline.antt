@@ -2,22 +2,22 @@
 -- scalars, the same slots and the same arrays as those that the rows are laid out in.
 use Rattle.std.specs.Prelude.{◌≡◌, ℕ, zero, suc, ◌<◌, ◌≤◌, ◌⊎◌, Bool, true, false, List, [], ◌∷◌, Option, Some, None, All, flat_map, length, replicate}
 use Rattle.std.specs.List.{list_all}
-use Rattle.node_form.specs.declared.instructions.Instr.{Instr}
-use Rattle.node_form.specs.declared.instructions.Instr.TheVariants as instr
-use Rattle.node_form.specs.declared.words.ExprOp.{ExprOp}
-use Rattle.node_form.specs.declared.words.ExprOp.TheVariants as word
-use Rattle.node_form.specs.declared.tables.Tables.{Tables}
-use Rattle.node_form.specs.Expression.{IsExpression}
-use Rattle.node_form.specs.Fits.{IsRank, HasSlot, HasArray, IsTemporary, FitsWord, IsScalarWord, FitsInstr}
-use Rattle.node_form.specs.Nest.{IsNest}
+use Rattle.stored_shifts.specs.of_node_form.declared.instructions.Instr.{Instr}
+use Rattle.stored_shifts.specs.of_node_form.declared.instructions.Instr.TheVariants as instr
+use Rattle.stored_shifts.specs.of_node_form.declared.words.ExprOp.{ExprOp}
+use Rattle.stored_shifts.specs.of_node_form.declared.words.ExprOp.TheVariants as word
+use Rattle.stored_shifts.specs.of_node_form.declared.tables.Tables.{Tables}
+use Rattle.stored_shifts.specs.of_node_form.Expression.{IsExpression}
+use Rattle.stored_shifts.specs.of_node_form.Fits.{IsRank, HasSlot, HasArray, IsTemporary, FitsWord, IsScalarWord, FitsInstr}
+use Rattle.stored_shifts.specs.of_node_form.Nest.{IsNest}
 use Rattle.stored_shifts.specs.Stored.{IsStoredRead}
 use Rattle.typed_tables.specs.Typed.{IsTypedWord}
-use Rattle.flat_form.specs.Row as row
-use Rattle.flat_form.specs.Row.{Words, Member, Part, Row, group_coded, mask_words, member_words}
-use Rattle.flat_form.specs.Static.{word_has_fringe}
-use Rattle.row_runs.specs.Structured as piece
-use Rattle.row_runs.specs.Structured.{Piece}
-use Rattle.zpl_lowering.specs.Check.{Check}
+use Rattle.lower_numbers.specs.of_flat_form.Row as row
+use Rattle.lower_numbers.specs.of_flat_form.Row.{Words, Member, Part, Row, group_coded, mask_words, member_words}
+use Rattle.lower_numbers.specs.of_flat_form.Static.{word_has_fringe}
+use Rattle.lower_numbers.specs.of_row_runs.Structured as piece
+use Rattle.lower_numbers.specs.of_row_runs.Structured.{Piece}
+use Rattle.lower_numbers.specs.of_zpl_lowering.Check.{Check}
 
 -- ---- expressions
 

@@ -1,17 +1,17 @@
 -- When the code of statements fits, and what it has of its own is laid out in the tables.
 use Rattle.std.specs.Prelude.{◌≡◌, ℕ, ◌+◌, ◌≤◌, Bool, true, false, List, [], ◌∷◌, Option, Some, None}
-use Rattle.zpl_tree.specs.Syntax.{Base, Item, Str, Value, Stmt, Prefixed, Stmts, NoStmt, ThenStmt, Form, Assign, Invoke, Block, If, While, Repeat, For, Border, Write, Return, Arm, Tested, Arms, NoArm, ThenArm, Otherwise, NoElse, Else}
+use Rattle.meaning_ranks.specs.of_zpl_tree.Syntax.{Base, Item, Str, Value, Stmt, Prefixed, Stmts, NoStmt, ThenStmt, Form, Assign, Invoke, Block, If, While, Repeat, For, Border, Write, Return, Arm, Tested, Arms, NoArm, ThenArm, Otherwise, NoElse, Else}
 use Rattle.zpl_region.specs.declared.regions.Region.{Region}
-use Rattle.zpl_names.specs.Scope.{Scope}
-use Rattle.zpl_binding.specs.Outcome.{Computed, value_or}
-use Rattle.zpl_binding.specs.Regions.{no_region}
-use Rattle.zpl_meaning.specs.Context.{Currents}
-use Rattle.zpl_meaning.specs.Proper.{HasCurrent}
-use Rattle.zpl_meaning.specs.Statement.{step_expr}
-use Rattle.node_form.specs.declared.tables.Tables.{Tables}
-use Rattle.node_form.specs.Fits.{IsRank, HasSlot}
-use Rattle.zpl_lowering.specs.Where.{SlotEdge, Where, Next}
-use Rattle.zpl_lowering.specs.Lowered.{Lowered}
+use Rattle.meaning_ranks.specs.of_zpl_names.Scope.{Scope}
+use Rattle.meaning_ranks.specs.of_zpl_binding.Outcome.{Computed, value_or}
+use Rattle.meaning_ranks.specs.of_zpl_binding.Regions.{no_region}
+use Rattle.meaning_ranks.specs.of_zpl_meaning.Context.{Currents}
+use Rattle.meaning_ranks.specs.of_zpl_meaning.Proper.{HasCurrent}
+use Rattle.meaning_ranks.specs.of_zpl_meaning.Statement.{step_expr}
+use Rattle.stored_shifts.specs.of_node_form.declared.tables.Tables.{Tables}
+use Rattle.stored_shifts.specs.of_node_form.Fits.{IsRank, HasSlot}
+use Rattle.lower_numbers.specs.of_zpl_lowering.Where.{SlotEdge, Where, Next}
+use Rattle.lower_numbers.specs.of_zpl_lowering.Lowered.{Lowered}
 use Rattle.lowering_fits.specs.Inline.{FitsPiece}
 use Rattle.lowering_fits.specs.Reach.{HasFlatRemaps, HaveFlatRemaps}
 use Rattle.lowering_fits.specs.Slates.{SlotsAt, TempsAt, StoragesAt, AllTemps, AllShifts, AllCovered, FitsVector}

@@ -7,24 +7,24 @@ use Rattle.zpl_region.specs.declared.regions.Region.{Region}
 use Rattle.zpl_region.specs.Dim.{HasStep}
 use Rattle.zpl_region.specs.Region.{IsPadded}
 use Rattle.zpl_region.specs.Tests.{is_within_limit}
-use Rattle.zpl_tree.specs.Syntax.{Name, Dir, Expr, Number, Truth, Coord, Named, Shifted, Around, Remap, Call, Paren, Neg, Not, Abs, Pair, Reduce, Scan, Flood, Exprs, NoExpr, ThenExpr, Program}
+use Rattle.meaning_ranks.specs.of_zpl_tree.Syntax.{Name, Dir, Expr, Number, Truth, Coord, Named, Shifted, Around, Remap, Call, Paren, Neg, Not, Abs, Pair, Reduce, Scan, Flood, Exprs, NoExpr, ThenExpr, Program}
 use Rattle.std.specs.Str.{bytes_eq}
-use Rattle.zpl_names.specs.Declared.{globals_of}
-use Rattle.zpl_names.specs.Kinds as kind
-use Rattle.zpl_names.specs.Kinds.{Kind, Shape}
-use Rattle.zpl_names.specs.Faults.{has_flood}
-use Rattle.zpl_names.specs.Scope.{Scope, kind_in, kind_of}
-use Rattle.zpl_names.specs.Ranks.{dir_rank, region_shape, array_shape}
-use Rattle.zpl_binding.specs.Outcome.{Outcome, Gives, Fails}
-use Rattle.zpl_binding.specs.Regions.{Known, region_named}
-use Rattle.zpl_meaning.specs.Store.{Thing, Scalar, ArrayAt, Fixed, Names, Environment, thing_of}
-use Rattle.zpl_meaning.specs.Regions.{vector_in}
-use Rattle.zpl_meaning.specs.Context.{Over, Currents, Edge, Place}
+use Rattle.meaning_ranks.specs.of_zpl_names.Declared.{globals_of}
+use Rattle.meaning_ranks.specs.of_zpl_names.Kinds as kind
+use Rattle.meaning_ranks.specs.of_zpl_names.Kinds.{Kind, Shape}
+use Rattle.meaning_ranks.specs.of_zpl_names.Faults.{has_flood}
+use Rattle.meaning_ranks.specs.of_zpl_names.Scope.{Scope, kind_in, kind_of}
+use Rattle.meaning_ranks.specs.of_zpl_names.Ranks.{dir_rank, region_shape, array_shape}
+use Rattle.meaning_ranks.specs.of_zpl_binding.Outcome.{Outcome, Gives, Fails}
+use Rattle.meaning_ranks.specs.of_zpl_binding.Regions.{Known, region_named}
+use Rattle.meaning_ranks.specs.of_zpl_meaning.Store.{Thing, Scalar, ArrayAt, Fixed, Names, Environment, thing_of}
+use Rattle.meaning_ranks.specs.of_zpl_meaning.Regions.{vector_in}
+use Rattle.meaning_ranks.specs.of_zpl_meaning.Context.{Over, Currents, Edge, Place}
 use Rattle.meaning_ranks.specs.Shaped.{AreFloods}
-use Rattle.node_form.specs.declared.tables.Tables.{Tables}
-use Rattle.node_form.specs.Fits.{HasSlot}
-use Rattle.zpl_lowering.specs.Where.{Stored, Numbers, Slotted, SlotCurrents, slotted_or, Where}
-use Rattle.zpl_lowering.specs.Bracket.{region_slot}
+use Rattle.stored_shifts.specs.of_node_form.declared.tables.Tables.{Tables}
+use Rattle.stored_shifts.specs.of_node_form.Fits.{HasSlot}
+use Rattle.lower_numbers.specs.of_zpl_lowering.Where.{Stored, Numbers, Slotted, SlotCurrents, slotted_or, Where}
+use Rattle.lower_numbers.specs.of_zpl_lowering.Bracket.{region_slot}
 use Rattle.lowering_fits.specs.Slates.{AllRanges, FitsOver, FitNumbers, FitsBox, FitsVector}
 use Rattle.lowering_fits.specs.Storages.{AllKept, IsHomeIn}
 

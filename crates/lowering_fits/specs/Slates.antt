@@ -5,19 +5,19 @@ use Rattle.zpl_region.specs.declared.dims.Dim.{Dim}
 use Rattle.zpl_region.specs.declared.dims.Dim.TheVariants as dim
 use Rattle.zpl_region.specs.declared.regions.Region.{Region}
 use Rattle.zpl_region.specs.Dim.{IsUpTo}
-use Rattle.zpl_meaning.specs.Context.{Mask}
-use Rattle.node_form.specs.declared.arrays.ArrayDim.{ArrayDim}
-use Rattle.node_form.specs.declared.arrays.ArrayDim.TheVariants as array
-use Rattle.node_form.specs.declared.arrays.ArrayRow.{ArrayRow}
-use Rattle.node_form.specs.declared.tables.Tables.{Tables}
-use Rattle.node_form.specs.Expression as expr
-use Rattle.node_form.specs.Expression.{Expression}
-use Rattle.node_form.specs.Fits.{IsRank, IsVector, HasSlot, HasArray, IsStored, IsTemporary, IsRange, IsUnused, FitsRegion}
-use Rattle.flat_form.specs.Static.{array_has_fringe}
-use Rattle.zpl_lowering.specs.Where.{Stored, Numbers, Slotted}
-use Rattle.zpl_lowering.specs.Slate as slate
-use Rattle.zpl_lowering.specs.Slate.{Slate, Slates, NoSlate, ThenSlate, border_slots}
-use Rattle.zpl_lowering.specs.Hoist.{Shifted, Hoisted, Free, along_of}
+use Rattle.meaning_ranks.specs.of_zpl_meaning.Context.{Mask}
+use Rattle.stored_shifts.specs.of_node_form.declared.arrays.ArrayDim.{ArrayDim}
+use Rattle.stored_shifts.specs.of_node_form.declared.arrays.ArrayDim.TheVariants as array
+use Rattle.stored_shifts.specs.of_node_form.declared.arrays.ArrayRow.{ArrayRow}
+use Rattle.stored_shifts.specs.of_node_form.declared.tables.Tables.{Tables}
+use Rattle.stored_shifts.specs.of_node_form.Expression as expr
+use Rattle.stored_shifts.specs.of_node_form.Expression.{Expression}
+use Rattle.stored_shifts.specs.of_node_form.Fits.{IsRank, IsVector, HasSlot, HasArray, IsStored, IsTemporary, IsRange, IsUnused, FitsRegion}
+use Rattle.lower_numbers.specs.of_flat_form.Static.{array_has_fringe}
+use Rattle.lower_numbers.specs.of_zpl_lowering.Where.{Stored, Numbers, Slotted}
+use Rattle.lower_numbers.specs.of_zpl_lowering.Slate as slate
+use Rattle.lower_numbers.specs.of_zpl_lowering.Slate.{Slate, Slates, NoSlate, ThenSlate, border_slots}
+use Rattle.lower_numbers.specs.of_zpl_lowering.Hoist.{Shifted, Hoisted, Free, along_of}
 use Rattle.lowering_fits.specs.Inline.{FitsPiece}
 
 -- ---- what is laid out in the tables

@@ -1,16 +1,16 @@
 -- Where a statement is lowered, and what calls come of it.
 use Rattle.std.specs.Prelude.{◌≡◌, ℕ, ◌+◌, ◌<◌, ◌≤◌, Bool, true, List, length, Option}
-use Rattle.zpl_tree.specs.Syntax.{Name, Exprs, Prefix, Prefixed, Form, Assign}
-use Rattle.zpl_names.specs.Scope.{kind_of}
-use Rattle.zpl_meaning.specs.Context.{Currents, Edge, Setup, Place}
-use Rattle.zpl_meaning.specs.Calls.{formals_in}
-use Rattle.zpl_meaning.specs.Proper.{IsProperCall}
-use Rattle.zpl_meaning.specs.Visited.{IsUnder, IsCall, IsVisited}
+use Rattle.meaning_ranks.specs.of_zpl_tree.Syntax.{Name, Exprs, Prefix, Prefixed, Form, Assign}
+use Rattle.meaning_ranks.specs.of_zpl_names.Scope.{kind_of}
+use Rattle.meaning_ranks.specs.of_zpl_meaning.Context.{Currents, Edge, Setup, Place}
+use Rattle.meaning_ranks.specs.of_zpl_meaning.Calls.{formals_in}
+use Rattle.meaning_ranks.specs.of_zpl_meaning.Proper.{IsProperCall}
+use Rattle.meaning_ranks.specs.of_zpl_meaning.Visited.{IsUnder, IsCall, IsVisited}
 use Rattle.meaning_ranks.specs.Ranked.{IsRankedCall}
-use Rattle.node_form.specs.declared.tables.Tables.{Tables}
-use Rattle.zpl_lowering.specs.Where.{Where, Next}
-use Rattle.zpl_lowering.specs.Lowered.{Lowered}
-use Rattle.zpl_lowering.specs.Statement.{Calling, value_exprs, given_to}
+use Rattle.stored_shifts.specs.of_node_form.declared.tables.Tables.{Tables}
+use Rattle.lower_numbers.specs.of_zpl_lowering.Where.{Where, Next}
+use Rattle.lower_numbers.specs.of_zpl_lowering.Lowered.{Lowered}
+use Rattle.lower_numbers.specs.of_zpl_lowering.Statement.{Calling, value_exprs, given_to}
 use Rattle.lowering_fits.specs.Reach.{place_at, IsReach}
 use Rattle.lowering_fits.specs.Lowerings.{IsLaidOut, FitsLowered, FitsEdge}
 

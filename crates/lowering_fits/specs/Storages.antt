@@ -4,11 +4,11 @@ use Rattle.zpl_region.specs.declared.dims.Dim.{Dim}
 use Rattle.zpl_region.specs.declared.regions.Region.{Region}
 use Rattle.zpl_region.specs.Hull.{IsBoxed}
 use Rattle.zpl_region.specs.Region.{IsPadded, IsWithinLimit}
-use Rattle.zpl_arrays.specs.Reference.{lies_in}
-use Rattle.zpl_names.specs.Kinds.{Shape}
+use Rattle.stored_shifts.specs.of_zpl_arrays.Reference.{lies_in}
+use Rattle.meaning_ranks.specs.of_zpl_names.Kinds.{Shape}
 use Rattle.meaning_ranks.specs.Shaped.{AreFloods}
-use Rattle.node_form.specs.Fits.{IsRank}
-use Rattle.zpl_lowering.specs.Where.{Stored}
+use Rattle.stored_shifts.specs.of_node_form.Fits.{IsRank}
+use Rattle.lower_numbers.specs.of_zpl_lowering.Where.{Stored}
 
 abbrev pub AllBoxed : List Dim → Type 0
 AllBoxed [] = Unit {0}

@@ -1,15 +1,15 @@
 -- When all code of a program is numbered as it is laid out, and its storages may stand in tables.
 use Rattle.std.specs.Prelude.{◌≡◌, ℕ, ◌+◌, ◌<◌, List, [], ◌∷◌, ◌++◌, length}
-use Rattle.zpl_tree.specs.Syntax.{Name, Bracket, NoBracket, Bracketed, VarDef}
-use Rattle.zpl_names.specs.Expansion.{FormalName, formal_names}
-use Rattle.zpl_names.specs.Declared.{Routine}
-use Rattle.zpl_meaning.specs.Context.{Setup}
-use Rattle.zpl_meaning.specs.Variables.{home_box, storage_box}
-use Rattle.node_form.specs.declared.tables.Tables.{Tables}
-use Rattle.zpl_lowering.specs.Where.{Next}
-use Rattle.zpl_lowering.specs.Lowered.{Lowered, rows_alone, behind}
-use Rattle.zpl_lowering.specs.Statement.{Calling, Given, Valued, Copied, Referring}
-use Rattle.zpl_lowering.specs.Program.{Framed, with_scalar, with_array, Entry, zero_row, clear_row, made_copy}
+use Rattle.meaning_ranks.specs.of_zpl_tree.Syntax.{Name, Bracket, NoBracket, Bracketed, VarDef}
+use Rattle.meaning_ranks.specs.of_zpl_names.Expansion.{FormalName, formal_names}
+use Rattle.meaning_ranks.specs.of_zpl_names.Declared.{Routine}
+use Rattle.meaning_ranks.specs.of_zpl_meaning.Context.{Setup}
+use Rattle.meaning_ranks.specs.of_zpl_meaning.Variables.{home_box, storage_box}
+use Rattle.stored_shifts.specs.of_node_form.declared.tables.Tables.{Tables}
+use Rattle.lower_numbers.specs.of_zpl_lowering.Where.{Next}
+use Rattle.lower_numbers.specs.of_zpl_lowering.Lowered.{Lowered, rows_alone, behind}
+use Rattle.lower_numbers.specs.of_zpl_lowering.Statement.{Calling, Given, Valued, Copied, Referring}
+use Rattle.lower_numbers.specs.of_zpl_lowering.Program.{Framed, with_scalar, with_array, Entry, zero_row, clear_row, made_copy}
 use Rattle.lowering_fits.specs.Slates.{HasStorage}
 use Rattle.lowering_fits.specs.Storages.{IsStorage}
 

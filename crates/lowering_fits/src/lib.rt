@@ -12,3 +12,6 @@ pub use laws::{
     lowered_programs_fit, numbered_code_makes_a_flat_program, operators_fit,
     rows_that_fit_make_flat_programs, statements_fit, storages_are_boxes,
 };
+pub use lower_numbers::text_sharing;
+pub use meaning_ranks;
+pub use meaning_ranks::zpl_meaning;

@@ -13,6 +13,8 @@ ghost use Rattle.zpl_lowering.specs.Tables.{flat_tables};
 ghost use Rattle.flat_form.specs.Static.{HasOneUnitALoop};
 ghost use Rattle.pass_promises.specs.Promises.{HasLoopsUpTo};
 
+pub use pass_promises;
+
 /// In the tables of a program no group has more `while` and `repeat` than are within one shattered
 /// statement of its text, whatever the program and the settings.
 pub fn groups_turn_as_statements_do()

@@ -2,12 +2,12 @@
 use Rattle.std.proofs.Common.{◌≡◌, ℕ, zero, suc, ◌+◌, ◌*◌, ◌≤◌, List, []}
 use Rattle.std.proofs.Common.{sym, ap, ◌∙◌, subst, arith, append-nil}
 use Rattle.zpl_nums.specs.declared.ends.End.TheVariants.{Done}
-use Rattle.zpl_meaning.specs.Store.{Store}
-use Rattle.zpl_meaning.specs.Outcome as out
-use Rattle.zpl_meaning.specs.Outcome.{Outcome}
+use Rattle.lowering_fits.specs.of_zpl_meaning.Store.{Store}
+use Rattle.lowering_fits.specs.of_zpl_meaning.Outcome as out
+use Rattle.lowering_fits.specs.of_zpl_meaning.Outcome.{Outcome}
 use Rattle.row_runs.specs.Structured as code
 use Rattle.row_runs.specs.Structured.{Course, GoesOn, Over, Wants, and_then}
-use Rattle.flat_form.specs.Whole.{Whole}
+use Rattle.lowering_fits.specs.of_flat_form.Whole.{Whole}
 use Rattle.lowering_runs.specs.Agrees.{Agrees, Going, Trapping, Shattering, Wanting}
 
 pub sum_of : (i j : ℕ) → and_then i j ≡ i + j

@@ -6,22 +6,22 @@ use Rattle.zpl_nums.specs.declared.operators.UnaryOp.TheVariants as unary
 use Rattle.zpl_nums.specs.Integer.{truth}
 use Rattle.zpl_tree.specs.Syntax.{Expr, Number, Truth, Coord, Named, Shifted, Around, Remap, Call, Paren, Neg, Not, Abs, Pair, Reduce, Scan, Flood}
 use Rattle.zpl_names.specs.Kinds.{Rank}
-use Rattle.zpl_meaning.specs.Store.{Thing, Scalar, ArrayAt, Fixed, thing_of}
-use Rattle.zpl_meaning.specs.Scalars.{IsScalarName, IsScalar}
+use Rattle.lowering_fits.specs.of_zpl_meaning.Store.{Thing, Scalar, ArrayAt, Fixed, thing_of}
+use Rattle.lowering_fits.specs.of_zpl_meaning.Scalars.{IsScalarName, IsScalar}
 use Rattle.node_form.specs.declared.tables.Tables.{Tables}
 use Rattle.node_form.specs.Expression.{Expression}
 use Rattle.node_form.specs.Expression as word
 use Rattle.row_runs.specs.Structured as code
-use Rattle.flat_form.specs.Whole.{Whole}
-use Rattle.zpl_lowering.specs.Where.{Where, Next, Slotted, slotted_at}
-use Rattle.zpl_lowering.specs.Words.{thing_code, scalar_code}
-use Rattle.zpl_lowering.specs.Slate as slate
-use Rattle.zpl_lowering.specs.Slate.{Slate, Slates, NoSlate, ThenSlate, Settled, Placed, named_slate, settled, settled_each}
-use Rattle.zpl_lowering.specs.Reference.{needs, conforming, all_conforming, referred, all_referred}
-use Rattle.zpl_lowering.specs.Hoist as hoist
-use Rattle.zpl_lowering.specs.Hoist.{Hoisted, Free, hoisted, all_hoisted, unary_code}
-use Rattle.zpl_lowering.specs.Lowered as low
-use Rattle.zpl_lowering.specs.Lowered.{Lowered, Phased, phased}
+use Rattle.lowering_fits.specs.of_flat_form.Whole.{Whole}
+use Rattle.lowering_fits.specs.of_zpl_lowering.Where.{Where, Next, Slotted, slotted_at}
+use Rattle.lowering_fits.specs.of_zpl_lowering.Words.{thing_code, scalar_code}
+use Rattle.lowering_fits.specs.of_zpl_lowering.Slate as slate
+use Rattle.lowering_fits.specs.of_zpl_lowering.Slate.{Slate, Slates, NoSlate, ThenSlate, Settled, Placed, named_slate, settled, settled_each}
+use Rattle.lowering_fits.specs.of_zpl_lowering.Reference.{needs, conforming, all_conforming, referred, all_referred}
+use Rattle.lowering_fits.specs.of_zpl_lowering.Hoist as hoist
+use Rattle.lowering_fits.specs.of_zpl_lowering.Hoist.{Hoisted, Free, hoisted, all_hoisted, unary_code}
+use Rattle.lowering_fits.specs.of_zpl_lowering.Lowered as low
+use Rattle.lowering_fits.specs.of_zpl_lowering.Lowered.{Lowered, Phased, phased}
 use Rattle.lowering_runs.specs.Run.{does}
 
 -- code that does nothing, with nothing of its own

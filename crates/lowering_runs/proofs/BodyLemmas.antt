@@ -6,15 +6,15 @@ use Rattle.zpl_nums.proofs.IntegerLemmas.{IsInteger-truth}
 use Rattle.std.specs.Prelude.{slice_index_or}
 use Rattle.zpl_region.specs.declared.regions.Region.{Region}
 use Rattle.zpl_arrays.specs.Array.{Array}
-use Rattle.zpl_binding.specs.Regions.{no_region}
-use Rattle.zpl_meaning.specs.Store.{no_array}
+use Rattle.lowering_fits.specs.of_zpl_binding.Regions.{no_region}
+use Rattle.lowering_fits.specs.of_zpl_meaning.Store.{no_array}
 use Rattle.zpl_tree.specs.Syntax.{Name, Bracket, NoBracket, Bracketed, VarDef}
 use Rattle.zpl_names.specs.Expansion.{FormalName}
-use Rattle.zpl_meaning.specs.Store.{Thing, Names, Store}
-use Rattle.zpl_meaning.specs.Context.{Setup}
-use Rattle.zpl_meaning.specs.Outcome.{Outcome}
-use Rattle.zpl_meaning.specs.Variables.{Frame, with_scalar_named, with_name, with_names, with_variables}
-use Rattle.zpl_meaning.specs.Calls.{with_handed, with_formals}
+use Rattle.lowering_fits.specs.of_zpl_meaning.Store.{Thing, Names, Store}
+use Rattle.lowering_fits.specs.of_zpl_meaning.Context.{Setup}
+use Rattle.lowering_fits.specs.of_zpl_meaning.Outcome.{Outcome}
+use Rattle.lowering_fits.specs.of_zpl_meaning.Variables.{Frame, with_scalar_named, with_name, with_names, with_variables}
+use Rattle.lowering_fits.specs.of_zpl_meaning.Calls.{with_handed, with_formals}
 use Rattle.node_form.specs.Expression.{Constant, words_of}
 use Rattle.node_form.specs.Value.{scalar_operands}
 use Rattle.node_form.proofs.ValueLemmas.{value_of-words_of}
@@ -22,12 +22,12 @@ use Rattle.node_form.specs.declared.tables.Tables.{Tables}
 use Rattle.row_runs.specs.Run.{Step}
 use Rattle.row_runs.specs.Structured as code
 use Rattle.row_runs.specs.Structured.{Course, by_step}
-use Rattle.flat_form.specs.Whole.{Whole}
-use Rattle.zpl_lowering.specs.Where.{Stored, Next}
-use Rattle.zpl_lowering.specs.Lowered.{Lowered, behind, rows_alone}
-use Rattle.zpl_lowering.specs.Statement.{Given, Valued, Copied, Referring}
-use Rattle.zpl_lowering.specs.Program as low
-use Rattle.zpl_lowering.specs.Program.{Framed, Entry}
+use Rattle.lowering_fits.specs.of_flat_form.Whole.{Whole}
+use Rattle.lowering_fits.specs.of_zpl_lowering.Where.{Stored, Next}
+use Rattle.lowering_fits.specs.of_zpl_lowering.Lowered.{Lowered, behind, rows_alone}
+use Rattle.lowering_fits.specs.of_zpl_lowering.Statement.{Given, Valued, Copied, Referring}
+use Rattle.lowering_fits.specs.of_zpl_lowering.Program as low
+use Rattle.lowering_fits.specs.of_zpl_lowering.Program.{Framed, Entry}
 use Rattle.lowering_runs.specs.Seen.{scalar_in, Spot, At, Answer, seen_spot, seen_store, numbered, seen_thing, seen_names}
 use Rattle.lowering_runs.specs.Run.{does}
 use Rattle.lowering_runs.specs.Agrees.{Agrees}

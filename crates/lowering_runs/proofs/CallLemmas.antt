@@ -7,24 +7,24 @@ use Rattle.zpl_tree.specs.Syntax.{Name, Expr, Number, Truth, Coord, Named, Shift
 use Rattle.zpl_names.specs.Kinds.{Formal, ScalarFormal, ArrayFormal}
 use Rattle.zpl_names.specs.Scope.{kind_of}
 use Rattle.zpl_names.specs.Sites.{Actual}
-use Rattle.zpl_meaning.specs.Store.{Store, Thing, Environment, thing_of}
-use Rattle.zpl_meaning.specs.Context.{Place, Setup}
-use Rattle.zpl_meaning.specs.Phases as mean_phases
-use Rattle.zpl_meaning.specs.Phases.{scalars_in}
-use Rattle.zpl_meaning.specs.Outcome as out
-use Rattle.zpl_meaning.specs.Outcome.{Outcome}
-use Rattle.zpl_meaning.specs.Calls as mean_calls
-use Rattle.zpl_meaning.specs.Calls.{Handed, Called, formals_in, actual_thing, handed_on}
-use Rattle.zpl_meaning.specs.Settled as mean_settled
-use Rattle.zpl_meaning.specs.Visited.{IsVisitedCall}
-use Rattle.zpl_meaning.specs.Statement as mean_statement
+use Rattle.lowering_fits.specs.of_zpl_meaning.Store.{Store, Thing, Environment, thing_of}
+use Rattle.lowering_fits.specs.of_zpl_meaning.Context.{Place, Setup}
+use Rattle.lowering_fits.specs.of_zpl_meaning.Phases as mean_phases
+use Rattle.lowering_fits.specs.of_zpl_meaning.Phases.{scalars_in}
+use Rattle.lowering_fits.specs.of_zpl_meaning.Outcome as out
+use Rattle.lowering_fits.specs.of_zpl_meaning.Outcome.{Outcome}
+use Rattle.lowering_fits.specs.of_zpl_meaning.Calls as mean_calls
+use Rattle.lowering_fits.specs.of_zpl_meaning.Calls.{Handed, Called, formals_in, actual_thing, handed_on}
+use Rattle.lowering_fits.specs.of_zpl_meaning.Settled as mean_settled
+use Rattle.lowering_fits.specs.of_zpl_meaning.Visited.{IsVisitedCall}
+use Rattle.lowering_fits.specs.of_zpl_meaning.Statement as mean_statement
 use Rattle.row_runs.specs.Structured as code
 use Rattle.row_runs.specs.Structured.{Course}
-use Rattle.flat_form.specs.Whole.{Whole}
-use Rattle.zpl_lowering.specs.Where.{Where, Next, line_of}
-use Rattle.zpl_lowering.specs.Lowered.{behind, joined, phased}
-use Rattle.zpl_lowering.specs.Statement as low
-use Rattle.zpl_lowering.specs.Statement.{Given, Lowering}
+use Rattle.lowering_fits.specs.of_flat_form.Whole.{Whole}
+use Rattle.lowering_fits.specs.of_zpl_lowering.Where.{Where, Next, line_of}
+use Rattle.lowering_fits.specs.of_zpl_lowering.Lowered.{behind, joined, phased}
+use Rattle.lowering_fits.specs.of_zpl_lowering.Statement as low
+use Rattle.lowering_fits.specs.of_zpl_lowering.Statement.{Given, Lowering}
 use Rattle.lowering_runs.specs.Seen.{scalar_in, Spot, Sight, numbered, seen_place, seen_thing, seen_names}
 use Rattle.lowering_runs.specs.Run.{does}
 use Rattle.lowering_runs.specs.Agrees.{Agrees}

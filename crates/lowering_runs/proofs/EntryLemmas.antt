@@ -10,11 +10,11 @@ use Rattle.zpl_region.specs.declared.regions.Region.{Region}
 use Rattle.zpl_region.specs.Region.{members}
 use Rattle.zpl_arrays.specs.Array.{array_of}
 use Rattle.zpl_tree.specs.Syntax.{Name, Bracket, NoBracket, Bracketed, Define, VarDef, Decl, Vars, Config, Constant, Regions, Directions, Defined}
-use Rattle.zpl_binding.specs.Outcome.{Computed, value_or, outcome_of}
-use Rattle.zpl_binding.specs.Regions.{Known, no_region}
-use Rattle.zpl_binding.specs.Storages.{Border}
-use Rattle.zpl_meaning.specs.Store.{Thing, Scalar, ArrayAt, Fixed, Names, no_array}
-use Rattle.zpl_meaning.specs.Variables.{Frame, empty_frame, with_name, with_names, with_variables, with_values, with_declarations}
+use Rattle.lowering_fits.specs.of_zpl_binding.Outcome.{Computed, value_or, outcome_of}
+use Rattle.lowering_fits.specs.of_zpl_binding.Regions.{Known, no_region}
+use Rattle.lowering_fits.specs.of_zpl_binding.Storages.{Border}
+use Rattle.lowering_fits.specs.of_zpl_meaning.Store.{Thing, Scalar, ArrayAt, Fixed, Names, no_array}
+use Rattle.lowering_fits.specs.of_zpl_meaning.Variables.{Frame, empty_frame, with_name, with_names, with_variables, with_values, with_declarations}
 use Rattle.node_form.specs.declared.arrays.ArrayRow.{ArrayRow}
 use Rattle.node_form.specs.declared.tables.Tables.{Tables}
 use Rattle.node_form.specs.declared.instructions.Instr.TheVariants as instr
@@ -22,10 +22,10 @@ use Rattle.row_runs.specs.Run.{Step, Goes}
 use Rattle.row_runs.specs.Straight.{Every}
 use Rattle.row_runs.specs.Structured as code
 use Rattle.row_runs.specs.Structured.{Course, rows_do, by_step}
-use Rattle.flat_form.specs.Row as row
-use Rattle.flat_form.specs.Whole.{Whole, start_places, start_whole}
-use Rattle.flat_form.proofs.WholeLemmas.{begin_whole}
-use Rattle.zpl_lowering.specs.Program as low
+use Rattle.lowering_fits.specs.of_flat_form.Row as row
+use Rattle.lowering_fits.specs.of_flat_form.Whole.{Whole, start_places, start_whole}
+use Rattle.lowering_fits.proofs.of_flat_form.WholeLemmas.{begin_whole}
+use Rattle.lowering_fits.specs.of_zpl_lowering.Program as low
 use Rattle.lowering_runs.specs.Seen.{scalar_in, Spot, At, seen_spot, seen_names, seen_thing, numbered, place_of}
 use Rattle.lowering_runs.specs.Run.{straight, step, decide}
 use Rattle.lowering_runs.specs.Stands.{Rises, AreKnown, AreDeclared, IsSound}

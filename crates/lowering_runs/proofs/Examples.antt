@@ -6,8 +6,8 @@ use Rattle.zpl_nums.specs.Integer.{IsInteger}
 use Rattle.zpl_nums.proofs.IntegerLemmas.{IsInteger-truth}
 use Rattle.zpl_tree.specs.Syntax.{Name, Number, Named, Pair, Value, Prefixed, NoStmt, ThenStmt, Assign, Block, While, Write, NoBracket, Integer, Vars, Defined, Program}
 use Rattle.zpl_names.specs.Reached.{longest_chain}
-use Rattle.zpl_meaning.specs.Store.{Scalar, Fixed, Names}
-use Rattle.flat_form.specs.Whole.{Whole}
+use Rattle.lowering_fits.specs.of_zpl_meaning.Store.{Scalar, Fixed, Names}
+use Rattle.lowering_fits.specs.of_flat_form.Whole.{Whole}
 use Rattle.lowering_runs.specs.Seen.{Spot, At, Answer, numbered, seen_names, seen_store}
 use Rattle.lowering_runs.specs.ScalarText.{IsScalarProgram}
 

@@ -5,22 +5,22 @@ use Rattle.std.specs.Prelude.{slice_get, slice_index_or}
 use Rattle.std.proofs.Common.{Option, Some, None, refl, sym, ap, ◌∙◌, subst, arith, length-append}
 use Rattle.std.specs.Option.{option_map}
 use Rattle.zpl_region.specs.declared.regions.Region.{Region}
-use Rattle.zpl_binding.specs.Outcome.{Computed, value_or}
-use Rattle.zpl_binding.specs.Regions.{Known, no_region}
-use Rattle.zpl_meaning.specs.Store.{Store}
-use Rattle.zpl_meaning.specs.Context.{Over, Currents, Edge, Place}
-use Rattle.zpl_meaning.specs.Outcome.{Outcome}
-use Rattle.zpl_meaning.specs.Statement.{Context}
+use Rattle.lowering_fits.specs.of_zpl_binding.Outcome.{Computed, value_or}
+use Rattle.lowering_fits.specs.of_zpl_binding.Regions.{Known, no_region}
+use Rattle.lowering_fits.specs.of_zpl_meaning.Store.{Store}
+use Rattle.lowering_fits.specs.of_zpl_meaning.Context.{Over, Currents, Edge, Place}
+use Rattle.lowering_fits.specs.of_zpl_meaning.Outcome.{Outcome}
+use Rattle.lowering_fits.specs.of_zpl_meaning.Statement.{Context}
 use Rattle.node_form.specs.declared.arrays.ArrayRow.{ArrayRow}
 use Rattle.node_form.specs.declared.tables.Tables.{Tables}
-use Rattle.flat_form.specs.Whole.{Whole}
-use Rattle.zpl_lowering.specs.Where.{Stored, Slotted, SlotCurrents, SlotEdge, Where, Next}
+use Rattle.lowering_fits.specs.of_flat_form.Whole.{Whole}
+use Rattle.lowering_fits.specs.of_zpl_lowering.Where.{Stored, Slotted, SlotCurrents, SlotEdge, Where, Next}
 use Rattle.row_runs.specs.Structured.{Piece}
-use Rattle.flat_form.specs.Row.{Row}
-use Rattle.zpl_lowering.specs.Check.{Check}
-use Rattle.zpl_lowering.specs.Lowered.{Lowered, behind, joined}
-use Rattle.zpl_lowering.specs.Program.{in_call, out_of_call}
-use Rattle.zpl_lowering.specs.Statement.{Lowering}
+use Rattle.lowering_fits.specs.of_flat_form.Row.{Row}
+use Rattle.lowering_fits.specs.of_zpl_lowering.Check.{Check}
+use Rattle.lowering_fits.specs.of_zpl_lowering.Lowered.{Lowered, behind, joined}
+use Rattle.lowering_fits.specs.of_zpl_lowering.Program.{in_call, out_of_call}
+use Rattle.lowering_fits.specs.of_zpl_lowering.Statement.{Lowering}
 use Rattle.lowering_runs.specs.Seen.{slot_in, Spot, Sight, numbered, seen_over, seen_currents, seen_edge, seen_place, seen_store}
 use Rattle.lowering_runs.specs.Run.{does}
 use Rattle.lowering_runs.specs.Agrees.{Agrees}

@@ -8,13 +8,13 @@ use Rattle.zpl_nums.specs.declared.operators.Op.TheVariants as op
 use Rattle.zpl_nums.specs.Integer.{IsInteger, wrapped, is_true, truth}
 use Rattle.zpl_nums.specs.Op.{applied}
 use Rattle.zpl_nums.proofs.IntegerLemmas.{is_true-truth, IsInteger-truth, IsInteger-wrapped}
-use Rattle.zpl_meaning.specs.Computed as mean
-use Rattle.zpl_meaning.specs.Store.{Store}
-use Rattle.zpl_meaning.specs.Store as mean_store
-use Rattle.zpl_meaning.specs.Context.{Place}
-use Rattle.zpl_meaning.specs.Outcome as out
-use Rattle.zpl_meaning.specs.Outcome.{Outcome, Count, is_past, next_value}
-use Rattle.zpl_meaning.specs.Statement.{Context}
+use Rattle.lowering_fits.specs.of_zpl_meaning.Computed as mean
+use Rattle.lowering_fits.specs.of_zpl_meaning.Store.{Store}
+use Rattle.lowering_fits.specs.of_zpl_meaning.Store as mean_store
+use Rattle.lowering_fits.specs.of_zpl_meaning.Context.{Place}
+use Rattle.lowering_fits.specs.of_zpl_meaning.Outcome as out
+use Rattle.lowering_fits.specs.of_zpl_meaning.Outcome.{Outcome, Count, is_past, next_value}
+use Rattle.lowering_fits.specs.of_zpl_meaning.Statement.{Context}
 use Rattle.node_form.specs.Expression.{Expression, Variable, Operation, words_of}
 use Rattle.node_form.specs.Value as flat
 use Rattle.node_form.specs.Value.{scalar_operands, value_of, tree_value}
@@ -23,11 +23,11 @@ use Rattle.row_runs.specs.Run.{Step}
 use Rattle.row_runs.specs.Code.{Says}
 use Rattle.row_runs.specs.Structured as code
 use Rattle.row_runs.specs.Structured.{Course, rows_do, by_step}
-use Rattle.flat_form.specs.Whole.{Whole}
-use Rattle.zpl_lowering.specs.Where.{Where, Next}
-use Rattle.zpl_lowering.specs.Lowered.{Lowered, check_of}
-use Rattle.zpl_lowering.specs.Statement as low
-use Rattle.zpl_lowering.specs.Statement.{Lowering, Counter, counter_from}
+use Rattle.lowering_fits.specs.of_flat_form.Whole.{Whole}
+use Rattle.lowering_fits.specs.of_zpl_lowering.Where.{Where, Next}
+use Rattle.lowering_fits.specs.of_zpl_lowering.Lowered.{Lowered, check_of}
+use Rattle.lowering_fits.specs.of_zpl_lowering.Statement as low
+use Rattle.lowering_fits.specs.of_zpl_lowering.Statement.{Lowering, Counter, counter_from}
 use Rattle.lowering_runs.specs.Seen.{scalar_in, Sight, numbered, place_of, seen_place}
 use Rattle.lowering_runs.specs.Run.{step, decide, does}
 use Rattle.lowering_runs.specs.Agrees.{Agrees}

@@ -5,12 +5,12 @@ use Rattle.std.proofs.Common.{arith, append_assoc, append-nil, length-append}
 use Rattle.std.proofs.lemmas.List.{length-map}
 use Rattle.zpl_arrays.specs.Array.{Array}
 use Rattle.zpl_tree.specs.Syntax.{Name}
-use Rattle.zpl_meaning.specs.Store.{Thing, Scalar, ArrayAt, Fixed, Names, cut_back}
-use Rattle.zpl_meaning.specs.Variables.{with_scalar_named, with_new_scalar}
-use Rattle.flat_form.specs.Whole.{Whole}
-use Rattle.zpl_lowering.specs.Where.{Stored}
-use Rattle.zpl_lowering.specs.Program as low
-use Rattle.zpl_lowering.specs.Program.{Framed, Entry}
+use Rattle.lowering_fits.specs.of_zpl_meaning.Store.{Thing, Scalar, ArrayAt, Fixed, Names, cut_back}
+use Rattle.lowering_fits.specs.of_zpl_meaning.Variables.{with_scalar_named, with_new_scalar}
+use Rattle.lowering_fits.specs.of_flat_form.Whole.{Whole}
+use Rattle.lowering_fits.specs.of_zpl_lowering.Where.{Stored}
+use Rattle.lowering_fits.specs.of_zpl_lowering.Program as low
+use Rattle.lowering_fits.specs.of_zpl_lowering.Program.{Framed, Entry}
 use Rattle.lowering_runs.specs.Seen.{scalar_in, array_in, Spot, At, Answer, seen_spot, seen_store, numbered, place_of, seen_thing, seen_names}
 use Rattle.lowering_runs.specs.Stands.{Rises, Misses, IsKnown, AreKnown}
 use Rattle.lowering_runs.specs.Frames.{seen_frame, AreAbove, Framing}

@@ -6,29 +6,29 @@ use Rattle.std.specs.Prelude.{slice_get, slice_index_or, int_lt}
 use Rattle.std.specs.Option.{option_map}
 use Rattle.zpl_tree.specs.Syntax.{Expr, ForHead, Stmts, For}
 use Rattle.zpl_names.specs.Counts.{expr_nodes}
-use Rattle.zpl_meaning.specs.Computed as mean
-use Rattle.zpl_meaning.specs.Store.{Store, Thing, Scalar, ArrayAt, Fixed, Environment, thing_of}
-use Rattle.zpl_meaning.specs.Store as mean_store
-use Rattle.zpl_meaning.specs.Context.{Place}
-use Rattle.zpl_meaning.specs.Scalars.{AreScalars, values_of}
-use Rattle.zpl_meaning.specs.Phases.{scalars_in}
-use Rattle.zpl_meaning.specs.Proper.{IsVariable}
-use Rattle.zpl_meaning.specs.Outcome as out
-use Rattle.zpl_meaning.specs.Outcome.{Outcome, Count, is_past}
-use Rattle.zpl_meaning.specs.Statement as mean_statement
-use Rattle.zpl_meaning.specs.Statement.{Context, step_expr, start_of, Start}
-use Rattle.zpl_meaning.proofs.ScalarLemmas.{scalars_are_values}
+use Rattle.lowering_fits.specs.of_zpl_meaning.Computed as mean
+use Rattle.lowering_fits.specs.of_zpl_meaning.Store.{Store, Thing, Scalar, ArrayAt, Fixed, Environment, thing_of}
+use Rattle.lowering_fits.specs.of_zpl_meaning.Store as mean_store
+use Rattle.lowering_fits.specs.of_zpl_meaning.Context.{Place}
+use Rattle.lowering_fits.specs.of_zpl_meaning.Scalars.{AreScalars, values_of}
+use Rattle.lowering_fits.specs.of_zpl_meaning.Phases.{scalars_in}
+use Rattle.lowering_fits.specs.of_zpl_meaning.Proper.{IsVariable}
+use Rattle.lowering_fits.specs.of_zpl_meaning.Outcome as out
+use Rattle.lowering_fits.specs.of_zpl_meaning.Outcome.{Outcome, Count, is_past}
+use Rattle.lowering_fits.specs.of_zpl_meaning.Statement as mean_statement
+use Rattle.lowering_fits.specs.of_zpl_meaning.Statement.{Context, step_expr, start_of, Start}
+use Rattle.lowering_fits.proofs.of_zpl_meaning.ScalarLemmas.{scalars_are_values}
 use Rattle.node_form.specs.Expression.{Expression, Variable}
 use Rattle.row_runs.specs.Straight.{Every}
 use Rattle.row_runs.specs.Code.{Decision, Says}
 use Rattle.row_runs.specs.Structured as code
 use Rattle.row_runs.specs.Structured.{Course, rows_do}
-use Rattle.flat_form.specs.Whole.{Whole}
-use Rattle.zpl_lowering.specs.Where.{Where, Next, line_of}
-use Rattle.zpl_lowering.specs.Lowered.{Lowered, behind, followed, check_of, free_at, phased, rows_alone}
-use Rattle.zpl_lowering.specs.Slate as low_slate
-use Rattle.zpl_lowering.specs.Statement as low
-use Rattle.zpl_lowering.specs.Statement.{Lowering}
+use Rattle.lowering_fits.specs.of_flat_form.Whole.{Whole}
+use Rattle.lowering_fits.specs.of_zpl_lowering.Where.{Where, Next, line_of}
+use Rattle.lowering_fits.specs.of_zpl_lowering.Lowered.{Lowered, behind, followed, check_of, free_at, phased, rows_alone}
+use Rattle.lowering_fits.specs.of_zpl_lowering.Slate as low_slate
+use Rattle.lowering_fits.specs.of_zpl_lowering.Statement as low
+use Rattle.lowering_fits.specs.of_zpl_lowering.Statement.{Lowering}
 use Rattle.lowering_runs.specs.Seen.{Sight, numbered, place_of, seen_place, seen_thing}
 use Rattle.lowering_runs.specs.Run.{step, decide, does}
 use Rattle.lowering_runs.specs.Agrees.{Agrees}

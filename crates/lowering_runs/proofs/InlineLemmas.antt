@@ -10,35 +10,35 @@ use Rattle.zpl_names.specs.Sites.{Role, Assigned, Printed, Test as TestRole, Rea
 use Rattle.zpl_names.specs.Types.{type_of}
 use Rattle.zpl_names.specs.Declared.{Routine}
 use Rattle.zpl_names.specs.Expansion.{FormalName, formal_names}
-use Rattle.zpl_meaning.specs.Store.{Thing, Scalar, ArrayAt, Fixed, thing_of}
-use Rattle.zpl_meaning.specs.Context.{Setup}
-use Rattle.zpl_meaning.specs.Calls.{formals_in}
-use Rattle.zpl_meaning.specs.Points.{assigned_expr}
-use Rattle.zpl_meaning.specs.Statement.{arms_at}
-use Rattle.zpl_binding.specs.Outcome.{Computed}
+use Rattle.lowering_fits.specs.of_zpl_meaning.Store.{Thing, Scalar, ArrayAt, Fixed, thing_of}
+use Rattle.lowering_fits.specs.of_zpl_meaning.Context.{Setup}
+use Rattle.lowering_fits.specs.of_zpl_meaning.Calls.{formals_in}
+use Rattle.lowering_fits.specs.of_zpl_meaning.Points.{assigned_expr}
+use Rattle.lowering_fits.specs.of_zpl_meaning.Statement.{arms_at}
+use Rattle.lowering_fits.specs.of_zpl_binding.Outcome.{Computed}
 use Rattle.node_form.specs.Expression as low_expr
 use Rattle.node_form.specs.Expression.{Expression}
 use Rattle.row_runs.specs.Straight.{Every}
 use Rattle.row_runs.specs.Code.{CodeRow, Straight, Jump, Unless}
 use Rattle.row_runs.specs.Structured as piece
 use Rattle.row_runs.specs.Structured.{Piece, Rows, Then, When, Choose, flattened, size}
-use Rattle.flat_form.specs.Row as row
-use Rattle.flat_form.specs.Row.{Row}
-use Rattle.flat_form.specs.Laws.{IsInline}
-use Rattle.zpl_lowering.specs.Check.{Check, flat_row}
-use Rattle.zpl_lowering.specs.Where.{Where, Next, Slotted, slotted_at, reach_of, rank_in, rank_for, line_of, Stored}
-use Rattle.zpl_lowering.specs.Slate as slate
-use Rattle.zpl_lowering.specs.Slate.{Slate, Slates, Placed, named_slate, settled, settled_each}
-use Rattle.zpl_lowering.specs.Reference.{Reference, needs, need_of, each_once, conforming, all_conforming, refer_to, over_reference}
-use Rattle.zpl_lowering.specs.Reference as reference
-use Rattle.zpl_lowering.specs.Hoist as hoist
-use Rattle.zpl_lowering.specs.Hoist.{Free, hoisted, all_hoisted}
-use Rattle.zpl_lowering.specs.Lowered as low_code
-use Rattle.zpl_lowering.specs.Lowered.{Lowered, behind, phased, phased_with}
-use Rattle.zpl_lowering.specs.Statement as low
-use Rattle.zpl_lowering.specs.Statement.{Lowering, Calling, Given}
-use Rattle.zpl_lowering.specs.Program as prog
-use Rattle.zpl_lowering.specs.Program.{Framed, Entry}
+use Rattle.lowering_fits.specs.of_flat_form.Row as row
+use Rattle.lowering_fits.specs.of_flat_form.Row.{Row}
+use Rattle.lowering_fits.specs.of_flat_form.Laws.{IsInline}
+use Rattle.lowering_fits.specs.of_zpl_lowering.Check.{Check, flat_row}
+use Rattle.lowering_fits.specs.of_zpl_lowering.Where.{Where, Next, Slotted, slotted_at, reach_of, rank_in, rank_for, line_of, Stored}
+use Rattle.lowering_fits.specs.of_zpl_lowering.Slate as slate
+use Rattle.lowering_fits.specs.of_zpl_lowering.Slate.{Slate, Slates, Placed, named_slate, settled, settled_each}
+use Rattle.lowering_fits.specs.of_zpl_lowering.Reference.{Reference, needs, need_of, each_once, conforming, all_conforming, refer_to, over_reference}
+use Rattle.lowering_fits.specs.of_zpl_lowering.Reference as reference
+use Rattle.lowering_fits.specs.of_zpl_lowering.Hoist as hoist
+use Rattle.lowering_fits.specs.of_zpl_lowering.Hoist.{Free, hoisted, all_hoisted}
+use Rattle.lowering_fits.specs.of_zpl_lowering.Lowered as low_code
+use Rattle.lowering_fits.specs.of_zpl_lowering.Lowered.{Lowered, behind, phased, phased_with}
+use Rattle.lowering_fits.specs.of_zpl_lowering.Statement as low
+use Rattle.lowering_fits.specs.of_zpl_lowering.Statement.{Lowering, Calling, Given}
+use Rattle.lowering_fits.specs.of_zpl_lowering.Program as prog
+use Rattle.lowering_fits.specs.of_zpl_lowering.Program.{Framed, Entry}
 use Rattle.lowering_runs.specs.Scalars.{IsScalarExpr}
 use Rattle.lowering_runs.specs.ScalarText.{AreScalarActuals, AreScalarTexts, IsScalarStmt, AreScalarStmts, IsScalarForm, AreScalarArms, IsScalarElse, IsScalarRoutine, IsScalarCall}
 use Rattle.lowering_runs.proofs.StatementLemmas.{lowered_plain}

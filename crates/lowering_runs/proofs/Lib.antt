@@ -26,3 +26,5 @@ pub mod StartLemmas
 pub mod ProgramLemmas
 pub mod WrongLemmas
 mod Examples
+pub use Rattle.lowering_fits.proofs.of_flat_form as of_flat_form
+pub use Rattle.lowering_fits.proofs as of_lowering_fits

@@ -2,13 +2,13 @@
 use Rattle.std.proofs.Common.{◌≡◌, ℕ, suc, ◌+◌, ◌≤◌, ◌<◌, ℤ, List, [], ◌∷◌, length}
 use Rattle.std.proofs.Common.{refl, sym, ap, ◌∙◌, subst, arith}
 use Rattle.zpl_nums.specs.Integer.{IsInteger}
-use Rattle.zpl_meaning.specs.Computed as mean
-use Rattle.zpl_meaning.specs.Store.{Store}
-use Rattle.zpl_meaning.specs.Context.{Place}
-use Rattle.zpl_meaning.specs.Value as mean_value
-use Rattle.zpl_meaning.specs.Scalars.{values_of}
-use Rattle.zpl_meaning.specs.Outcome as out
-use Rattle.zpl_meaning.specs.Outcome.{Outcome}
+use Rattle.lowering_fits.specs.of_zpl_meaning.Computed as mean
+use Rattle.lowering_fits.specs.of_zpl_meaning.Store.{Store}
+use Rattle.lowering_fits.specs.of_zpl_meaning.Context.{Place}
+use Rattle.lowering_fits.specs.of_zpl_meaning.Value as mean_value
+use Rattle.lowering_fits.specs.of_zpl_meaning.Scalars.{values_of}
+use Rattle.lowering_fits.specs.of_zpl_meaning.Outcome as out
+use Rattle.lowering_fits.specs.of_zpl_meaning.Outcome.{Outcome}
 use Rattle.node_form.specs.declared.tables.Tables.{Tables}
 use Rattle.node_form.specs.Expression.{Expression, words_of}
 use Rattle.node_form.specs.Value as flat
@@ -18,13 +18,13 @@ use Rattle.row_runs.specs.Run.{Step}
 use Rattle.row_runs.specs.Straight.{Every}
 use Rattle.row_runs.specs.Structured as code
 use Rattle.row_runs.specs.Structured.{Course, rows_do, by_step}
-use Rattle.flat_form.specs.Whole.{Whole}
-use Rattle.zpl_lowering.specs.Where.{Where, Next}
-use Rattle.zpl_lowering.specs.Words.{scalar_code}
-use Rattle.zpl_lowering.specs.Slate as low
-use Rattle.zpl_lowering.specs.Hoist.{Free, all_hoisted, hoisted}
-use Rattle.zpl_lowering.specs.Hoist as hoist
-use Rattle.zpl_lowering.specs.Statement.{value_rows}
+use Rattle.lowering_fits.specs.of_flat_form.Whole.{Whole}
+use Rattle.lowering_fits.specs.of_zpl_lowering.Where.{Where, Next}
+use Rattle.lowering_fits.specs.of_zpl_lowering.Words.{scalar_code}
+use Rattle.lowering_fits.specs.of_zpl_lowering.Slate as low
+use Rattle.lowering_fits.specs.of_zpl_lowering.Hoist.{Free, all_hoisted, hoisted}
+use Rattle.lowering_fits.specs.of_zpl_lowering.Hoist as hoist
+use Rattle.lowering_fits.specs.of_zpl_lowering.Statement.{value_rows}
 use Rattle.lowering_runs.specs.Seen.{Sight, scalar_in, seen_place}
 use Rattle.lowering_runs.specs.Run.{step, decide}
 use Rattle.lowering_runs.specs.Agrees.{Agrees, Trapping}

@@ -3,15 +3,15 @@ use Rattle.std.proofs.Common.{◌≡◌, ℕ, zero, suc, ◌+◌, ◌*◌, ◌�
 use Rattle.std.proofs.Common.{refl, sym, ap, subst, arith}
 use Rattle.zpl_nums.specs.declared.ends.End.TheVariants.{Trap}
 use Rattle.zpl_nums.specs.Integer.{is_true}
-use Rattle.zpl_meaning.specs.Computed.{Computed, Gives, Traps}
-use Rattle.zpl_meaning.specs.Store.{Store}
-use Rattle.zpl_meaning.specs.Outcome as out
-use Rattle.zpl_meaning.specs.Outcome.{Outcome, Test, Count, is_past, next_value}
+use Rattle.lowering_fits.specs.of_zpl_meaning.Computed.{Computed, Gives, Traps}
+use Rattle.lowering_fits.specs.of_zpl_meaning.Store.{Store}
+use Rattle.lowering_fits.specs.of_zpl_meaning.Outcome as out
+use Rattle.lowering_fits.specs.of_zpl_meaning.Outcome.{Outcome, Test, Count, is_past, next_value}
 use Rattle.row_runs.specs.Run.{Step, Ends}
 use Rattle.row_runs.specs.Code.{Decision, Says}
 use Rattle.row_runs.specs.Structured as code
 use Rattle.row_runs.specs.Structured.{Course, GoesOn, Over, Wants, and_then}
-use Rattle.flat_form.specs.Whole.{Whole}
+use Rattle.lowering_fits.specs.of_flat_form.Whole.{Whole}
 use Rattle.lowering_runs.specs.Agrees.{Agrees, Trapping, Wanting}
 use Rattle.lowering_runs.specs.Heads.{Heads, Comes, Stumbles, says_of}
 use Rattle.lowering_runs.proofs.AgreeLemmas.{goes_agrees, weaker_agrees}

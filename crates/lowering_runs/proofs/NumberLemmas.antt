@@ -2,7 +2,7 @@
 use Rattle.std.proofs.Common.{◌≡◌, ◌≢◌, ℕ, zero, suc, ◌≤◌, ◌<◌, ℤ, pos, List, [], ◌∷◌, ◌++◌, map}
 use Rattle.std.proofs.Common.{length, Option, Some, None, refl, ap, ◌∙◌, subst, arith}
 use Rattle.std.specs.Prelude.{slice_get, slice_set, slice_index_or}
-use Rattle.flat_form.specs.Whole.{Whole}
+use Rattle.lowering_fits.specs.of_flat_form.Whole.{Whole}
 use Rattle.lowering_runs.specs.Seen.{scalar_in, Spot, At, Answer, seen_spot, numbered, place_of}
 use Rattle.lowering_runs.specs.Stands.{Rises, Misses}
 

@@ -9,19 +9,19 @@ use Rattle.zpl_names.specs.Kinds.{Rank}
 use Rattle.zpl_names.specs.Scope.{Scope}
 use Rattle.zpl_names.specs.Sites.{Printed}
 use Rattle.zpl_names.specs.Types.{type_of}
-use Rattle.zpl_meaning.specs.Computed as mean
-use Rattle.zpl_meaning.specs.Store.{Store}
-use Rattle.zpl_meaning.specs.Context.{Place, rank_in}
-use Rattle.zpl_meaning.specs.Fields.{Field}
-use Rattle.zpl_meaning.specs.Settled as mean_settled
-use Rattle.zpl_meaning.specs.Scalars.{AreScalars, values_of}
-use Rattle.zpl_meaning.specs.Value as mean_value
-use Rattle.zpl_meaning.specs.Text as mean_text
-use Rattle.zpl_meaning.specs.Text.{value_text, field_text, items_text, print_text}
-use Rattle.zpl_meaning.specs.Outcome as out
-use Rattle.zpl_meaning.specs.Outcome.{Outcome}
-use Rattle.zpl_meaning.specs.Statement as mean_statement
-use Rattle.zpl_meaning.proofs.ScalarLemmas.{AreFieldsOf, fields_of_scalars}
+use Rattle.lowering_fits.specs.of_zpl_meaning.Computed as mean
+use Rattle.lowering_fits.specs.of_zpl_meaning.Store.{Store}
+use Rattle.lowering_fits.specs.of_zpl_meaning.Context.{Place, rank_in}
+use Rattle.lowering_fits.specs.of_zpl_meaning.Fields.{Field}
+use Rattle.lowering_fits.specs.of_zpl_meaning.Settled as mean_settled
+use Rattle.lowering_fits.specs.of_zpl_meaning.Scalars.{AreScalars, values_of}
+use Rattle.lowering_fits.specs.of_zpl_meaning.Value as mean_value
+use Rattle.lowering_fits.specs.of_zpl_meaning.Text as mean_text
+use Rattle.lowering_fits.specs.of_zpl_meaning.Text.{value_text, field_text, items_text, print_text}
+use Rattle.lowering_fits.specs.of_zpl_meaning.Outcome as out
+use Rattle.lowering_fits.specs.of_zpl_meaning.Outcome.{Outcome}
+use Rattle.lowering_fits.specs.of_zpl_meaning.Statement as mean_statement
+use Rattle.lowering_fits.proofs.of_zpl_meaning.ScalarLemmas.{AreFieldsOf, fields_of_scalars}
 use Rattle.node_form.specs.declared.tables.Tables.{Tables}
 use Rattle.node_form.specs.Expression.{Expression, Variable, words_of}
 use Rattle.node_form.specs.Value as flat
@@ -31,16 +31,16 @@ use Rattle.row_runs.specs.Run as does_row
 use Rattle.row_runs.specs.Run.{Step}
 use Rattle.row_runs.specs.Structured as code
 use Rattle.row_runs.specs.Structured.{Course, GoesOn, rows_do, by_step}
-use Rattle.flat_form.specs.Row as row
-use Rattle.flat_form.specs.Row.{Row}
-use Rattle.flat_form.specs.Whole.{Whole}
-use Rattle.zpl_lowering.specs.Where.{Where, Next, line_of, slotted_at}
-use Rattle.zpl_lowering.specs.Where as low_where
-use Rattle.zpl_lowering.specs.Words.{scalar_code}
-use Rattle.zpl_lowering.specs.Lowered.{phased}
-use Rattle.zpl_lowering.specs.Slate as low_slate
-use Rattle.zpl_lowering.specs.Statement as low
-use Rattle.zpl_lowering.specs.Statement.{Lowering, Prints}
+use Rattle.lowering_fits.specs.of_flat_form.Row as row
+use Rattle.lowering_fits.specs.of_flat_form.Row.{Row}
+use Rattle.lowering_fits.specs.of_flat_form.Whole.{Whole}
+use Rattle.lowering_fits.specs.of_zpl_lowering.Where.{Where, Next, line_of, slotted_at}
+use Rattle.lowering_fits.specs.of_zpl_lowering.Where as low_where
+use Rattle.lowering_fits.specs.of_zpl_lowering.Words.{scalar_code}
+use Rattle.lowering_fits.specs.of_zpl_lowering.Lowered.{phased}
+use Rattle.lowering_fits.specs.of_zpl_lowering.Slate as low_slate
+use Rattle.lowering_fits.specs.of_zpl_lowering.Statement as low
+use Rattle.lowering_fits.specs.of_zpl_lowering.Statement.{Lowering, Prints}
 use Rattle.lowering_runs.specs.Seen.{scalar_in, Sight, seen_place}
 use Rattle.lowering_runs.specs.Run.{step, decide, does}
 use Rattle.lowering_runs.specs.Agrees.{Agrees, Going}

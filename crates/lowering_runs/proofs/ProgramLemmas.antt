@@ -5,30 +5,30 @@ use Rattle.zpl_arrays.specs.Array.{Array}
 use Rattle.zpl_tree.specs.Syntax.{Stmt, Program}
 use Rattle.zpl_names.specs.Declared.{Routine, scope_of}
 use Rattle.zpl_names.specs.Reached.{longest_chain}
-use Rattle.zpl_binding.specs.Settings.{Setting}
-use Rattle.zpl_binding.specs.Declarations.{known_of}
-use Rattle.zpl_binding.specs.Regions.{Known}
-use Rattle.zpl_binding.specs.Storages.{Border, borders_of}
-use Rattle.zpl_meaning.specs.Store.{Store}
-use Rattle.zpl_meaning.specs.Context.{Setup, Place}
-use Rattle.zpl_meaning.specs.Variables.{Frame}
-use Rattle.zpl_meaning.specs.Proper.{IsProperStmt}
-use Rattle.zpl_meaning.specs.Program.{run_routine, call_at, entry_call, first_frame, outcome_of}
-use Rattle.zpl_meaning.specs.Visited.{IsVisited, Begins, first_setup}
+use Rattle.lowering_fits.specs.of_zpl_binding.Settings.{Setting}
+use Rattle.lowering_fits.specs.of_zpl_binding.Declarations.{known_of}
+use Rattle.lowering_fits.specs.of_zpl_binding.Regions.{Known}
+use Rattle.lowering_fits.specs.of_zpl_binding.Storages.{Border, borders_of}
+use Rattle.lowering_fits.specs.of_zpl_meaning.Store.{Store}
+use Rattle.lowering_fits.specs.of_zpl_meaning.Context.{Setup, Place}
+use Rattle.lowering_fits.specs.of_zpl_meaning.Variables.{Frame}
+use Rattle.lowering_fits.specs.of_zpl_meaning.Proper.{IsProperStmt}
+use Rattle.lowering_fits.specs.of_zpl_meaning.Program.{run_routine, call_at, entry_call, first_frame, outcome_of}
+use Rattle.lowering_fits.specs.of_zpl_meaning.Visited.{IsVisited, Begins, first_setup}
 use Rattle.node_form.specs.declared.instructions.Instr.TheVariants as instr
 use Rattle.node_form.specs.declared.tables.Tables.{Tables}
 use Rattle.row_runs.specs.Straight.{Every}
 use Rattle.row_runs.specs.Structured.{flattened}
-use Rattle.flat_form.specs.Act.{flat_run}
-use Rattle.flat_form.specs.Row as row
-use Rattle.flat_form.specs.Laws.{IsInline}
-use Rattle.flat_form.specs.Whole.{Whole}
-use Rattle.zpl_lowering.specs.Check.{flat_row}
-use Rattle.zpl_lowering.specs.Where.{Where, Next, Stored, no_slots}
-use Rattle.zpl_lowering.specs.Lowered.{Lowered, behind}
-use Rattle.zpl_lowering.specs.Statement.{Calling}
-use Rattle.zpl_lowering.specs.Program as low
-use Rattle.zpl_lowering.specs.Tables.{rows_of, flat_tables}
+use Rattle.lowering_fits.specs.of_flat_form.Act.{flat_run}
+use Rattle.lowering_fits.specs.of_flat_form.Row as row
+use Rattle.lowering_fits.specs.of_flat_form.Laws.{IsInline}
+use Rattle.lowering_fits.specs.of_flat_form.Whole.{Whole}
+use Rattle.lowering_fits.specs.of_zpl_lowering.Check.{flat_row}
+use Rattle.lowering_fits.specs.of_zpl_lowering.Where.{Where, Next, Stored, no_slots}
+use Rattle.lowering_fits.specs.of_zpl_lowering.Lowered.{Lowered, behind}
+use Rattle.lowering_fits.specs.of_zpl_lowering.Statement.{Calling}
+use Rattle.lowering_fits.specs.of_zpl_lowering.Program as low
+use Rattle.lowering_fits.specs.of_zpl_lowering.Tables.{rows_of, flat_tables}
 use Rattle.lowering_fits.specs.Whole.{IsNumbered}
 use Rattle.lowering_runs.specs.Seen.{scalar_in, Spot, seen_store, numbered}
 use Rattle.lowering_runs.specs.Run.{does}

@@ -5,22 +5,22 @@ use Rattle.zpl_region.specs.declared.regions.Region.{Region}
 use Rattle.zpl_tree.specs.Syntax.{Stmt}
 use Rattle.zpl_names.specs.Declared.{Routine}
 use Rattle.zpl_names.specs.Expansion.{formal_names}
-use Rattle.zpl_meaning.specs.Store.{Thing, Names, Store, cut_back}
-use Rattle.zpl_meaning.specs.Context.{Setup, Place, Currents}
-use Rattle.zpl_meaning.specs.Outcome.{Outcome}
-use Rattle.zpl_meaning.specs.Variables.{Frame, with_variables}
-use Rattle.zpl_meaning.specs.Calls.{Called, entered, place_in}
-use Rattle.zpl_meaning.specs.Proper.{IsProperStmt}
-use Rattle.zpl_meaning.specs.Program.{returned, run_routine, call_at}
-use Rattle.zpl_meaning.specs.Statement.{exec}
-use Rattle.zpl_meaning.specs.Visited.{IsVisited}
+use Rattle.lowering_fits.specs.of_zpl_meaning.Store.{Thing, Names, Store, cut_back}
+use Rattle.lowering_fits.specs.of_zpl_meaning.Context.{Setup, Place, Currents}
+use Rattle.lowering_fits.specs.of_zpl_meaning.Outcome.{Outcome}
+use Rattle.lowering_fits.specs.of_zpl_meaning.Variables.{Frame, with_variables}
+use Rattle.lowering_fits.specs.of_zpl_meaning.Calls.{Called, entered, place_in}
+use Rattle.lowering_fits.specs.of_zpl_meaning.Proper.{IsProperStmt}
+use Rattle.lowering_fits.specs.of_zpl_meaning.Program.{returned, run_routine, call_at}
+use Rattle.lowering_fits.specs.of_zpl_meaning.Statement.{exec}
+use Rattle.lowering_fits.specs.of_zpl_meaning.Visited.{IsVisited}
 use Rattle.node_form.specs.declared.tables.Tables.{Tables}
-use Rattle.flat_form.specs.Whole.{Whole}
-use Rattle.zpl_lowering.specs.Where.{Where, Next, Stored}
-use Rattle.zpl_lowering.specs.Lowered.{Lowered}
-use Rattle.zpl_lowering.specs.Statement.{Given, Calling, lowered}
-use Rattle.zpl_lowering.specs.Program as low
-use Rattle.zpl_lowering.specs.Program.{Framed, Entry}
+use Rattle.lowering_fits.specs.of_flat_form.Whole.{Whole}
+use Rattle.lowering_fits.specs.of_zpl_lowering.Where.{Where, Next, Stored}
+use Rattle.lowering_fits.specs.of_zpl_lowering.Lowered.{Lowered}
+use Rattle.lowering_fits.specs.of_zpl_lowering.Statement.{Given, Calling, lowered}
+use Rattle.lowering_fits.specs.of_zpl_lowering.Program as low
+use Rattle.lowering_fits.specs.of_zpl_lowering.Program.{Framed, Entry}
 use Rattle.lowering_runs.specs.Seen.{Spot, At, Answer, Sight, seen_place, seen_store, seen_names, seen_thing, numbered, slot_in}
 use Rattle.lowering_runs.specs.Run.{does}
 use Rattle.lowering_runs.specs.Agrees.{Agrees}

@@ -11,23 +11,23 @@ use Rattle.zpl_nums.specs.declared.ends.End.TheVariants.{Trap}
 use Rattle.zpl_nums.specs.declared.ends.TrapKind.TheVariants.{DivideByZero}
 use Rattle.zpl_nums.specs.Integer.{IsInteger, is_true}
 use Rattle.zpl_arrays.specs.ArrayText.{truth_text}
-use Rattle.zpl_meaning.specs.Computed as mean
-use Rattle.zpl_meaning.specs.Store as mean_store
-use Rattle.zpl_meaning.specs.Store.{Store}
+use Rattle.lowering_fits.specs.of_zpl_meaning.Computed as mean
+use Rattle.lowering_fits.specs.of_zpl_meaning.Store as mean_store
+use Rattle.lowering_fits.specs.of_zpl_meaning.Store.{Store}
 use Rattle.node_form.specs.declared.tables.Tables.{Tables}
 use Rattle.node_form.specs.Value as flat
 use Rattle.node_form.specs.Value.{scalar_operands, value_of}
 use Rattle.node_form.specs.Control.{with_computed, branched, with_scalar}
 use Rattle.row_runs.specs.Run.{Ends, Wrong, Step, Goes, Stops, Does}
 use Rattle.row_runs.specs.Code.{Says}
-use Rattle.flat_form.specs.Row as row
-use Rattle.flat_form.specs.Row.{Row, Words}
-use Rattle.flat_form.specs.Names.{row_scalars}
-use Rattle.flat_form.specs.Right.{is_settled}
-use Rattle.flat_form.specs.Whole.{Whole, registers_of}
-use Rattle.flat_form.specs.Act.{act, row_does, controlled, tested, value_printed}
-use Rattle.zpl_lowering.specs.Check.{Check}
-use Rattle.zpl_lowering.specs.Where.{Where, Next}
+use Rattle.lowering_fits.specs.of_flat_form.Row as row
+use Rattle.lowering_fits.specs.of_flat_form.Row.{Row, Words}
+use Rattle.lowering_fits.specs.of_flat_form.Names.{row_scalars}
+use Rattle.lowering_fits.specs.of_flat_form.Right.{is_settled}
+use Rattle.lowering_fits.specs.of_flat_form.Whole.{Whole, registers_of}
+use Rattle.lowering_fits.specs.of_flat_form.Act.{act, row_does, controlled, tested, value_printed}
+use Rattle.lowering_fits.specs.of_zpl_lowering.Check.{Check}
+use Rattle.lowering_fits.specs.of_zpl_lowering.Where.{Where, Next}
 use Rattle.lowering_runs.specs.Seen.{scalar_in, Spot, seen_store, numbered, place_of}
 use Rattle.lowering_runs.specs.Run.{straight, decision, step, decide}
 use Rattle.lowering_runs.specs.Heads.{says_of}

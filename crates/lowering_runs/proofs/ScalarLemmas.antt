@@ -5,16 +5,16 @@ use Rattle.std.specs.Prelude.{slice_get}
 use Rattle.zpl_nums.specs.Integer.{IsInteger}
 use Rattle.zpl_tree.specs.Syntax.{Expr}
 use Rattle.zpl_names.specs.Sites.{Role, Test as TestRole}
-use Rattle.zpl_meaning.specs.Computed as mean
-use Rattle.zpl_meaning.specs.Store.{Store, Thing, Scalar, thing_of}
-use Rattle.zpl_meaning.specs.Store as mean_store
-use Rattle.zpl_meaning.specs.Context.{Place}
-use Rattle.zpl_meaning.specs.Value as mean_value
-use Rattle.zpl_meaning.specs.Phases.{scalar_in as value_in}
-use Rattle.zpl_meaning.specs.Outcome as out
-use Rattle.zpl_meaning.specs.Outcome.{Outcome}
-use Rattle.zpl_meaning.specs.Statement as mean_statement
-use Rattle.zpl_meaning.proofs.ScalarLemmas.{scalar_is_value}
+use Rattle.lowering_fits.specs.of_zpl_meaning.Computed as mean
+use Rattle.lowering_fits.specs.of_zpl_meaning.Store.{Store, Thing, Scalar, thing_of}
+use Rattle.lowering_fits.specs.of_zpl_meaning.Store as mean_store
+use Rattle.lowering_fits.specs.of_zpl_meaning.Context.{Place}
+use Rattle.lowering_fits.specs.of_zpl_meaning.Value as mean_value
+use Rattle.lowering_fits.specs.of_zpl_meaning.Phases.{scalar_in as value_in}
+use Rattle.lowering_fits.specs.of_zpl_meaning.Outcome as out
+use Rattle.lowering_fits.specs.of_zpl_meaning.Outcome.{Outcome}
+use Rattle.lowering_fits.specs.of_zpl_meaning.Statement as mean_statement
+use Rattle.lowering_fits.proofs.of_zpl_meaning.ScalarLemmas.{scalar_is_value}
 use Rattle.node_form.specs.declared.tables.Tables.{Tables}
 use Rattle.node_form.specs.Expression.{Expression, words_of}
 use Rattle.node_form.specs.Value as flat
@@ -23,11 +23,11 @@ use Rattle.node_form.proofs.ValueLemmas.{value_of-words_of}
 use Rattle.row_runs.specs.Run.{Step}
 use Rattle.row_runs.specs.Structured as code
 use Rattle.row_runs.specs.Structured.{Course, rows_do, by_step}
-use Rattle.flat_form.specs.Whole.{Whole}
-use Rattle.zpl_lowering.specs.Where.{Where, Next, line_of}
-use Rattle.zpl_lowering.specs.Words.{scalar_code}
-use Rattle.zpl_lowering.specs.Lowered.{phased, first_left}
-use Rattle.zpl_lowering.specs.Statement as low
+use Rattle.lowering_fits.specs.of_flat_form.Whole.{Whole}
+use Rattle.lowering_fits.specs.of_zpl_lowering.Where.{Where, Next, line_of}
+use Rattle.lowering_fits.specs.of_zpl_lowering.Words.{scalar_code}
+use Rattle.lowering_fits.specs.of_zpl_lowering.Lowered.{phased, first_left}
+use Rattle.lowering_fits.specs.of_zpl_lowering.Statement as low
 use Rattle.lowering_runs.specs.Seen.{Sight, seen_place, numbered, place_of}
 use Rattle.lowering_runs.specs.Run.{step, decide, does}
 use Rattle.lowering_runs.specs.Agrees.{Agrees, Trapping}

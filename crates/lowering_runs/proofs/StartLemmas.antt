@@ -9,16 +9,16 @@ use Rattle.zpl_region.specs.declared.regions.Region.{Region}
 use Rattle.zpl_arrays.specs.Array.{Array}
 use Rattle.zpl_tree.specs.Syntax.{Program}
 use Rattle.zpl_names.specs.Reached.{longest_chain}
-use Rattle.zpl_binding.specs.Settings.{Setting}
-use Rattle.zpl_binding.specs.Declarations.{known_of}
-use Rattle.zpl_binding.specs.Outcome.{value_or}
-use Rattle.zpl_binding.specs.Regions.{Known, no_region}
-use Rattle.zpl_binding.specs.Storages.{Border, borders_of}
-use Rattle.zpl_meaning.specs.Store.{Store}
-use Rattle.zpl_meaning.specs.Context.{Setup}
-use Rattle.zpl_meaning.specs.Variables.{Frame}
-use Rattle.zpl_meaning.specs.Program.{call_at, entry_call, first_frame, outcome_of}
-use Rattle.zpl_meaning.specs.Visited.{first_setup}
+use Rattle.lowering_fits.specs.of_zpl_binding.Settings.{Setting}
+use Rattle.lowering_fits.specs.of_zpl_binding.Declarations.{known_of}
+use Rattle.lowering_fits.specs.of_zpl_binding.Outcome.{value_or}
+use Rattle.lowering_fits.specs.of_zpl_binding.Regions.{Known, no_region}
+use Rattle.lowering_fits.specs.of_zpl_binding.Storages.{Border, borders_of}
+use Rattle.lowering_fits.specs.of_zpl_meaning.Store.{Store}
+use Rattle.lowering_fits.specs.of_zpl_meaning.Context.{Setup}
+use Rattle.lowering_fits.specs.of_zpl_meaning.Variables.{Frame}
+use Rattle.lowering_fits.specs.of_zpl_meaning.Program.{call_at, entry_call, first_frame, outcome_of}
+use Rattle.lowering_fits.specs.of_zpl_meaning.Visited.{first_setup}
 use Rattle.node_form.specs.declared.arrays.ArrayRow.{ArrayRow}
 use Rattle.node_form.specs.declared.instructions.Instr.TheVariants as instr
 use Rattle.node_form.specs.declared.tables.Tables.{Tables}
@@ -28,20 +28,20 @@ use Rattle.row_runs.specs.Code.{Straight}
 use Rattle.row_runs.specs.Run.{runs}
 use Rattle.row_runs.specs.Structured as code
 use Rattle.row_runs.specs.Structured.{Course, flattened}
-use Rattle.flat_form.specs.Act.{act, flat_run}
-use Rattle.flat_form.specs.Row as row
-use Rattle.flat_form.specs.Row.{Row, with_row, with_rows, all_inlined}
-use Rattle.flat_form.specs.Laws.{IsInline}
-use Rattle.flat_form.specs.Whole.{Whole, start_whole}
-use Rattle.flat_form.proofs.ReadLemmas.{read_again}
-use Rattle.zpl_lowering.specs.Check.{flat_row}
-use Rattle.zpl_lowering.specs.Hoist.{Shifted}
-use Rattle.zpl_lowering.specs.Where.{Next}
-use Rattle.zpl_lowering.specs.Lowered.{Lowered, behind}
-use Rattle.zpl_lowering.specs.Statement.{Calling}
-use Rattle.zpl_lowering.specs.Program as low
-use Rattle.text_sharing.proofs.RowLemmas.{shared-inline}
-use Rattle.zpl_lowering.specs.Tables.{empty_tables, rows_of, flat_tables, unshared_tables, stored_row, stored_rows, temp_row}
+use Rattle.lowering_fits.specs.of_flat_form.Act.{act, flat_run}
+use Rattle.lowering_fits.specs.of_flat_form.Row as row
+use Rattle.lowering_fits.specs.of_flat_form.Row.{Row, with_row, with_rows, all_inlined}
+use Rattle.lowering_fits.specs.of_flat_form.Laws.{IsInline}
+use Rattle.lowering_fits.specs.of_flat_form.Whole.{Whole, start_whole}
+use Rattle.lowering_fits.proofs.of_flat_form.ReadLemmas.{read_again}
+use Rattle.lowering_fits.specs.of_zpl_lowering.Check.{flat_row}
+use Rattle.lowering_fits.specs.of_zpl_lowering.Hoist.{Shifted}
+use Rattle.lowering_fits.specs.of_zpl_lowering.Where.{Next}
+use Rattle.lowering_fits.specs.of_zpl_lowering.Lowered.{Lowered, behind}
+use Rattle.lowering_fits.specs.of_zpl_lowering.Statement.{Calling}
+use Rattle.lowering_fits.specs.of_zpl_lowering.Program as low
+use Rattle.lowering_fits.proofs.of_text_sharing.RowLemmas.{shared-inline}
+use Rattle.lowering_fits.specs.of_zpl_lowering.Tables.{empty_tables, rows_of, flat_tables, unshared_tables, stored_row, stored_rows, temp_row}
 use Rattle.lowering_fits.specs.Whole.{IsNumbered}
 use Rattle.lowering_runs.specs.Seen.{scalar_in}
 use Rattle.lowering_runs.specs.Run.{does}

@@ -10,20 +10,20 @@ use Rattle.zpl_tree.specs.Syntax.{Name, Prefix, Expr, Number, Truth, Coord, Name
 use Rattle.zpl_names.specs.Kinds.{Rank, Formal, ScalarFormal, ArrayFormal}
 use Rattle.zpl_names.specs.Scope.{kind_of}
 use Rattle.zpl_names.specs.Sites.{Role, Limit, Actual, Assigned, Printed, Test as TestRole, is_shattered}
-use Rattle.zpl_meaning.specs.Store.{Store, Thing, Scalar, ArrayAt, Fixed, thing_of}
-use Rattle.zpl_meaning.specs.Context.{Setup, Place, Currents, reach_of, rank_in}
-use Rattle.zpl_meaning.specs.Scalars.{IsScalarName, IsScalar}
-use Rattle.zpl_meaning.specs.Points.{assigned_expr}
-use Rattle.zpl_meaning.specs.Calls.{formals_in, actual_thing}
-use Rattle.zpl_meaning.specs.Proper.{IsRead, IsProper, IsProperScalar, IsProperWhole, IsTarget, IsPlainAssign, IsProperAssign, AreProperActuals, IsVariable, IsArray, AreProperTests, IsProperTested, AreProperItems, IsProperForm, IsProperStmt}
-use Rattle.zpl_meaning.specs.Visited.{IsVisited, Holds, Calls, Itself, AsStatement, list_of, parts_of, arms_parts, else_parts}
-use Rattle.zpl_meaning.specs.Outcome.{Outcome}
-use Rattle.zpl_meaning.specs.Statement as mean
-use Rattle.zpl_meaning.specs.Statement.{Context, step_expr}
-use Rattle.zpl_lowering.specs.Where.{Where, Next, line_of}
-use Rattle.zpl_lowering.specs.Lowered.{Lowered}
-use Rattle.zpl_lowering.specs.Statement as low
-use Rattle.zpl_lowering.specs.Statement.{Lowering}
+use Rattle.lowering_fits.specs.of_zpl_meaning.Store.{Store, Thing, Scalar, ArrayAt, Fixed, thing_of}
+use Rattle.lowering_fits.specs.of_zpl_meaning.Context.{Setup, Place, Currents, reach_of, rank_in}
+use Rattle.lowering_fits.specs.of_zpl_meaning.Scalars.{IsScalarName, IsScalar}
+use Rattle.lowering_fits.specs.of_zpl_meaning.Points.{assigned_expr}
+use Rattle.lowering_fits.specs.of_zpl_meaning.Calls.{formals_in, actual_thing}
+use Rattle.lowering_fits.specs.of_zpl_meaning.Proper.{IsRead, IsProper, IsProperScalar, IsProperWhole, IsTarget, IsPlainAssign, IsProperAssign, AreProperActuals, IsVariable, IsArray, AreProperTests, IsProperTested, AreProperItems, IsProperForm, IsProperStmt}
+use Rattle.lowering_fits.specs.of_zpl_meaning.Visited.{IsVisited, Holds, Calls, Itself, AsStatement, list_of, parts_of, arms_parts, else_parts}
+use Rattle.lowering_fits.specs.of_zpl_meaning.Outcome.{Outcome}
+use Rattle.lowering_fits.specs.of_zpl_meaning.Statement as mean
+use Rattle.lowering_fits.specs.of_zpl_meaning.Statement.{Context, step_expr}
+use Rattle.lowering_fits.specs.of_zpl_lowering.Where.{Where, Next, line_of}
+use Rattle.lowering_fits.specs.of_zpl_lowering.Lowered.{Lowered}
+use Rattle.lowering_fits.specs.of_zpl_lowering.Statement as low
+use Rattle.lowering_fits.specs.of_zpl_lowering.Statement.{Lowering}
 use Rattle.lowering_runs.specs.Seen.{numbered, place_of, seen_place, seen_thing}
 use Rattle.lowering_runs.specs.Run.{does}
 use Rattle.lowering_runs.specs.Agrees.{Agrees}

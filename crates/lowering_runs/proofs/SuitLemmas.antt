@@ -4,17 +4,17 @@ use Rattle.std.proofs.Common.{◌≡◌, ◌⊎◌, inl, inr, ℕ, ◌+◌, ◌*
 use Rattle.zpl_tree.specs.Syntax.{Expr, ForHead, Prefix, Stmt, Prefixed, Stmts, NoStmt, ThenStmt, Form, Assign, Invoke, Block, If, While, Repeat, For, Border, Write, Return, Tested, Arms, NoArm, ThenArm, Otherwise, NoElse, Else}
 use Rattle.zpl_names.specs.Counts.{expr_nodes, own_nodes, step_nodes}
 use Rattle.zpl_names.specs.Sites.{is_shattered}
-use Rattle.zpl_meaning.specs.Store.{Store}
-use Rattle.zpl_meaning.specs.Context.{Place, reach_of}
-use Rattle.zpl_meaning.specs.Points.{shattered}
-use Rattle.zpl_meaning.specs.Outcome as out
-use Rattle.zpl_meaning.specs.Outcome.{Outcome}
-use Rattle.zpl_meaning.specs.Statement as mean
-use Rattle.zpl_meaning.specs.Statement.{Context}
-use Rattle.zpl_lowering.specs.Where.{Where, Next, line_of}
-use Rattle.zpl_lowering.specs.Lowered.{Lowered}
-use Rattle.zpl_lowering.specs.Statement as low
-use Rattle.zpl_lowering.specs.Statement.{Lowering}
+use Rattle.lowering_fits.specs.of_zpl_meaning.Store.{Store}
+use Rattle.lowering_fits.specs.of_zpl_meaning.Context.{Place, reach_of}
+use Rattle.lowering_fits.specs.of_zpl_meaning.Points.{shattered}
+use Rattle.lowering_fits.specs.of_zpl_meaning.Outcome as out
+use Rattle.lowering_fits.specs.of_zpl_meaning.Outcome.{Outcome}
+use Rattle.lowering_fits.specs.of_zpl_meaning.Statement as mean
+use Rattle.lowering_fits.specs.of_zpl_meaning.Statement.{Context}
+use Rattle.lowering_fits.specs.of_zpl_lowering.Where.{Where, Next, line_of}
+use Rattle.lowering_fits.specs.of_zpl_lowering.Lowered.{Lowered}
+use Rattle.lowering_fits.specs.of_zpl_lowering.Statement as low
+use Rattle.lowering_fits.specs.of_zpl_lowering.Statement.{Lowering}
 use Rattle.lowering_runs.specs.Seen.{seen_place}
 use Rattle.lowering_runs.specs.Stands.{IsLike}
 use Rattle.lowering_runs.specs.Goes.{World, Goes, TestsGo, ValuesGo}

@@ -5,8 +5,8 @@ use Rattle.std.proofs.Common.{◌++◌, map, drop, length, refl, sym, ap, ◌∙
 use Rattle.zpl_nums.specs.declared.ends.End.{End}
 use Rattle.zpl_nums.specs.declared.ends.End.TheVariants.{Done, Trap, More}
 use Rattle.zpl_nums.specs.Integer.{is_true}
-use Rattle.zpl_meaning.specs.Store.{Store}
-use Rattle.zpl_meaning.specs.Outcome.{Outcome}
+use Rattle.lowering_fits.specs.of_zpl_meaning.Store.{Store}
+use Rattle.lowering_fits.specs.of_zpl_meaning.Outcome.{Outcome}
 use Rattle.node_form.specs.declared.tables.Tables.{Tables}
 use Rattle.node_form.specs.declared.instructions.Instr.TheVariants as instr
 use Rattle.node_form.specs.Value.{Computed, Gives, Divides, Lacks, scalar_operands, value_of}
@@ -22,12 +22,12 @@ use Rattle.row_runs.specs.Segments.{Keeps, WasWrong, Same}
 use Rattle.row_runs.proofs.CodeLemmas.{follow}
 use Rattle.row_runs.proofs.RowLemmas.{rows_keep_runs}
 use Rattle.row_runs.proofs.PlaceLemmas.{past, flat_length}
-use Rattle.flat_form.specs.Row as row
-use Rattle.flat_form.specs.Row.{Row}
-use Rattle.flat_form.specs.Right.{are_settled}
-use Rattle.flat_form.specs.Whole.{Whole, registers_of}
-use Rattle.flat_form.specs.Act.{act, row_does, tested}
-use Rattle.zpl_lowering.specs.Check.{Check, flat_row}
+use Rattle.lowering_fits.specs.of_flat_form.Row as row
+use Rattle.lowering_fits.specs.of_flat_form.Row.{Row}
+use Rattle.lowering_fits.specs.of_flat_form.Right.{are_settled}
+use Rattle.lowering_fits.specs.of_flat_form.Whole.{Whole, registers_of}
+use Rattle.lowering_fits.specs.of_flat_form.Act.{act, row_does, tested}
+use Rattle.lowering_fits.specs.of_zpl_lowering.Check.{Check, flat_row}
 use Rattle.lowering_runs.specs.Run.{straight, decision, step, decide, does}
 use Rattle.lowering_runs.specs.Agrees.{Agrees, Going, Trapping, Shattering, Wanting}
 use Rattle.lowering_runs.specs.Shown.{Few, Many, Shattered, Shows}

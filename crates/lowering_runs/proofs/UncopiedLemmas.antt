@@ -8,21 +8,21 @@ use Rattle.zpl_names.specs.Scope.{kind_of}
 use Rattle.zpl_names.specs.Sites.{Role, Assigned, Test as TestRole, is_shattered}
 use Rattle.zpl_names.specs.Declared.{Routine}
 use Rattle.zpl_names.specs.Expansion.{FormalName, formal_names}
-use Rattle.zpl_meaning.specs.Store.{Thing, Scalar, ArrayAt, Fixed, thing_of}
-use Rattle.zpl_meaning.specs.Context.{Setup}
-use Rattle.zpl_meaning.specs.Calls.{formals_in}
-use Rattle.zpl_meaning.specs.Points.{assigned_expr}
-use Rattle.zpl_meaning.specs.Statement.{arms_at}
-use Rattle.zpl_lowering.specs.Where.{Where, Next, slotted_at, reach_of, rank_for, line_of}
-use Rattle.zpl_lowering.specs.Slate as slate
-use Rattle.zpl_lowering.specs.Slate.{Placed, settled, settled_each}
-use Rattle.zpl_lowering.specs.Reference.{Reference, over_reference, refer_to}
-use Rattle.zpl_lowering.specs.Lowered as low_code
-use Rattle.zpl_lowering.specs.Lowered.{Lowered, behind, phased, phased_with}
-use Rattle.zpl_lowering.specs.Statement as low
-use Rattle.zpl_lowering.specs.Statement.{Lowering, Calling, Given}
-use Rattle.zpl_lowering.specs.Program as prog
-use Rattle.zpl_lowering.specs.Program.{Framed, Entry}
+use Rattle.lowering_fits.specs.of_zpl_meaning.Store.{Thing, Scalar, ArrayAt, Fixed, thing_of}
+use Rattle.lowering_fits.specs.of_zpl_meaning.Context.{Setup}
+use Rattle.lowering_fits.specs.of_zpl_meaning.Calls.{formals_in}
+use Rattle.lowering_fits.specs.of_zpl_meaning.Points.{assigned_expr}
+use Rattle.lowering_fits.specs.of_zpl_meaning.Statement.{arms_at}
+use Rattle.lowering_fits.specs.of_zpl_lowering.Where.{Where, Next, slotted_at, reach_of, rank_for, line_of}
+use Rattle.lowering_fits.specs.of_zpl_lowering.Slate as slate
+use Rattle.lowering_fits.specs.of_zpl_lowering.Slate.{Placed, settled, settled_each}
+use Rattle.lowering_fits.specs.of_zpl_lowering.Reference.{Reference, over_reference, refer_to}
+use Rattle.lowering_fits.specs.of_zpl_lowering.Lowered as low_code
+use Rattle.lowering_fits.specs.of_zpl_lowering.Lowered.{Lowered, behind, phased, phased_with}
+use Rattle.lowering_fits.specs.of_zpl_lowering.Statement as low
+use Rattle.lowering_fits.specs.of_zpl_lowering.Statement.{Lowering, Calling, Given}
+use Rattle.lowering_fits.specs.of_zpl_lowering.Program as prog
+use Rattle.lowering_fits.specs.of_zpl_lowering.Program.{Framed, Entry}
 use Rattle.lowering_runs.specs.Scalars.{IsScalarExpr}
 use Rattle.lowering_runs.specs.ScalarText.{IsScalarStmt, AreScalarStmts, IsScalarForm, AreScalarArms, IsScalarElse, IsScalarRoutine, IsScalarCall}
 use Rattle.lowering_runs.proofs.StatementLemmas.{lowered_plain}

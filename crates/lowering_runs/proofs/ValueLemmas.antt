@@ -10,16 +10,16 @@ use Rattle.zpl_nums.specs.Op.{applied}
 use Rattle.zpl_nums.proofs.IntegerLemmas.{IsInteger-truth}
 use Rattle.zpl_nums.proofs.OperatorLemmas.{IsInteger-applied, IsInteger-negated, IsInteger-absolute}
 use Rattle.zpl_tree.specs.Syntax.{Expr, Number, Truth, Coord, Named, Shifted, Around, Remap, Call, Paren, Neg, Not, Abs, Pair, Reduce, Scan, Flood}
-use Rattle.zpl_meaning.specs.Computed as mean
-use Rattle.zpl_meaning.specs.Store.{Thing, Scalar, ArrayAt, Fixed, Names, Environment, Store, thing_of}
-use Rattle.zpl_meaning.specs.Value as mean_value
-use Rattle.zpl_meaning.specs.Scalars.{IsScalarName, IsScalar}
+use Rattle.lowering_fits.specs.of_zpl_meaning.Computed as mean
+use Rattle.lowering_fits.specs.of_zpl_meaning.Store.{Thing, Scalar, ArrayAt, Fixed, Names, Environment, Store, thing_of}
+use Rattle.lowering_fits.specs.of_zpl_meaning.Value as mean_value
+use Rattle.lowering_fits.specs.of_zpl_meaning.Scalars.{IsScalarName, IsScalar}
 use Rattle.node_form.specs.declared.tables.Tables.{Tables}
 use Rattle.node_form.specs.Value as flat
 use Rattle.node_form.specs.Value.{scalar_operands, tree_value}
-use Rattle.flat_form.specs.Whole.{Whole}
-use Rattle.zpl_lowering.specs.Where.{Where, Next}
-use Rattle.zpl_lowering.specs.Words.{variable_code, thing_code, scalar_code}
+use Rattle.lowering_fits.specs.of_flat_form.Whole.{Whole}
+use Rattle.lowering_fits.specs.of_zpl_lowering.Where.{Where, Next}
+use Rattle.lowering_fits.specs.of_zpl_lowering.Words.{variable_code, thing_code, scalar_code}
 use Rattle.lowering_runs.specs.Seen.{scalar_in, Spot, seen_store, numbered, seen_thing, seen_names}
 use Rattle.lowering_runs.specs.Stands.{IsKnown, AreKnown, Stands, IsSound}
 use Rattle.lowering_runs.specs.Scalars.{IsScalarExpr, IsSameValue, BothGive, BothDivide}

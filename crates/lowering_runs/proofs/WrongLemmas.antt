@@ -3,12 +3,12 @@ use Rattle.std.proofs.Common.{◌≡◌, ◌≢◌, ℕ, ◌+◌, ◌≤◌, ◌
 use Rattle.std.proofs.lemmas.Bool.{cases_lt}
 use Rattle.zpl_nums.specs.declared.ends.End.{End}
 use Rattle.zpl_nums.specs.declared.ends.End.TheVariants.{More}
-use Rattle.zpl_meaning.specs.Outcome.{Outcome}
+use Rattle.lowering_fits.specs.of_zpl_meaning.Outcome.{Outcome}
 use Rattle.node_form.specs.declared.tables.Tables.{Tables}
 use Rattle.row_runs.specs.Run.{Stop, Ends, Wrong, Result}
 use Rattle.row_runs.specs.Growth.{GoesOnTo, StaysSo, WasCutOff}
-use Rattle.flat_form.specs.Act.{flat_run}
-use Rattle.flat_form.proofs.GrowthLemmas.{grow}
+use Rattle.lowering_fits.specs.of_flat_form.Act.{flat_run}
+use Rattle.lowering_fits.proofs.of_flat_form.GrowthLemmas.{grow}
 use Rattle.lowering_runs.specs.Shown.{shown, IsBound, Few, Many, Shattered, Shows}
 
 not_wrong : (stop : Stop) (ending : End) → stop ≡ Ends ending → stop ≢ Wrong

@@ -2,11 +2,11 @@
 use Rattle.std.specs.Prelude.{ℕ, ◌+◌, ◌*◌, ◌≤◌, List}
 use Rattle.zpl_nums.specs.declared.ends.End.TheVariants.{Done, Trap, More}
 use Rattle.zpl_nums.specs.declared.ends.TrapKind.{TrapKind}
-use Rattle.zpl_meaning.specs.Store.{Store}
-use Rattle.zpl_meaning.specs.Outcome.{Outcome}
+use Rattle.lowering_fits.specs.of_zpl_meaning.Store.{Store}
+use Rattle.lowering_fits.specs.of_zpl_meaning.Outcome.{Outcome}
 use Rattle.row_runs.specs.Run.{Ends}
 use Rattle.row_runs.specs.Structured.{Course, GoesOn, Over, Wants}
-use Rattle.flat_form.specs.Whole.{Whole}
+use Rattle.lowering_fits.specs.of_flat_form.Whole.{Whole}
 
 -- Both go on, to a store and a state that are alike; or both end with the same trap; or both want a
 -- further turn of a loop. Up to there they have printed the same. Where code doesn't want a turn it

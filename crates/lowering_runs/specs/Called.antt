@@ -1,15 +1,15 @@
 -- Calls: what is called goes as its code does.
 use Rattle.std.specs.Prelude.{◌≡◌, ℕ, List, length, map}
-use Rattle.zpl_meaning.specs.Store.{Store}
-use Rattle.zpl_meaning.specs.Context.{Setup}
-use Rattle.zpl_meaning.specs.Calls.{Called}
-use Rattle.zpl_meaning.specs.Program.{call_at}
+use Rattle.lowering_fits.specs.of_zpl_meaning.Store.{Store}
+use Rattle.lowering_fits.specs.of_zpl_meaning.Context.{Setup}
+use Rattle.lowering_fits.specs.of_zpl_meaning.Calls.{Called}
+use Rattle.lowering_fits.specs.of_zpl_meaning.Program.{call_at}
 use Rattle.node_form.specs.declared.tables.Tables.{Tables}
-use Rattle.zpl_lowering.specs.Program.{call_code}
-use Rattle.zpl_meaning.specs.Visited.{IsVisitedCall}
-use Rattle.flat_form.specs.Whole.{Whole}
-use Rattle.zpl_lowering.specs.Where.{Where, Next}
-use Rattle.zpl_lowering.specs.Statement.{Given, Calling}
+use Rattle.lowering_fits.specs.of_zpl_lowering.Program.{call_code}
+use Rattle.lowering_fits.specs.of_zpl_meaning.Visited.{IsVisitedCall}
+use Rattle.lowering_fits.specs.of_flat_form.Whole.{Whole}
+use Rattle.lowering_fits.specs.of_zpl_lowering.Where.{Where, Next}
+use Rattle.lowering_fits.specs.of_zpl_lowering.Statement.{Given, Calling}
 use Rattle.lowering_runs.specs.Seen.{Spot, numbered, seen_currents}
 use Rattle.lowering_runs.specs.Run.{does}
 use Rattle.lowering_runs.specs.Agrees.{Agrees}

@@ -1,13 +1,13 @@
 -- What a procedure that is entered has of its own.
 use Rattle.std.specs.Prelude.{◌≡◌, ℕ, suc, ◌≤◌, Bool, true, false, pos, List, [], ◌∷◌, ◌++◌, length}
 use Rattle.zpl_tree.specs.Syntax.{Bracket, NoBracket, Bracketed, VarDef}
-use Rattle.zpl_meaning.specs.Variables.{Frame}
-use Rattle.zpl_meaning.specs.Calls as mean
-use Rattle.zpl_meaning.specs.Calls.{Handed}
-use Rattle.flat_form.specs.Whole.{Whole}
-use Rattle.zpl_lowering.specs.Where.{Stored}
-use Rattle.zpl_lowering.specs.Statement.{Given, Valued, Copied, Referring}
-use Rattle.zpl_lowering.specs.Program.{Framed}
+use Rattle.lowering_fits.specs.of_zpl_meaning.Variables.{Frame}
+use Rattle.lowering_fits.specs.of_zpl_meaning.Calls as mean
+use Rattle.lowering_fits.specs.of_zpl_meaning.Calls.{Handed}
+use Rattle.lowering_fits.specs.of_flat_form.Whole.{Whole}
+use Rattle.lowering_fits.specs.of_zpl_lowering.Where.{Stored}
+use Rattle.lowering_fits.specs.of_zpl_lowering.Statement.{Given, Valued, Copied, Referring}
+use Rattle.lowering_fits.specs.of_zpl_lowering.Program.{Framed}
 use Rattle.lowering_runs.specs.Seen.{scalar_in, array_in, Spot, numbered, seen_thing, seen_names, seen_store}
 use Rattle.lowering_runs.specs.Stands.{Rises, IsKnown, AreKnown}
 

@@ -2,21 +2,21 @@
 use Rattle.std.specs.Prelude.{ℕ, ◌+◌, List, length}
 use Rattle.zpl_tree.specs.Syntax.{Expr}
 use Rattle.zpl_names.specs.Counts.{expr_nodes}
-use Rattle.zpl_meaning.specs.Store.{Store}
-use Rattle.zpl_meaning.specs.Context.{Place}
-use Rattle.zpl_meaning.specs.Outcome.{Outcome}
-use Rattle.zpl_meaning.specs.Calls.{Called}
-use Rattle.zpl_meaning.specs.Phases.{scalars_in}
-use Rattle.zpl_meaning.specs.Statement as mean
-use Rattle.zpl_meaning.specs.Statement.{Context}
+use Rattle.lowering_fits.specs.of_zpl_meaning.Store.{Store}
+use Rattle.lowering_fits.specs.of_zpl_meaning.Context.{Place}
+use Rattle.lowering_fits.specs.of_zpl_meaning.Outcome.{Outcome}
+use Rattle.lowering_fits.specs.of_zpl_meaning.Calls.{Called}
+use Rattle.lowering_fits.specs.of_zpl_meaning.Phases.{scalars_in}
+use Rattle.lowering_fits.specs.of_zpl_meaning.Statement as mean
+use Rattle.lowering_fits.specs.of_zpl_meaning.Statement.{Context}
 use Rattle.node_form.specs.declared.tables.Tables.{Tables}
 use Rattle.row_runs.specs.Straight.{Every}
-use Rattle.flat_form.specs.Whole.{Whole}
-use Rattle.zpl_lowering.specs.Where.{Where, Next, line_of}
-use Rattle.zpl_lowering.specs.Slate.{Placed}
-use Rattle.zpl_lowering.specs.Lowered.{Lowered, phased}
-use Rattle.zpl_lowering.specs.Statement as low
-use Rattle.zpl_lowering.specs.Statement.{Calling, Lowering}
+use Rattle.lowering_fits.specs.of_flat_form.Whole.{Whole}
+use Rattle.lowering_fits.specs.of_zpl_lowering.Where.{Where, Next, line_of}
+use Rattle.lowering_fits.specs.of_zpl_lowering.Slate.{Placed}
+use Rattle.lowering_fits.specs.of_zpl_lowering.Lowered.{Lowered, phased}
+use Rattle.lowering_fits.specs.of_zpl_lowering.Statement as low
+use Rattle.lowering_fits.specs.of_zpl_lowering.Statement.{Calling, Lowering}
 use Rattle.lowering_runs.specs.Seen.{Sight, seen_place}
 use Rattle.lowering_runs.specs.Run.{decide, does}
 use Rattle.lowering_runs.specs.Heads.{Heads}

@@ -3,11 +3,11 @@ use Rattle.std.specs.Prelude.{◌≡◌, ℕ, ◌≤◌, ℤ, []}
 use Rattle.zpl_nums.specs.declared.ends.End.TheVariants.{Trap}
 use Rattle.zpl_nums.specs.declared.ends.TrapKind.{TrapKind}
 use Rattle.zpl_nums.specs.Integer.{is_true}
-use Rattle.zpl_meaning.specs.Computed.{Computed, Gives, Traps}
+use Rattle.lowering_fits.specs.of_zpl_meaning.Computed.{Computed, Gives, Traps}
 use Rattle.row_runs.specs.Run.{Ends}
 use Rattle.row_runs.specs.Code.{Decision, Says, Fails}
 use Rattle.row_runs.specs.Structured.{Course, GoesOn, Over}
-use Rattle.flat_form.specs.Whole.{Whole}
+use Rattle.lowering_fits.specs.of_flat_form.Whole.{Whole}
 
 -- what a test of this value says, at a line
 abbrev pub says_of : ℕ → Computed ℤ → Decision

@@ -5,13 +5,13 @@ use Rattle.zpl_tree.specs.Syntax.{Name, Expr, Exprs, NoExpr, ThenExpr, Item, Str
 use Rattle.zpl_names.specs.Kinds.{Formal, ScalarFormal, ArrayFormal}
 use Rattle.zpl_names.specs.Scope.{kind_of}
 use Rattle.zpl_names.specs.Sites.{Printed}
-use Rattle.zpl_meaning.specs.Store.{Store, thing_of}
-use Rattle.zpl_meaning.specs.Context.{Setup, Place, reach_of, rank_in}
-use Rattle.zpl_meaning.specs.Points.{assigned_expr}
-use Rattle.zpl_meaning.specs.Calls.{formals_in, actual_thing, handed_on, value_exprs}
-use Rattle.zpl_meaning.specs.Proper.{IsTarget}
-use Rattle.zpl_meaning.specs.Visited.{IsVisitedCall}
-use Rattle.zpl_lowering.specs.Where.{Where}
+use Rattle.lowering_fits.specs.of_zpl_meaning.Store.{Store, thing_of}
+use Rattle.lowering_fits.specs.of_zpl_meaning.Context.{Setup, Place, reach_of, rank_in}
+use Rattle.lowering_fits.specs.of_zpl_meaning.Points.{assigned_expr}
+use Rattle.lowering_fits.specs.of_zpl_meaning.Calls.{formals_in, actual_thing, handed_on, value_exprs}
+use Rattle.lowering_fits.specs.of_zpl_meaning.Proper.{IsTarget}
+use Rattle.lowering_fits.specs.of_zpl_meaning.Visited.{IsVisitedCall}
+use Rattle.lowering_fits.specs.of_zpl_lowering.Where.{Where}
 use Rattle.lowering_runs.specs.Scalars.{IsScalarExpr, IsScalarAt}
 
 -- a scalar is assigned

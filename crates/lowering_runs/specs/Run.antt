@@ -4,11 +4,11 @@ use Rattle.node_form.specs.declared.tables.Tables.{Tables}
 use Rattle.row_runs.specs.Run.{Step, Goes, Stops, Wrong, Effect, Does, Leaps, Passes}
 use Rattle.row_runs.specs.Code.{Decision, Says, Fails}
 use Rattle.row_runs.specs.Structured.{Piece, Course, doing}
-use Rattle.flat_form.specs.Row as row
-use Rattle.flat_form.specs.Row.{Row}
-use Rattle.flat_form.specs.Whole.{Whole}
-use Rattle.flat_form.specs.Act.{act}
-use Rattle.zpl_lowering.specs.Check.{Check}
+use Rattle.lowering_fits.specs.of_flat_form.Row as row
+use Rattle.lowering_fits.specs.of_flat_form.Row.{Row}
+use Rattle.lowering_fits.specs.of_flat_form.Whole.{Whole}
+use Rattle.lowering_fits.specs.of_flat_form.Act.{act}
+use Rattle.lowering_fits.specs.of_zpl_lowering.Check.{Check}
 
 -- no straight row leaps
 abbrev pub straight : Effect Whole → Step Whole

@@ -3,9 +3,9 @@
 use Rattle.std.specs.Prelude.{◌≡◌, ℕ, zero, suc, false, List, [], ◌∷◌, Some}
 use Rattle.zpl_nums.specs.Integer.{IsInteger}
 use Rattle.std.specs.Prelude.{pos}
-use Rattle.zpl_binding.specs.Outcome.{value_or, outcome_of}
-use Rattle.zpl_binding.specs.Settings.{Setting}
-use Rattle.zpl_binding.specs.Declarations.{known_of}
+use Rattle.lowering_fits.specs.of_zpl_binding.Outcome.{value_or, outcome_of}
+use Rattle.lowering_fits.specs.of_zpl_binding.Settings.{Setting}
+use Rattle.lowering_fits.specs.of_zpl_binding.Declarations.{known_of}
 use Rattle.zpl_tree.specs.Syntax.{Decl, Vars, Config, Constant, Regions, Directions, Defined, Exprs, NoExpr, ThenExpr, Item, Str, Value, Stmt, Prefixed, Stmts, NoStmt, ThenStmt, Form, Assign, Invoke, Block, If, While, Repeat, For, Border, Write, Return, Arm, Tested, Arms, NoArm, ThenArm, Otherwise, NoElse, Else, Program}
 use Rattle.zpl_names.specs.Kinds.{Formal, ScalarFormal, ArrayFormal}
 use Rattle.zpl_names.specs.Scope.{kind_of}
@@ -13,10 +13,10 @@ use Rattle.zpl_names.specs.Shapes.{unknown_shapes}
 use Rattle.zpl_names.specs.Sites.{Reach, in_body, Assigned, Printed, whole_rank, handed, is_shattered}
 use Rattle.zpl_names.specs.Declared.{Routine, routine_named, scope_of}
 use Rattle.zpl_names.specs.Reached.{longest_chain}
-use Rattle.zpl_meaning.specs.Points.{assigned_expr}
-use Rattle.zpl_meaning.specs.Calls.{formals_in}
-use Rattle.zpl_meaning.specs.Proper.{HasNoPrefix}
-use Rattle.zpl_meaning.specs.Statement.{step_expr}
+use Rattle.lowering_fits.specs.of_zpl_meaning.Points.{assigned_expr}
+use Rattle.lowering_fits.specs.of_zpl_meaning.Calls.{formals_in}
+use Rattle.lowering_fits.specs.of_zpl_meaning.Proper.{HasNoPrefix}
+use Rattle.lowering_fits.specs.of_zpl_meaning.Statement.{step_expr}
 use Rattle.lowering_runs.specs.Scalars.{IsScalarExpr}
 use Rattle.lowering_runs.specs.Frames.{AreScalarLocals}
 

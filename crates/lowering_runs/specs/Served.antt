@@ -1,8 +1,8 @@
 -- Statements of scalars, where a program is run.
 use Rattle.std.specs.Prelude.{◌≡◌, ℕ, List, [], Contains}
 use Rattle.zpl_tree.specs.Syntax.{Stmt, Prefixed, Stmts, Form}
-use Rattle.zpl_meaning.specs.Context.{Setup, Place, reach_of}
-use Rattle.zpl_meaning.specs.Visited.{IsVisited, list_of}
+use Rattle.lowering_fits.specs.of_zpl_meaning.Context.{Setup, Place, reach_of}
+use Rattle.lowering_fits.specs.of_zpl_meaning.Visited.{IsVisited, list_of}
 use Rattle.lowering_runs.specs.ScalarText.{IsScalarStmt, AreScalarStmts, IsScalarForm}
 
 module _ (setup : Setup) (IsCallable : List ℕ → Type 0) where

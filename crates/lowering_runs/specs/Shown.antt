@@ -1,7 +1,7 @@
 -- What a flat run shows of a meaning.
 use Rattle.std.specs.Prelude.{◌≡◌, ◌≢◌, ℕ, ◌+◌, ◌*◌, ◌≤◌}
 use Rattle.zpl_nums.specs.declared.ends.End.TheVariants.{More}
-use Rattle.zpl_meaning.specs.Outcome.{Outcome}
+use Rattle.lowering_fits.specs.of_zpl_meaning.Outcome.{Outcome}
 use Rattle.row_runs.specs.Run.{Ends, Result}
 
 abbrev pub shown : Outcome → Result

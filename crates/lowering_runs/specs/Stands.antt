@@ -2,22 +2,22 @@
 -- code keeps of it.
 use Rattle.std.specs.Prelude.{◌≡◌, ◌≢◌, ℕ, suc, ◌+◌, ◌<◌, ◌≤◌, Bool, true, List, [], ◌∷◌, length, map, Option, Some, None, slice_get}
 use Rattle.zpl_nums.specs.Integer.{IsInteger}
-use Rattle.zpl_binding.specs.Outcome.{Computed, value_or}
-use Rattle.zpl_binding.specs.Regions.{Known, no_region}
+use Rattle.lowering_fits.specs.of_zpl_binding.Outcome.{Computed, value_or}
+use Rattle.lowering_fits.specs.of_zpl_binding.Regions.{Known, no_region}
 use Rattle.zpl_region.specs.declared.regions.Region.{Region}
 use Rattle.zpl_region.specs.Region.{IsRegion}
-use Rattle.zpl_meaning.specs.Store.{Thing, Scalar, ArrayAt, Fixed, Names, Store}
+use Rattle.lowering_fits.specs.of_zpl_meaning.Store.{Thing, Scalar, ArrayAt, Fixed, Names, Store}
 use Rattle.node_form.specs.declared.arrays.ArrayRow.{ArrayRow}
 use Rattle.node_form.specs.declared.tables.Tables.{Tables}
 use Rattle.node_form.specs.Fits.{storage_of}
 use Rattle.row_runs.specs.Straight.{Every}
-use Rattle.flat_form.specs.Whole.{Whole}
-use Rattle.flat_form.specs.States.{IsWhole}
-use Rattle.flat_form.specs.Right.{is_settled}
-use Rattle.zpl_lowering.specs.Where.{Stored, Slotted, SlotCurrents, SlotEdge, Where, Next, flood_of}
-use Rattle.zpl_lowering.specs.Hoist.{Shifted}
-use Rattle.zpl_lowering.specs.Lowered.{Lowered}
-use Rattle.zpl_lowering.specs.Tables.{stored_row, temp_row}
+use Rattle.lowering_fits.specs.of_flat_form.Whole.{Whole}
+use Rattle.lowering_fits.specs.of_flat_form.States.{IsWhole}
+use Rattle.lowering_fits.specs.of_flat_form.Right.{is_settled}
+use Rattle.lowering_fits.specs.of_zpl_lowering.Where.{Stored, Slotted, SlotCurrents, SlotEdge, Where, Next, flood_of}
+use Rattle.lowering_fits.specs.of_zpl_lowering.Hoist.{Shifted}
+use Rattle.lowering_fits.specs.of_zpl_lowering.Lowered.{Lowered}
+use Rattle.lowering_fits.specs.of_zpl_lowering.Tables.{stored_row, temp_row}
 use Rattle.lowering_runs.specs.Seen.{array_in, scalar_in, slot_in, Spot, seen_store, seen_names, numbered}
 
 -- ---- numbers

@@ -4,12 +4,12 @@
 use Rattle.std.specs.Prelude.{◌≡◌, ◌⊎◌, ℕ, Bool, false, List}
 use Rattle.zpl_tree.specs.Syntax.{Expr, Prefix, ForHead, Stmt, Prefixed, Stmts, NoStmt, ThenStmt, Form, Assign, Invoke, Block, If, While, Repeat, For, Border, Write, Return, Arm, Tested, Arms, NoArm, ThenArm, Otherwise, NoElse, Else}
 use Rattle.zpl_names.specs.Sites.{is_shattered}
-use Rattle.zpl_meaning.specs.Store.{thing_of}
-use Rattle.zpl_meaning.specs.Context.{Place, reach_of}
-use Rattle.zpl_meaning.specs.Proper.{IsVariable}
-use Rattle.zpl_meaning.specs.Statement.{step_expr}
-use Rattle.zpl_lowering.specs.Where.{Where}
-use Rattle.zpl_lowering.specs.Statement.{is_border}
+use Rattle.lowering_fits.specs.of_zpl_meaning.Store.{thing_of}
+use Rattle.lowering_fits.specs.of_zpl_meaning.Context.{Place, reach_of}
+use Rattle.lowering_fits.specs.of_zpl_meaning.Proper.{IsVariable}
+use Rattle.lowering_fits.specs.of_zpl_meaning.Statement.{step_expr}
+use Rattle.lowering_fits.specs.of_zpl_lowering.Where.{Where}
+use Rattle.lowering_fits.specs.of_zpl_lowering.Statement.{is_border}
 use Rattle.lowering_runs.specs.Scalars.{IsScalarAt}
 
 -- What is asked of a `for`, beside its body: of its bounds and its step, and of its variable.

@@ -4,12 +4,12 @@ use Rattle.zpl_nums.specs.declared.ends.End.TheVariants.{Trap}
 use Rattle.zpl_nums.specs.declared.ends.TrapKind.{TrapKind}
 use Rattle.zpl_nums.specs.Integer.{IsInteger}
 use Rattle.zpl_names.specs.Counts.{expr_nodes}
-use Rattle.zpl_meaning.specs.Computed.{Computed, Gives, Traps}
-use Rattle.zpl_meaning.specs.Settled as mean
+use Rattle.lowering_fits.specs.of_zpl_meaning.Computed.{Computed, Gives, Traps}
+use Rattle.lowering_fits.specs.of_zpl_meaning.Settled as mean
 use Rattle.row_runs.specs.Run.{Ends}
 use Rattle.row_runs.specs.Structured.{Course, GoesOn, Over}
-use Rattle.flat_form.specs.Whole.{Whole}
-use Rattle.zpl_lowering.specs.Slate.{Placed}
+use Rattle.lowering_fits.specs.of_flat_form.Whole.{Whole}
+use Rattle.lowering_fits.specs.of_zpl_lowering.Slate.{Placed}
 use Rattle.lowering_runs.specs.Seen.{scalar_in}
 
 -- the same expressions in the meaning

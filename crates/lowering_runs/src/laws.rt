@@ -5,17 +5,17 @@ ghost use Rattle.std.specs.Prelude.{◌≡◌, ◌≢◌, ℕ, List};
 ghost use Rattle.zpl_tree.specs.Syntax.{Program, Stmt};
 ghost use Rattle.zpl_tree.specs.Grammar.{IsProgram};
 ghost use Rattle.zpl_names.specs.Accepted.{IsFaultless};
-ghost use Rattle.zpl_binding.specs.Settings.{Setting};
-ghost use Rattle.zpl_meaning.specs.Context.{Place, Setup};
-ghost use Rattle.zpl_meaning.specs.Program.{outcome_of};
-ghost use Rattle.zpl_meaning.specs.Proper.{IsProperStmt};
-ghost use Rattle.zpl_meaning.specs.Statement.{exec};
-ghost use Rattle.zpl_meaning.specs.Visited.{IsVisited};
+ghost use Rattle.lowering_fits.specs.of_zpl_binding.Settings.{Setting};
+ghost use Rattle.lowering_fits.specs.of_zpl_meaning.Context.{Place, Setup};
+ghost use Rattle.lowering_fits.specs.of_zpl_meaning.Program.{outcome_of};
+ghost use Rattle.lowering_fits.specs.of_zpl_meaning.Proper.{IsProperStmt};
+ghost use Rattle.lowering_fits.specs.of_zpl_meaning.Statement.{exec};
+ghost use Rattle.lowering_fits.specs.of_zpl_meaning.Visited.{IsVisited};
 ghost use Rattle.node_form.specs.declared.tables.Tables.{Tables as Code};
 ghost use Rattle.row_runs.specs.Run.{Wrong};
-ghost use Rattle.flat_form.specs.Act.{flat_run};
-ghost use Rattle.zpl_lowering.specs.Statement.{lowered};
-ghost use Rattle.zpl_lowering.specs.Tables.{flat_tables};
+ghost use Rattle.lowering_fits.specs.of_flat_form.Act.{flat_run};
+ghost use Rattle.lowering_fits.specs.of_zpl_lowering.Statement.{lowered};
+ghost use Rattle.lowering_fits.specs.of_zpl_lowering.Tables.{flat_tables};
 ghost use Rattle.lowering_runs.specs.Called.{CallsAgree, world_at};
 ghost use Rattle.lowering_runs.specs.Goes.{Goes, World};
 ghost use Rattle.lowering_runs.specs.ScalarText.{IsScalarCall, IsScalarProgram};
@@ -23,7 +23,7 @@ ghost use Rattle.lowering_runs.specs.Served.{IsServed};
 ghost use Rattle.lowering_runs.specs.Shown.{Shows};
 
 use lowering_fits::all_code_is_numbered;
-use zpl_meaning::no_stand_in_is_met;
+use lowering_fits::zpl_meaning::no_stand_in_is_met;
 
 /// Names of procedures that may be called. No program calls this: laws are said of it.
 pub trait Callables {

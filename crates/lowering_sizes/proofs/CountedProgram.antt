@@ -37,7 +37,7 @@ use Rattle.zpl_lowering.specs.Lowered.{behind}
 use Rattle.zpl_lowering.specs.Statement.{Calling, Lowering, given_to, lowered, lowered_all, lowered_form}
 use Rattle.zpl_lowering.specs.Program.{Entry, where_in, reads_round, in_call, routine_code, call_code, region_rows, global_numbers, globals_made, first_next, entry_calling, entry_code, lowered_program, Framed}
 use Rattle.zpl_lowering.specs.Tables.{flat_tables, rows_of, unshared_tables}
-use Rattle.lowering_fits.specs.Whole.{body_frames}
+use Rattle.array_numbers.specs.of_lowering_fits.Whole.{body_frames}
 use Rattle.array_numbers.specs.Calls.{IsLoweredCall, Called, Entered}
 use Rattle.array_numbers.proofs.PlainLemmas.{plain_reads}
 use Rattle.lowering_sizes.specs.Sizes.{HasTokens}

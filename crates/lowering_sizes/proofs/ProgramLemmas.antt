@@ -17,7 +17,7 @@ use Rattle.zpl_lowering.specs.Where.{Stored, Next}
 use Rattle.zpl_lowering.specs.Lowered.{Lowered, rows_alone, behind, both}
 use Rattle.zpl_lowering.specs.Statement.{Given, Valued, Copied, Referring, Calling, Lowering, lowered, lowered_all, lowered_form}
 use Rattle.zpl_lowering.specs.Program.{Framed, with_scalar, with_array, Entry, zero_row, clear_row, made_copy, given_code, givens_code, local_code, names_code, locals_code, where_in, body_code, reads_round, in_call, out_of_call, routine_code, call_code}
-use Rattle.lowering_fits.specs.Whole.{Frames, body_frames, given_frame, given_frames, local_frame, local_frames, name_frames}
+use Rattle.array_numbers.specs.of_lowering_fits.Whole.{Frames, body_frames, given_frame, given_frames, local_frame, local_frames, name_frames}
 use Rattle.lowering_sizes.proofs.Costs.{cost, cost_both}
 use Rattle.lowering_sizes.proofs.Weights.{rows_weight}
 use Rattle.lowering_sizes.proofs.LaidOut.{weight}

@@ -30,7 +30,7 @@ use Rattle.zpl_lowering.specs.Lowered.{behind}
 use Rattle.zpl_lowering.specs.Program.{Entry, body_code, reads_round, in_call, routine_code, call_code, region_rows, global_numbers, globals_made, first_next, entry_calling, entry_code, lowered_program}
 use Rattle.zpl_lowering.specs.Tables.{flat_tables, unshared_tables}
 use Rattle.lowering_sizes.specs.Sizes.{HoldsItsWords}
-use Rattle.lowering_fits.specs.Whole.{body_frames}
+use Rattle.array_numbers.specs.of_lowering_fits.Whole.{body_frames}
 use Rattle.lowering_sizes.proofs.Costs.{cost, no_text}
 use Rattle.lowering_sizes.proofs.Weights.{rows_weight}
 use Rattle.lowering_sizes.proofs.LaidOut.{weight, tables_size}

@@ -6,38 +6,38 @@ use Rattle.std.specs.Prelude.{is_some, slice_set}
 use Rattle.std.proofs.lemmas.List.{get_or-set_same, get_or-take}
 use Rattle.zpl_nums.specs.declared.ends.End.{End}
 use Rattle.zpl_nums.specs.declared.ends.End.TheVariants.{Done, Trap, More}
-use Rattle.zpl_tree.specs.Syntax.{Name, Expr, Call, Exprs, Prefix, Program, Stmt, Prefixed, Stmts}
-use Rattle.zpl_tree.specs.Syntax.{NoStmt, ThenStmt, Form, Assign, Invoke, Block, If, While, Repeat}
-use Rattle.zpl_tree.specs.Syntax.{For, Border, Write, Return, Decl, Config, Constant, Regions}
-use Rattle.zpl_tree.specs.Syntax.{Directions, Vars, Defined}
-use Rattle.zpl_tree.specs.Grammar.{IsProgram}
-use Rattle.zpl_names.specs.Kinds as kind
-use Rattle.zpl_names.specs.Kinds.{Kind, Signature}
-use Rattle.zpl_names.specs.Scope.{Entry, kind_of, is_array, is_procedure}
-use Rattle.zpl_names.specs.Shapes.{Shapes}
-use Rattle.zpl_names.specs.Declared.{Routine, routines_behind, routines_of}
-use Rattle.zpl_names.specs.Declared.{routine_named, with_decl, with_procedure}
-use Rattle.zpl_names.specs.Sites.{Site, AtProcedure, each_sites, decl_sites, head_sites}
-use Rattle.zpl_names.specs.Sites.{text_sites, Result, Elsewhere, AsValue, AtCall}
-use Rattle.zpl_names.specs.Sites.{Reach, call_place}
-use Rattle.zpl_names.specs.Faults.{answers, ends_in_return, body_returns}
-use Rattle.zpl_names.specs.Accepted.{IsFaultless, HasNoFault}
-use Rattle.zpl_names.proofs.ListLemmas.{Among, Contains-from_among}
-use Rattle.zpl_names.proofs.NameLemmas.{no_place}
-use Rattle.zpl_names.proofs.FaultlessLemmas.{left-among, right-among}
-use Rattle.zpl_binding.specs.Settings.{Setting}
-use Rattle.zpl_meaning.specs.Computed.{Computed, Gives, Traps}
-use Rattle.zpl_meaning.specs.Store.{Store, scalar_at, with_scalar, cut_back}
-use Rattle.zpl_meaning.specs.Context.{Over, Place, Setup}
-use Rattle.zpl_meaning.specs.Regions.{over_in, under_prefix}
-use Rattle.zpl_meaning.specs.Phases.{scalar_in}
-use Rattle.zpl_meaning.specs.Outcome.{Outcome, then_do, then_at, with_value, goes_on}
-use Rattle.zpl_meaning.specs.Calls.{Called}
-use Rattle.zpl_meaning.specs.Statement.{Context, exec, exec_all, under, line_of}
-use Rattle.zpl_meaning.specs.Program.{call_at, run_routine}
-use Rattle.zpl_meaning.specs.Visited.{first_setup, body_place, IsCall, IsUnder, IsVisited}
-use Rattle.zpl_meaning.proofs.ProperLemmas.{IsClean, not_false, reach_at}
-use Rattle.zpl_meaning.proofs.VisitLemmas.{Laws, Inside, InStmt, visited_proper}
+use Rattle.meaning_runs.specs.of_zpl_tree.Syntax.{Name, Expr, Call, Exprs, Prefix, Program, Stmt, Prefixed, Stmts}
+use Rattle.meaning_runs.specs.of_zpl_tree.Syntax.{NoStmt, ThenStmt, Form, Assign, Invoke, Block, If, While, Repeat}
+use Rattle.meaning_runs.specs.of_zpl_tree.Syntax.{For, Border, Write, Return, Decl, Config, Constant, Regions}
+use Rattle.meaning_runs.specs.of_zpl_tree.Syntax.{Directions, Vars, Defined}
+use Rattle.meaning_runs.specs.of_zpl_tree.Grammar.{IsProgram}
+use Rattle.meaning_runs.specs.of_zpl_names.Kinds as kind
+use Rattle.meaning_runs.specs.of_zpl_names.Kinds.{Kind, Signature}
+use Rattle.meaning_runs.specs.of_zpl_names.Scope.{Entry, kind_of, is_array, is_procedure}
+use Rattle.meaning_runs.specs.of_zpl_names.Shapes.{Shapes}
+use Rattle.meaning_runs.specs.of_zpl_names.Declared.{Routine, routines_behind, routines_of}
+use Rattle.meaning_runs.specs.of_zpl_names.Declared.{routine_named, with_decl, with_procedure}
+use Rattle.meaning_runs.specs.of_zpl_names.Sites.{Site, AtProcedure, each_sites, decl_sites, head_sites}
+use Rattle.meaning_runs.specs.of_zpl_names.Sites.{text_sites, Result, Elsewhere, AsValue, AtCall}
+use Rattle.meaning_runs.specs.of_zpl_names.Sites.{Reach, call_place}
+use Rattle.meaning_runs.specs.of_zpl_names.Faults.{answers, ends_in_return, body_returns}
+use Rattle.meaning_runs.specs.of_zpl_names.Accepted.{IsFaultless, HasNoFault}
+use Rattle.meaning_runs.proofs.of_zpl_names.ListLemmas.{Among, Contains-from_among}
+use Rattle.meaning_runs.proofs.of_zpl_names.NameLemmas.{no_place}
+use Rattle.meaning_runs.proofs.of_zpl_names.FaultlessLemmas.{left-among, right-among}
+use Rattle.meaning_runs.specs.of_zpl_binding.Settings.{Setting}
+use Rattle.meaning_runs.specs.of_zpl_meaning.Computed.{Computed, Gives, Traps}
+use Rattle.meaning_runs.specs.of_zpl_meaning.Store.{Store, scalar_at, with_scalar, cut_back}
+use Rattle.meaning_runs.specs.of_zpl_meaning.Context.{Over, Place, Setup}
+use Rattle.meaning_runs.specs.of_zpl_meaning.Regions.{over_in, under_prefix}
+use Rattle.meaning_runs.specs.of_zpl_meaning.Phases.{scalar_in}
+use Rattle.meaning_runs.specs.of_zpl_meaning.Outcome.{Outcome, then_do, then_at, with_value, goes_on}
+use Rattle.meaning_runs.specs.of_zpl_meaning.Calls.{Called}
+use Rattle.meaning_runs.specs.of_zpl_meaning.Statement.{Context, exec, exec_all, under, line_of}
+use Rattle.meaning_runs.specs.of_zpl_meaning.Program.{call_at, run_routine}
+use Rattle.meaning_runs.specs.of_zpl_meaning.Visited.{first_setup, body_place, IsCall, IsUnder, IsVisited}
+use Rattle.meaning_runs.proofs.of_zpl_meaning.ProperLemmas.{IsClean, not_false, reach_at}
+use Rattle.meaning_runs.proofs.of_zpl_meaning.VisitLemmas.{Laws, Inside, InStmt, visited_proper}
 use Rattle.meaning_runs.specs.Runner.{runner_at}
 use Rattle.meaning_runs.specs.Comes.{ComesInAll, First, Later, InBlock}
 use Rattle.meaning_runs.specs.Held.{HasResult}
@@ -47,7 +47,7 @@ use Rattle.meaning_runs.proofs.VisitedLemmas.{met_visited}
 use Rattle.meaning_ranks.specs.Answered.{HasAnswered}
 use Rattle.meaning_ranks.proofs.PlaceLemmas.{behind, inside_at, visited_at, proper_called}
 use Rattle.meaning_ranks.proofs.PlaceLemmas.{proper_behind, found_routine}
-use Rattle.zpl_meaning.proofs.StatementLemmas.{and_false}
+use Rattle.meaning_runs.proofs.of_zpl_meaning.StatementLemmas.{and_false}
 
 -- ---- runs that end normally
 

@@ -7,12 +7,12 @@ use Rattle.std.proofs.lemmas.List.Elements.{recursion_from_All}
 use Rattle.zpl_nums.specs.declared.ends.Border.{Border as BorderKind}
 use Rattle.zpl_nums.specs.declared.ends.End.{End}
 use Rattle.zpl_nums.specs.declared.ends.End.TheVariants.{Done, Trap, More}
-use Rattle.zpl_tree.specs.Syntax.{Name}
-use Rattle.zpl_meaning.specs.Store.{Thing, Scalar, ArrayAt, Fixed, Names, Store, thing_of}
-use Rattle.zpl_meaning.specs.Context.{Edge, Place}
-use Rattle.zpl_meaning.specs.Proper.{IsArray, AreArrays}
-use Rattle.zpl_meaning.specs.Outcome.{Outcome, then_do, then_at, goes_on}
-use Rattle.zpl_meaning.specs.Statement.{more_borders}
+use Rattle.meaning_runs.specs.of_zpl_tree.Syntax.{Name}
+use Rattle.meaning_runs.specs.of_zpl_meaning.Store.{Thing, Scalar, ArrayAt, Fixed, Names, Store, thing_of}
+use Rattle.meaning_runs.specs.of_zpl_meaning.Context.{Edge, Place}
+use Rattle.meaning_runs.specs.of_zpl_meaning.Proper.{IsArray, AreArrays}
+use Rattle.meaning_runs.specs.of_zpl_meaning.Outcome.{Outcome, then_do, then_at, goes_on}
+use Rattle.meaning_runs.specs.of_zpl_meaning.Statement.{more_borders}
 use Rattle.meaning_runs.specs.Held.{HasThing, HasPlaces}
 use Rattle.meaning_runs.specs.Kept.{IsNoShorter}
 use Rattle.meaning_runs.proofs.KeepLemmas.{same_store, and_then, borders_keep}

@@ -9,41 +9,41 @@ use Rattle.std.specs.List.{AllByRecursion}
 use Rattle.zpl_region.specs.declared.dims.Dim.{Dim}
 use Rattle.zpl_region.specs.declared.dims.Dim.TheVariants.{Flood}
 use Rattle.zpl_region.specs.declared.regions.Region.{Region}
-use Rattle.zpl_tree.specs.Syntax.{Name, Prefix}
-use Rattle.zpl_tree.specs.Syntax.{Inner, Rexpr, Dims, NamedRegion, Ditto, Blank, Star}
-use Rattle.zpl_tree.specs.Syntax.{Named, One, Span, DimTexts, NoDim, ThenDim, Base}
-use Rattle.zpl_tree.specs.Syntax.{Mask as MaskText}
-use Rattle.zpl_tree.specs.Grammar.{IsPrefix}
-use Rattle.zpl_names.specs.Kinds.{Rank, Shape}
-use Rattle.zpl_names.specs.Scope.{kind_of}
-use Rattle.zpl_names.specs.Ranks.{inner_rank, is_index, region_shape, known_rank, mask_rank}
-use Rattle.zpl_names.specs.Ranks.{at_most_three, dims_count}
-use Rattle.zpl_names.specs.Shapes.{Current, Absent, Unknown, Over as Shaped, Shapes}
-use Rattle.zpl_names.specs.Shapes.{current_at, current_of, with_current, current_over}
-use Rattle.zpl_names.specs.Shapes.{dim_of_current, dims_shape, with_dim, shape_within, inner_shape}
-use Rattle.zpl_names.specs.Shapes.{shape_of_current, prefix_rank, shapes_under}
-use Rattle.zpl_names.specs.Sites.{Reach, AtRegion, AtMask, region_sites}
-use Rattle.zpl_names.specs.Sites.{prefix_sites, prefixes_sites, under_prefixes}
-use Rattle.zpl_names.specs.Sites.{under_prefix as reach_under}
-use Rattle.zpl_names.specs.Faults.{lacks_region, is_absent, blanks, is_masked}
-use Rattle.zpl_names.proofs.NameLemmas.{no_place}
-use Rattle.zpl_binding.specs.Outcome as bound
-use Rattle.zpl_binding.specs.Regions.{region_named}
-use Rattle.zpl_meaning.specs.Computed.{Computed, Gives, Traps, computed_then}
-use Rattle.zpl_meaning.specs.Store.{Store}
-use Rattle.zpl_meaning.specs.Context.{Over, Currents, over_at, over_or, with_over, Place}
-use Rattle.zpl_meaning.specs.Regions.{current_for, mask_in, name_in, over_in, region_in}
-use Rattle.zpl_meaning.specs.Regions.{under_prefix}
-use Rattle.zpl_meaning.specs.Proper.{IsArrayRank}
-use Rattle.zpl_meaning.proofs.DepthLemmas.{each_left, each_right}
-use Rattle.zpl_meaning.proofs.ProperLemmas.{IsClean, Clean, Fits as FitsPlace, reach_at}
-use Rattle.zpl_meaning.proofs.ProperLemmas.{RankLaws}
-use Rattle.zpl_meaning.proofs.StatementLemmas.{fits_under, prefix_proper}
+use Rattle.meaning_runs.specs.of_zpl_tree.Syntax.{Name, Prefix}
+use Rattle.meaning_runs.specs.of_zpl_tree.Syntax.{Inner, Rexpr, Dims, NamedRegion, Ditto, Blank, Star}
+use Rattle.meaning_runs.specs.of_zpl_tree.Syntax.{Named, One, Span, DimTexts, NoDim, ThenDim, Base}
+use Rattle.meaning_runs.specs.of_zpl_tree.Syntax.{Mask as MaskText}
+use Rattle.meaning_runs.specs.of_zpl_tree.Grammar.{IsPrefix}
+use Rattle.meaning_runs.specs.of_zpl_names.Kinds.{Rank, Shape}
+use Rattle.meaning_runs.specs.of_zpl_names.Scope.{kind_of}
+use Rattle.meaning_runs.specs.of_zpl_names.Ranks.{inner_rank, is_index, region_shape, known_rank, mask_rank}
+use Rattle.meaning_runs.specs.of_zpl_names.Ranks.{at_most_three, dims_count}
+use Rattle.meaning_runs.specs.of_zpl_names.Shapes.{Current, Absent, Unknown, Over as Shaped, Shapes}
+use Rattle.meaning_runs.specs.of_zpl_names.Shapes.{current_at, current_of, with_current, current_over}
+use Rattle.meaning_runs.specs.of_zpl_names.Shapes.{dim_of_current, dims_shape, with_dim, shape_within, inner_shape}
+use Rattle.meaning_runs.specs.of_zpl_names.Shapes.{shape_of_current, prefix_rank, shapes_under}
+use Rattle.meaning_runs.specs.of_zpl_names.Sites.{Reach, AtRegion, AtMask, region_sites}
+use Rattle.meaning_runs.specs.of_zpl_names.Sites.{prefix_sites, prefixes_sites, under_prefixes}
+use Rattle.meaning_runs.specs.of_zpl_names.Sites.{under_prefix as reach_under}
+use Rattle.meaning_runs.specs.of_zpl_names.Faults.{lacks_region, is_absent, blanks, is_masked}
+use Rattle.meaning_runs.proofs.of_zpl_names.NameLemmas.{no_place}
+use Rattle.meaning_runs.specs.of_zpl_binding.Outcome as bound
+use Rattle.meaning_runs.specs.of_zpl_binding.Regions.{region_named}
+use Rattle.meaning_runs.specs.of_zpl_meaning.Computed.{Computed, Gives, Traps, computed_then}
+use Rattle.meaning_runs.specs.of_zpl_meaning.Store.{Store}
+use Rattle.meaning_runs.specs.of_zpl_meaning.Context.{Over, Currents, over_at, over_or, with_over, Place}
+use Rattle.meaning_runs.specs.of_zpl_meaning.Regions.{current_for, mask_in, name_in, over_in, region_in}
+use Rattle.meaning_runs.specs.of_zpl_meaning.Regions.{under_prefix}
+use Rattle.meaning_runs.specs.of_zpl_meaning.Proper.{IsArrayRank}
+use Rattle.meaning_runs.proofs.of_zpl_meaning.DepthLemmas.{each_left, each_right}
+use Rattle.meaning_runs.proofs.of_zpl_meaning.ProperLemmas.{IsClean, Clean, Fits as FitsPlace, reach_at}
+use Rattle.meaning_runs.proofs.of_zpl_meaning.ProperLemmas.{RankLaws}
+use Rattle.meaning_runs.proofs.of_zpl_meaning.StatementLemmas.{fits_under, prefix_proper}
 use Rattle.meaning_runs.specs.Met.{ComesUnder, Bare, Behind}
 use Rattle.meaning_ranks.specs.Shaped.{is_flood, AreFloods, IsShaped, IsOverOf, HaveTheirRanks}
 use Rattle.meaning_ranks.proofs.ShapeLemmas.{Fits, FitsIn, IsSmall, IsToldFlood, computed_fits}
 use Rattle.meaning_ranks.proofs.ShapeLemmas.{forms_fit, span_fits_in}
-use Rattle.zpl_meaning.proofs.ProperLemmas.{blank_or}
+use Rattle.meaning_runs.proofs.of_zpl_meaning.ProperLemmas.{blank_or}
 
 -- ---- one current region
 

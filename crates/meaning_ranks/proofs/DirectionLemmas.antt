@@ -6,25 +6,25 @@ use Rattle.std.specs.List.{AllByRecursion, flat_map, find}
 use Rattle.std.specs.Option.{option_or}
 use Rattle.std.specs.Str.{bytes_eq}
 use Rattle.std.proofs.lemmas.List.Elements.{recursion_from_All}
-use Rattle.zpl_tree.specs.Syntax.{Name, Exprs, NoExpr, ThenExpr, Bracket, NoBracket, Bracketed, Base}
-use Rattle.zpl_tree.specs.Syntax.{Define, RegionDef, DirDef, VarDef, Param, Decl, Config, Constant}
-use Rattle.zpl_tree.specs.Syntax.{Regions, Directions, Vars, Defined, Program}
-use Rattle.zpl_tree.specs.Syntax as plain
-use Rattle.zpl_tree.specs.Grammar.{HasExpr, IsDirection, IsDecl, IsProgram}
-use Rattle.zpl_names.specs.Kinds as kind
-use Rattle.zpl_names.specs.Kinds.{Rank, Kind}
-use Rattle.zpl_names.specs.Scope.{Entry, Scope, kind_in, kind_of, is_direction}
-use Rattle.zpl_names.specs.Ranks.{HasRank, HasRanks, IsKnownKind, AreKnown, exprs_count}
-use Rattle.zpl_names.specs.Ranks.{at_most_three, direction_rank, is_zero}
-use Rattle.zpl_names.specs.Shapes.{variable_kind}
-use Rattle.zpl_names.specs.Declared.{entry_for, declaring, head_scope, own_entries, with_define}
-use Rattle.zpl_names.specs.Declared.{with_region, with_direction, with_variables}
-use Rattle.zpl_names.specs.Declared.{with_each, with_decl, globals_of, Routine, routines_of, scope_of}
-use Rattle.zpl_names.specs.Declared.{procedure_entry}
-use Rattle.zpl_names.proofs.ListLemmas.{Among}
-use Rattle.zpl_meaning.specs.Proper.{IsArrayRank}
-use Rattle.zpl_meaning.proofs.ProperLemmas.{array_rank_is}
-use Rattle.zpl_meaning.proofs.NamesLemmas.{routine_sound}
+use Rattle.meaning_runs.specs.of_zpl_tree.Syntax.{Name, Exprs, NoExpr, ThenExpr, Bracket, NoBracket, Bracketed, Base}
+use Rattle.meaning_runs.specs.of_zpl_tree.Syntax.{Define, RegionDef, DirDef, VarDef, Param, Decl, Config, Constant}
+use Rattle.meaning_runs.specs.of_zpl_tree.Syntax.{Regions, Directions, Vars, Defined, Program}
+use Rattle.meaning_runs.specs.of_zpl_tree.Syntax as plain
+use Rattle.meaning_runs.specs.of_zpl_tree.Grammar.{HasExpr, IsDirection, IsDecl, IsProgram}
+use Rattle.meaning_runs.specs.of_zpl_names.Kinds as kind
+use Rattle.meaning_runs.specs.of_zpl_names.Kinds.{Rank, Kind}
+use Rattle.meaning_runs.specs.of_zpl_names.Scope.{Entry, Scope, kind_in, kind_of, is_direction}
+use Rattle.meaning_runs.specs.of_zpl_names.Ranks.{HasRank, HasRanks, IsKnownKind, AreKnown, exprs_count}
+use Rattle.meaning_runs.specs.of_zpl_names.Ranks.{at_most_three, direction_rank, is_zero}
+use Rattle.meaning_runs.specs.of_zpl_names.Shapes.{variable_kind}
+use Rattle.meaning_runs.specs.of_zpl_names.Declared.{entry_for, declaring, head_scope, own_entries, with_define}
+use Rattle.meaning_runs.specs.of_zpl_names.Declared.{with_region, with_direction, with_variables}
+use Rattle.meaning_runs.specs.of_zpl_names.Declared.{with_each, with_decl, globals_of, Routine, routines_of, scope_of}
+use Rattle.meaning_runs.specs.of_zpl_names.Declared.{procedure_entry}
+use Rattle.meaning_runs.proofs.of_zpl_names.ListLemmas.{Among}
+use Rattle.meaning_runs.specs.of_zpl_meaning.Proper.{IsArrayRank}
+use Rattle.meaning_runs.proofs.of_zpl_meaning.ProperLemmas.{array_rank_is}
+use Rattle.meaning_runs.proofs.of_zpl_meaning.NamesLemmas.{routine_sound}
 use Rattle.meaning_ranks.proofs.RankLemmas.{KnowsDirections}
 
 -- a direction has at least one component

@@ -4,54 +4,54 @@ use Rattle.std.proofs.Common.{◌∷◌, ◌++◌, length, Option, Some, None, o
 use Rattle.std.proofs.Common.{◌∙◌, subst, true≢false}
 use Rattle.std.specs.List.{AllByRecursion, flat_map, list_any}
 use Rattle.zpl_nums.specs.declared.operators.Op.{Op}
-use Rattle.zpl_tree.specs.Syntax.{Name, Expr, Number, Truth, Coord, Named, Shifted, Around, Remap}
-use Rattle.zpl_tree.specs.Syntax.{Call, Paren, Neg, Not, Abs, Pair, Reduce, Scan, Flood, Exprs}
-use Rattle.zpl_tree.specs.Syntax.{NoExpr, ThenExpr, Prefix, Item, Str, Value, Stmts, Form, Assign}
-use Rattle.zpl_tree.specs.Syntax.{Invoke, Block, If, While, Repeat, For, Border, Write, Return, Tested}
-use Rattle.zpl_tree.specs.Syntax.{Arms, NoArm, ThenArm, Otherwise, Base}
-use Rattle.zpl_tree.specs.Grammar.{IsExpr, AreExprs, IsForm, IsItem, IsStep, AreArms, HasAny}
-use Rattle.zpl_tree.specs.Grammar.{expr_level}
-use Rattle.zpl_names.specs.Kinds as kind
-use Rattle.zpl_names.specs.Kinds.{Rank, Kind, Formal, ScalarFormal, ArrayFormal}
-use Rattle.zpl_names.specs.Scope.{kind_of, is_value, is_array, is_fixed}
-use Rattle.zpl_names.specs.Ranks.{IsRank, both_ranks, ranks_clash, value_rank, own_rank, is_open}
-use Rattle.zpl_names.specs.Ranks.{placed_rank, rank_of}
-use Rattle.zpl_names.specs.Shapes.{Shapes, current_of, shape_of_current}
-use Rattle.zpl_names.specs.Sites.{Reach, Limit, Test as TestRole, Printed, Actual}
-use Rattle.zpl_names.specs.Sites.{Assigned, inside, target_rank, whole_rank, AtWhole, AtStmt}
-use Rattle.zpl_names.specs.Sites.{expr_sites, actuals_sites, whole_sites, value_sites, item_sites}
-use Rattle.zpl_names.specs.Sites.{step_sites, stmts_sites, form_sites, arms_sites, arm_sites}
-use Rattle.zpl_names.specs.Sites.{otherwise_sites, test_rank, arms_rank, is_shattered}
-use Rattle.zpl_names.specs.Faults.{cannot_hold, has_flood, lacks_region, item_rank, is_flood_written}
-use Rattle.zpl_names.specs.Faults.{unless_taken}
-use Rattle.zpl_names.proofs.NameLemmas.{no_place, empty_parts}
-use Rattle.zpl_meaning.specs.Store.{thing_of}
-use Rattle.zpl_meaning.specs.Context.{Place, rank_in}
-use Rattle.zpl_meaning.specs.Points.{assigned_expr}
-use Rattle.zpl_meaning.specs.Calls.{formals_in}
-use Rattle.zpl_meaning.specs.Statement.{step_expr}
-use Rattle.zpl_meaning.specs.Proper.{IsArrayRank, IsUnderCurrent, IsProper}
-use Rattle.zpl_meaning.specs.Proper.{IsProperForm, IsProperAssign, IsPlainAssign, AreProperActuals}
-use Rattle.zpl_meaning.specs.Proper.{AreProperTests, IsProperTested, AreProperItems, IsProperCall}
-use Rattle.zpl_meaning.proofs.DepthLemmas.{each_left, each_right}
-use Rattle.zpl_meaning.proofs.ProperLemmas.{IsClean, Clean, taken, IsNamed, Fits as FitsPlace}
-use Rattle.zpl_meaning.proofs.ProperLemmas.{reach_at, RankLaws, has_current, or_false, first_agrees}
-use Rattle.zpl_meaning.proofs.ProperLemmas.{both_zero, read_array, whole_suits, proper}
-use Rattle.zpl_meaning.proofs.StatementLemmas.{rank_fits}
+use Rattle.meaning_runs.specs.of_zpl_tree.Syntax.{Name, Expr, Number, Truth, Coord, Named, Shifted, Around, Remap}
+use Rattle.meaning_runs.specs.of_zpl_tree.Syntax.{Call, Paren, Neg, Not, Abs, Pair, Reduce, Scan, Flood, Exprs}
+use Rattle.meaning_runs.specs.of_zpl_tree.Syntax.{NoExpr, ThenExpr, Prefix, Item, Str, Value, Stmts, Form, Assign}
+use Rattle.meaning_runs.specs.of_zpl_tree.Syntax.{Invoke, Block, If, While, Repeat, For, Border, Write, Return, Tested}
+use Rattle.meaning_runs.specs.of_zpl_tree.Syntax.{Arms, NoArm, ThenArm, Otherwise, Base}
+use Rattle.meaning_runs.specs.of_zpl_tree.Grammar.{IsExpr, AreExprs, IsForm, IsItem, IsStep, AreArms, HasAny}
+use Rattle.meaning_runs.specs.of_zpl_tree.Grammar.{expr_level}
+use Rattle.meaning_runs.specs.of_zpl_names.Kinds as kind
+use Rattle.meaning_runs.specs.of_zpl_names.Kinds.{Rank, Kind, Formal, ScalarFormal, ArrayFormal}
+use Rattle.meaning_runs.specs.of_zpl_names.Scope.{kind_of, is_value, is_array, is_fixed}
+use Rattle.meaning_runs.specs.of_zpl_names.Ranks.{IsRank, both_ranks, ranks_clash, value_rank, own_rank, is_open}
+use Rattle.meaning_runs.specs.of_zpl_names.Ranks.{placed_rank, rank_of}
+use Rattle.meaning_runs.specs.of_zpl_names.Shapes.{Shapes, current_of, shape_of_current}
+use Rattle.meaning_runs.specs.of_zpl_names.Sites.{Reach, Limit, Test as TestRole, Printed, Actual}
+use Rattle.meaning_runs.specs.of_zpl_names.Sites.{Assigned, inside, target_rank, whole_rank, AtWhole, AtStmt}
+use Rattle.meaning_runs.specs.of_zpl_names.Sites.{expr_sites, actuals_sites, whole_sites, value_sites, item_sites}
+use Rattle.meaning_runs.specs.of_zpl_names.Sites.{step_sites, stmts_sites, form_sites, arms_sites, arm_sites}
+use Rattle.meaning_runs.specs.of_zpl_names.Sites.{otherwise_sites, test_rank, arms_rank, is_shattered}
+use Rattle.meaning_runs.specs.of_zpl_names.Faults.{cannot_hold, has_flood, lacks_region, item_rank, is_flood_written}
+use Rattle.meaning_runs.specs.of_zpl_names.Faults.{unless_taken}
+use Rattle.meaning_runs.proofs.of_zpl_names.NameLemmas.{no_place, empty_parts}
+use Rattle.meaning_runs.specs.of_zpl_meaning.Store.{thing_of}
+use Rattle.meaning_runs.specs.of_zpl_meaning.Context.{Place, rank_in}
+use Rattle.meaning_runs.specs.of_zpl_meaning.Points.{assigned_expr}
+use Rattle.meaning_runs.specs.of_zpl_meaning.Calls.{formals_in}
+use Rattle.meaning_runs.specs.of_zpl_meaning.Statement.{step_expr}
+use Rattle.meaning_runs.specs.of_zpl_meaning.Proper.{IsArrayRank, IsUnderCurrent, IsProper}
+use Rattle.meaning_runs.specs.of_zpl_meaning.Proper.{IsProperForm, IsProperAssign, IsPlainAssign, AreProperActuals}
+use Rattle.meaning_runs.specs.of_zpl_meaning.Proper.{AreProperTests, IsProperTested, AreProperItems, IsProperCall}
+use Rattle.meaning_runs.proofs.of_zpl_meaning.DepthLemmas.{each_left, each_right}
+use Rattle.meaning_runs.proofs.of_zpl_meaning.ProperLemmas.{IsClean, Clean, taken, IsNamed, Fits as FitsPlace}
+use Rattle.meaning_runs.proofs.of_zpl_meaning.ProperLemmas.{reach_at, RankLaws, has_current, or_false, first_agrees}
+use Rattle.meaning_runs.proofs.of_zpl_meaning.ProperLemmas.{both_zero, read_array, whole_suits, proper}
+use Rattle.meaning_runs.proofs.of_zpl_meaning.StatementLemmas.{rank_fits}
 use Rattle.meaning_ranks.specs.Flat.{HasFlatCurrent, IsUnderFlat, IsFlatIn, IsFlatWhole}
 use Rattle.meaning_ranks.specs.Flat.{AreFlatActuals, IsFlatAssign, AreFlatTests, IsFlatTested}
 use Rattle.meaning_ranks.specs.Flat.{AreFlatItems, IsFlatCall, IsFlatForm}
 use Rattle.meaning_ranks.specs.Ranked.{AreArraysOf, IsOfRank, IsRankedForm}
 use Rattle.meaning_ranks.proofs.RankLemmas.{KnowsDirections, zero_or_same, of_rank}
 use Rattle.meaning_ranks.proofs.FormLemmas.{first_above, above_is_array, test_same}
-use Rattle.zpl_meaning.proofs.StatementLemmas.{joined_rank}
+use Rattle.meaning_runs.proofs.of_zpl_meaning.StatementLemmas.{joined_rank}
 use Rattle.meaning_ranks.proofs.FormLemmas.{arms_same}
 use Rattle.meaning_ranks.proofs.FlatPointLemmas.{read_append, points, point_arms, point_else}
 use Rattle.meaning_ranks.proofs.FlatPointLemmas.{test_flat as test_point_flat}
-use Rattle.zpl_tree.specs.Grammar.{AreStmts}
-use Rattle.zpl_names.specs.Ranks.{first_rank, is_above_zero}
-use Rattle.zpl_names.specs.Faults.{at_if, broken_arms, broken_form, broken_test, has_prefix}
-use Rattle.zpl_meaning.specs.Points.{Reads, stmts_parts, arms_parts, otherwise_parts, exprs_read}
+use Rattle.meaning_runs.specs.of_zpl_tree.Grammar.{AreStmts}
+use Rattle.meaning_runs.specs.of_zpl_names.Ranks.{first_rank, is_above_zero}
+use Rattle.meaning_runs.specs.of_zpl_names.Faults.{at_if, broken_arms, broken_form, broken_test, has_prefix}
+use Rattle.meaning_runs.specs.of_zpl_meaning.Points.{Reads, stmts_parts, arms_parts, otherwise_parts, exprs_read}
 use Rattle.meaning_ranks.specs.Flat.{AreFlatRead}
 use Rattle.std.proofs.Common.{cond, arith}
 use Rattle.meaning_ranks.proofs.CurrentLemmas.{AreTold, KnowsRegions}

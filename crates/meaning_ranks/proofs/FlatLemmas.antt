@@ -8,30 +8,30 @@ use Rattle.std.proofs.lemmas.Bool.{leb-true, ltb-false}
 use Rattle.zpl_region.specs.declared.dims.Dim.TheVariants as dim
 use Rattle.zpl_region.specs.declared.regions.Region.{Region}
 use Rattle.zpl_region.specs.Region.{dim_at}
-use Rattle.zpl_tree.specs.Syntax.{Expr, Number, Truth, Coord, Named, Shifted, Around, Remap}
-use Rattle.zpl_tree.specs.Syntax.{Call, Paren, Neg, Not, Abs, Pair, Reduce, Scan, Flood, Exprs}
-use Rattle.zpl_tree.specs.Syntax.{NoExpr, ThenExpr, Inner, NoBracket, Bracketed, Base}
-use Rattle.zpl_tree.specs.Grammar.{IsExpr, AreExprs}
-use Rattle.zpl_tree.specs.Grammar.{expr_level, unary_level, left_level, right_level}
-use Rattle.zpl_names.specs.Kinds.{Shape, Rank}
-use Rattle.zpl_names.specs.Ranks.{inner_rank, own_rank, operand_rank}
-use Rattle.zpl_names.specs.Shapes.{Current, Absent, Unknown, Over as Shaped, Shapes, current_at}
-use Rattle.zpl_names.specs.Shapes.{current_of, current_over, with_current, inner_shape, shape_within}
-use Rattle.zpl_names.specs.Shapes.{shape_of_current}
-use Rattle.zpl_names.specs.Sites.{Reach, over_source, expr_sites, exprs_sites, region_sites}
-use Rattle.zpl_names.specs.Faults.{has_flood, floods_at, is_past}
-use Rattle.zpl_names.proofs.NameLemmas.{no_place}
-use Rattle.zpl_names.specs.Scope.{kind_of}
-use Rattle.zpl_names.specs.Ranks.{array_shape}
-use Rattle.zpl_binding.specs.Regions.{no_region}
-use Rattle.zpl_meaning.specs.Computed.{Gives}
-use Rattle.zpl_meaning.specs.Store.{Store}
-use Rattle.zpl_meaning.specs.Context.{Over, Currents, over_at, over_or, Place}
-use Rattle.zpl_meaning.specs.Regions.{under_source}
-use Rattle.zpl_meaning.specs.Settled.{source_in}
-use Rattle.zpl_meaning.specs.Proper.{HasCurrent, IsArrayRank, IsProper, AreProper}
-use Rattle.zpl_meaning.proofs.DepthLemmas.{each_left, each_right}
-use Rattle.zpl_meaning.proofs.ProperLemmas.{IsClean, Clean, reach_at, or_false}
+use Rattle.meaning_runs.specs.of_zpl_tree.Syntax.{Expr, Number, Truth, Coord, Named, Shifted, Around, Remap}
+use Rattle.meaning_runs.specs.of_zpl_tree.Syntax.{Call, Paren, Neg, Not, Abs, Pair, Reduce, Scan, Flood, Exprs}
+use Rattle.meaning_runs.specs.of_zpl_tree.Syntax.{NoExpr, ThenExpr, Inner, NoBracket, Bracketed, Base}
+use Rattle.meaning_runs.specs.of_zpl_tree.Grammar.{IsExpr, AreExprs}
+use Rattle.meaning_runs.specs.of_zpl_tree.Grammar.{expr_level, unary_level, left_level, right_level}
+use Rattle.meaning_runs.specs.of_zpl_names.Kinds.{Shape, Rank}
+use Rattle.meaning_runs.specs.of_zpl_names.Ranks.{inner_rank, own_rank, operand_rank}
+use Rattle.meaning_runs.specs.of_zpl_names.Shapes.{Current, Absent, Unknown, Over as Shaped, Shapes, current_at}
+use Rattle.meaning_runs.specs.of_zpl_names.Shapes.{current_of, current_over, with_current, inner_shape, shape_within}
+use Rattle.meaning_runs.specs.of_zpl_names.Shapes.{shape_of_current}
+use Rattle.meaning_runs.specs.of_zpl_names.Sites.{Reach, over_source, expr_sites, exprs_sites, region_sites}
+use Rattle.meaning_runs.specs.of_zpl_names.Faults.{has_flood, floods_at, is_past}
+use Rattle.meaning_runs.proofs.of_zpl_names.NameLemmas.{no_place}
+use Rattle.meaning_runs.specs.of_zpl_names.Scope.{kind_of}
+use Rattle.meaning_runs.specs.of_zpl_names.Ranks.{array_shape}
+use Rattle.meaning_runs.specs.of_zpl_binding.Regions.{no_region}
+use Rattle.meaning_runs.specs.of_zpl_meaning.Computed.{Gives}
+use Rattle.meaning_runs.specs.of_zpl_meaning.Store.{Store}
+use Rattle.meaning_runs.specs.of_zpl_meaning.Context.{Over, Currents, over_at, over_or, Place}
+use Rattle.meaning_runs.specs.of_zpl_meaning.Regions.{under_source}
+use Rattle.meaning_runs.specs.of_zpl_meaning.Settled.{source_in}
+use Rattle.meaning_runs.specs.of_zpl_meaning.Proper.{HasCurrent, IsArrayRank, IsProper, AreProper}
+use Rattle.meaning_runs.proofs.of_zpl_meaning.DepthLemmas.{each_left, each_right}
+use Rattle.meaning_runs.proofs.of_zpl_meaning.ProperLemmas.{IsClean, Clean, reach_at, or_false}
 use Rattle.meaning_ranks.specs.Shaped.{is_flood, IsShaped}
 use Rattle.meaning_ranks.specs.Flat.{no_floods, IsFlatOf, HasFlatCurrent, IsFlatIn, AreFlatIn}
 use Rattle.meaning_ranks.specs.Ranked.{IsOfRank}

@@ -3,47 +3,47 @@ use Rattle.std.proofs.Common.{◌≡◌, ℕ, suc, true, false, not, ◌||◌, �
 use Rattle.std.proofs.Common.{List, [], ◌∷◌, ◌++◌, Option, Some, None, option_map, length}
 use Rattle.std.proofs.Common.{refl, sym, ap, ◌∙◌, subst, arith, true≢false}
 use Rattle.zpl_nums.specs.declared.operators.Op.{Op}
-use Rattle.zpl_tree.specs.Syntax.{Name, Expr, Number, Truth, Coord, Named, Shifted, Around, Remap}
-use Rattle.zpl_tree.specs.Syntax.{Call, Paren, Neg, Not, Abs, Pair, Reduce, Scan, Flood}
-use Rattle.zpl_tree.specs.Syntax.{Stmt, Prefixed}
-use Rattle.zpl_tree.specs.Syntax.{Stmts, NoStmt, ThenStmt, Form, Assign, Invoke, Block, If, While}
-use Rattle.zpl_tree.specs.Syntax.{Repeat, For, Border, Write, Return, Arm, Tested, Arms, NoArm}
-use Rattle.zpl_tree.specs.Syntax.{ThenArm, Otherwise, NoElse, Else, Base}
-use Rattle.zpl_tree.specs.Grammar.{IsExpr, IsStmt, AreStmts}
-use Rattle.zpl_tree.specs.Grammar.{IsForm, AreArms, IsArm, IsOtherwise, expr_level}
-use Rattle.zpl_names.specs.Kinds as kind
-use Rattle.zpl_names.specs.Kinds.{Rank, Kind, Formal, ScalarFormal, ArrayFormal, Shape, Signature}
-use Rattle.zpl_names.specs.Scope.{kind_of, is_value}
-use Rattle.zpl_names.specs.Ranks.{ranks_clash}
-use Rattle.zpl_names.specs.Ranks.{rank_of}
-use Rattle.zpl_names.specs.Types.{is_elementwise}
-use Rattle.zpl_names.specs.Shapes.{Shapes}
-use Rattle.zpl_names.specs.Sites.{Reach, under_prefixes, inside}
-use Rattle.zpl_names.specs.Sites.{Test as TestRole, Assigned, target_rank}
-use Rattle.zpl_names.specs.Sites.{AtStmt, expr_sites}
-use Rattle.zpl_names.specs.Sites.{whole_sites}
-use Rattle.zpl_names.specs.Sites.{prefixes_sites, value_sites}
-use Rattle.zpl_names.specs.Sites.{test_rank, arms_rank, stmt_sites, stmts_sites}
-use Rattle.zpl_names.specs.Sites.{form_sites, arms_sites, arm_sites, otherwise_sites}
-use Rattle.zpl_names.specs.Faults.{cannot_hold, is_other_target}
-use Rattle.zpl_names.specs.Faults.{broken_arms, broken_test}
-use Rattle.zpl_names.proofs.NameLemmas.{no_place, empty_parts}
-use Rattle.zpl_meaning.specs.Store.{thing_of}
-use Rattle.zpl_meaning.specs.Context.{Place}
-use Rattle.zpl_meaning.specs.Proper.{IsArrayRank}
-use Rattle.zpl_meaning.proofs.DepthLemmas.{each_left, each_right}
-use Rattle.zpl_meaning.proofs.ProperLemmas.{IsClean, Clean, not_false, taken, IsNamed, Fits}
-use Rattle.zpl_meaning.proofs.ProperLemmas.{reach_at, RankLaws}
-use Rattle.zpl_meaning.proofs.ProperLemmas.{or_false}
-use Rattle.zpl_meaning.proofs.StatementLemmas.{and_true}
+use Rattle.meaning_runs.specs.of_zpl_tree.Syntax.{Name, Expr, Number, Truth, Coord, Named, Shifted, Around, Remap}
+use Rattle.meaning_runs.specs.of_zpl_tree.Syntax.{Call, Paren, Neg, Not, Abs, Pair, Reduce, Scan, Flood}
+use Rattle.meaning_runs.specs.of_zpl_tree.Syntax.{Stmt, Prefixed}
+use Rattle.meaning_runs.specs.of_zpl_tree.Syntax.{Stmts, NoStmt, ThenStmt, Form, Assign, Invoke, Block, If, While}
+use Rattle.meaning_runs.specs.of_zpl_tree.Syntax.{Repeat, For, Border, Write, Return, Arm, Tested, Arms, NoArm}
+use Rattle.meaning_runs.specs.of_zpl_tree.Syntax.{ThenArm, Otherwise, NoElse, Else, Base}
+use Rattle.meaning_runs.specs.of_zpl_tree.Grammar.{IsExpr, IsStmt, AreStmts}
+use Rattle.meaning_runs.specs.of_zpl_tree.Grammar.{IsForm, AreArms, IsArm, IsOtherwise, expr_level}
+use Rattle.meaning_runs.specs.of_zpl_names.Kinds as kind
+use Rattle.meaning_runs.specs.of_zpl_names.Kinds.{Rank, Kind, Formal, ScalarFormal, ArrayFormal, Shape, Signature}
+use Rattle.meaning_runs.specs.of_zpl_names.Scope.{kind_of, is_value}
+use Rattle.meaning_runs.specs.of_zpl_names.Ranks.{ranks_clash}
+use Rattle.meaning_runs.specs.of_zpl_names.Ranks.{rank_of}
+use Rattle.meaning_runs.specs.of_zpl_names.Types.{is_elementwise}
+use Rattle.meaning_runs.specs.of_zpl_names.Shapes.{Shapes}
+use Rattle.meaning_runs.specs.of_zpl_names.Sites.{Reach, under_prefixes, inside}
+use Rattle.meaning_runs.specs.of_zpl_names.Sites.{Test as TestRole, Assigned, target_rank}
+use Rattle.meaning_runs.specs.of_zpl_names.Sites.{AtStmt, expr_sites}
+use Rattle.meaning_runs.specs.of_zpl_names.Sites.{whole_sites}
+use Rattle.meaning_runs.specs.of_zpl_names.Sites.{prefixes_sites, value_sites}
+use Rattle.meaning_runs.specs.of_zpl_names.Sites.{test_rank, arms_rank, stmt_sites, stmts_sites}
+use Rattle.meaning_runs.specs.of_zpl_names.Sites.{form_sites, arms_sites, arm_sites, otherwise_sites}
+use Rattle.meaning_runs.specs.of_zpl_names.Faults.{cannot_hold, is_other_target}
+use Rattle.meaning_runs.specs.of_zpl_names.Faults.{broken_arms, broken_test}
+use Rattle.meaning_runs.proofs.of_zpl_names.NameLemmas.{no_place, empty_parts}
+use Rattle.meaning_runs.specs.of_zpl_meaning.Store.{thing_of}
+use Rattle.meaning_runs.specs.of_zpl_meaning.Context.{Place}
+use Rattle.meaning_runs.specs.of_zpl_meaning.Proper.{IsArrayRank}
+use Rattle.meaning_runs.proofs.of_zpl_meaning.DepthLemmas.{each_left, each_right}
+use Rattle.meaning_runs.proofs.of_zpl_meaning.ProperLemmas.{IsClean, Clean, not_false, taken, IsNamed, Fits}
+use Rattle.meaning_runs.proofs.of_zpl_meaning.ProperLemmas.{reach_at, RankLaws}
+use Rattle.meaning_runs.proofs.of_zpl_meaning.ProperLemmas.{or_false}
+use Rattle.meaning_runs.proofs.of_zpl_meaning.StatementLemmas.{and_true}
 use Rattle.meaning_ranks.proofs.RankLemmas.{same_of_no_clash, zero_or_same}
 use Rattle.std.proofs.Common.{◌≤◌}
 use Rattle.std.proofs.lemmas.Bool.{leb-true, ltb-false}
-use Rattle.zpl_names.specs.Shapes.{current_of, shape_of_current}
-use Rattle.zpl_names.specs.Faults.{is_past, floods_at}
-use Rattle.zpl_meaning.specs.Points.{Part, Reads, Writes, stmt_parts, stmts_parts, form_parts}
-use Rattle.zpl_meaning.specs.Points.{arms_parts, arm_parts, otherwise_parts, exprs_read}
-use Rattle.zpl_tree.specs.Grammar.{unary_level, left_level, right_level}
+use Rattle.meaning_runs.specs.of_zpl_names.Shapes.{current_of, shape_of_current}
+use Rattle.meaning_runs.specs.of_zpl_names.Faults.{is_past, floods_at}
+use Rattle.meaning_runs.specs.of_zpl_meaning.Points.{Part, Reads, Writes, stmt_parts, stmts_parts, form_parts}
+use Rattle.meaning_runs.specs.of_zpl_meaning.Points.{arms_parts, arm_parts, otherwise_parts, exprs_read}
+use Rattle.meaning_runs.specs.of_zpl_tree.Grammar.{unary_level, left_level, right_level}
 use Rattle.meaning_ranks.specs.Flat.{IsFlatIn, AreFlatRead}
 use Rattle.meaning_ranks.proofs.FormLemmas.{value_clean, broken_arm, arm_broken, same_shattered}
 use Rattle.meaning_ranks.proofs.FormLemmas.{no_prefix}

@@ -6,47 +6,47 @@ use Rattle.std.proofs.Common.{eqb-true}
 use Rattle.std.specs.Prelude.{◌==◌}
 use Rattle.std.specs.List.{AllByRecursion, flat_map}
 use Rattle.zpl_nums.specs.declared.operators.Op.{Op}
-use Rattle.zpl_tree.specs.Syntax.{Name, Expr, Number, Truth, Coord, Named, Shifted, Around, Remap}
-use Rattle.zpl_tree.specs.Syntax.{Call, Paren, Neg, Not, Abs, Pair, Reduce, Scan, Flood, Exprs}
-use Rattle.zpl_tree.specs.Syntax.{NoExpr, ThenExpr, Mask, Prefix, Item, Str, Value, Stmt, Prefixed}
-use Rattle.zpl_tree.specs.Syntax.{Stmts, NoStmt, ThenStmt, Form, Assign, Invoke, Block, If, While}
-use Rattle.zpl_tree.specs.Syntax.{Repeat, For, Border, Write, Return, Arm, Tested, Arms, NoArm}
-use Rattle.zpl_tree.specs.Syntax.{ThenArm, Otherwise, NoElse, Else, Base}
-use Rattle.zpl_tree.specs.Grammar.{IsExpr, AreExprs, IsPrefix, IsStep, IsItem, IsStmt, AreStmts}
-use Rattle.zpl_tree.specs.Grammar.{IsForm, AreArms, IsArm, IsOtherwise, expr_level}
-use Rattle.zpl_names.specs.Kinds as kind
-use Rattle.zpl_names.specs.Kinds.{Rank, Kind, Formal, ScalarFormal, ArrayFormal, Shape, Signature}
-use Rattle.zpl_names.specs.Scope.{kind_of, is_value, is_array, is_fixed, is_procedure}
-use Rattle.zpl_names.specs.Ranks.{IsRank, first_rank, both_ranks, ranks_clash}
-use Rattle.zpl_names.specs.Ranks.{is_above_zero, value_rank, array_rank, array_shape, own_rank}
-use Rattle.zpl_names.specs.Ranks.{is_open, placed_rank, rank_of, mask_rank}
-use Rattle.zpl_names.specs.Types.{is_elementwise, types_differ}
-use Rattle.zpl_names.specs.Shapes.{Shapes, prefix_rank, shapes_under}
-use Rattle.zpl_names.specs.Sites.{Reach, under_prefixes, inside, Limit, Printed, Actual}
-use Rattle.zpl_names.specs.Sites.{Test as TestRole, Assigned, target_rank, whole_rank, CallRole}
-use Rattle.zpl_names.specs.Sites.{AsStatement, AtWhole, AtCall, AtMask, AtStmt, expr_sites}
-use Rattle.zpl_names.specs.Sites.{actuals_sites, region_sites, whole_sites, prefix_sites}
-use Rattle.zpl_names.specs.Sites.{prefixes_sites, call_place, value_sites, item_sites, step_sites}
-use Rattle.zpl_names.specs.Sites.{test_rank, arms_rank, is_shattered, stmt_sites, stmts_sites}
-use Rattle.zpl_names.specs.Sites.{form_sites, arms_sites, arm_sites, otherwise_sites}
-use Rattle.zpl_names.specs.Sites.{under_prefix as reach_under}
-use Rattle.zpl_names.specs.Faults.{at_if, unless_taken, cannot_hold, is_other_target, fits as actual_fits}
-use Rattle.zpl_names.specs.Faults.{fits_array, all_fit, formals_in, both_known, is_other_shape}
-use Rattle.zpl_names.specs.Faults.{broken_arms, broken_form, broken_test, has_prefix}
-use Rattle.zpl_names.specs.Faults.{ends_in_border}
-use Rattle.zpl_names.proofs.NameLemmas.{no_place, empty_parts}
-use Rattle.zpl_meaning.specs.Store.{Thing, Scalar, ArrayAt, Fixed, thing_of}
-use Rattle.zpl_meaning.specs.Context.{Place}
-use Rattle.zpl_meaning.specs.Regions.{under_prefix}
-use Rattle.zpl_meaning.specs.Statement.{step_expr}
-use Rattle.zpl_meaning.specs.Calls.{formals_in as handed_formals}
-use Rattle.zpl_meaning.specs.Proper.{IsVariable, IsArray, IsArrayRank}
-use Rattle.zpl_meaning.specs.Visited.{IsUnder, Itself, Behind}
-use Rattle.zpl_meaning.proofs.DepthLemmas.{each_left, each_right}
-use Rattle.zpl_meaning.proofs.ProperLemmas.{IsClean, Clean, not_false, taken, IsNamed, Fits}
-use Rattle.zpl_meaning.proofs.ProperLemmas.{reach_at, RankLaws, first_agrees, both_zero, read_array}
-use Rattle.zpl_meaning.proofs.ProperLemmas.{or_false, none_is_not, zero_rank, array_rank_is}
-use Rattle.zpl_meaning.proofs.StatementLemmas.{rank_fits, fits_under, and_true, not_true}
+use Rattle.meaning_runs.specs.of_zpl_tree.Syntax.{Name, Expr, Number, Truth, Coord, Named, Shifted, Around, Remap}
+use Rattle.meaning_runs.specs.of_zpl_tree.Syntax.{Call, Paren, Neg, Not, Abs, Pair, Reduce, Scan, Flood, Exprs}
+use Rattle.meaning_runs.specs.of_zpl_tree.Syntax.{NoExpr, ThenExpr, Mask, Prefix, Item, Str, Value, Stmt, Prefixed}
+use Rattle.meaning_runs.specs.of_zpl_tree.Syntax.{Stmts, NoStmt, ThenStmt, Form, Assign, Invoke, Block, If, While}
+use Rattle.meaning_runs.specs.of_zpl_tree.Syntax.{Repeat, For, Border, Write, Return, Arm, Tested, Arms, NoArm}
+use Rattle.meaning_runs.specs.of_zpl_tree.Syntax.{ThenArm, Otherwise, NoElse, Else, Base}
+use Rattle.meaning_runs.specs.of_zpl_tree.Grammar.{IsExpr, AreExprs, IsPrefix, IsStep, IsItem, IsStmt, AreStmts}
+use Rattle.meaning_runs.specs.of_zpl_tree.Grammar.{IsForm, AreArms, IsArm, IsOtherwise, expr_level}
+use Rattle.meaning_runs.specs.of_zpl_names.Kinds as kind
+use Rattle.meaning_runs.specs.of_zpl_names.Kinds.{Rank, Kind, Formal, ScalarFormal, ArrayFormal, Shape, Signature}
+use Rattle.meaning_runs.specs.of_zpl_names.Scope.{kind_of, is_value, is_array, is_fixed, is_procedure}
+use Rattle.meaning_runs.specs.of_zpl_names.Ranks.{IsRank, first_rank, both_ranks, ranks_clash}
+use Rattle.meaning_runs.specs.of_zpl_names.Ranks.{is_above_zero, value_rank, array_rank, array_shape, own_rank}
+use Rattle.meaning_runs.specs.of_zpl_names.Ranks.{is_open, placed_rank, rank_of, mask_rank}
+use Rattle.meaning_runs.specs.of_zpl_names.Types.{is_elementwise, types_differ}
+use Rattle.meaning_runs.specs.of_zpl_names.Shapes.{Shapes, prefix_rank, shapes_under}
+use Rattle.meaning_runs.specs.of_zpl_names.Sites.{Reach, under_prefixes, inside, Limit, Printed, Actual}
+use Rattle.meaning_runs.specs.of_zpl_names.Sites.{Test as TestRole, Assigned, target_rank, whole_rank, CallRole}
+use Rattle.meaning_runs.specs.of_zpl_names.Sites.{AsStatement, AtWhole, AtCall, AtMask, AtStmt, expr_sites}
+use Rattle.meaning_runs.specs.of_zpl_names.Sites.{actuals_sites, region_sites, whole_sites, prefix_sites}
+use Rattle.meaning_runs.specs.of_zpl_names.Sites.{prefixes_sites, call_place, value_sites, item_sites, step_sites}
+use Rattle.meaning_runs.specs.of_zpl_names.Sites.{test_rank, arms_rank, is_shattered, stmt_sites, stmts_sites}
+use Rattle.meaning_runs.specs.of_zpl_names.Sites.{form_sites, arms_sites, arm_sites, otherwise_sites}
+use Rattle.meaning_runs.specs.of_zpl_names.Sites.{under_prefix as reach_under}
+use Rattle.meaning_runs.specs.of_zpl_names.Faults.{at_if, unless_taken, cannot_hold, is_other_target, fits as actual_fits}
+use Rattle.meaning_runs.specs.of_zpl_names.Faults.{fits_array, all_fit, formals_in, both_known, is_other_shape}
+use Rattle.meaning_runs.specs.of_zpl_names.Faults.{broken_arms, broken_form, broken_test, has_prefix}
+use Rattle.meaning_runs.specs.of_zpl_names.Faults.{ends_in_border}
+use Rattle.meaning_runs.proofs.of_zpl_names.NameLemmas.{no_place, empty_parts}
+use Rattle.meaning_runs.specs.of_zpl_meaning.Store.{Thing, Scalar, ArrayAt, Fixed, thing_of}
+use Rattle.meaning_runs.specs.of_zpl_meaning.Context.{Place}
+use Rattle.meaning_runs.specs.of_zpl_meaning.Regions.{under_prefix}
+use Rattle.meaning_runs.specs.of_zpl_meaning.Statement.{step_expr}
+use Rattle.meaning_runs.specs.of_zpl_meaning.Calls.{formals_in as handed_formals}
+use Rattle.meaning_runs.specs.of_zpl_meaning.Proper.{IsVariable, IsArray, IsArrayRank}
+use Rattle.meaning_runs.specs.of_zpl_meaning.Visited.{IsUnder, Itself, Behind}
+use Rattle.meaning_runs.proofs.of_zpl_meaning.DepthLemmas.{each_left, each_right}
+use Rattle.meaning_runs.proofs.of_zpl_meaning.ProperLemmas.{IsClean, Clean, not_false, taken, IsNamed, Fits}
+use Rattle.meaning_runs.proofs.of_zpl_meaning.ProperLemmas.{reach_at, RankLaws, first_agrees, both_zero, read_array}
+use Rattle.meaning_runs.proofs.of_zpl_meaning.ProperLemmas.{or_false, none_is_not, zero_rank, array_rank_is}
+use Rattle.meaning_runs.proofs.of_zpl_meaning.StatementLemmas.{rank_fits, fits_under, and_true, not_true}
 use Rattle.meaning_ranks.specs.Ranked.{IsArrayOf, AreArraysOf, IsNameOf, IsOfRank, IsRanked}
 use Rattle.meaning_ranks.specs.Ranked.{IsMaskOf, IsRankedPrefix, TakesRank, IsRankedValue}
 use Rattle.meaning_ranks.specs.Ranked.{IsShapedActual, AreShapedActuals, IsRankedCall}
@@ -56,7 +56,7 @@ use Rattle.meaning_ranks.specs.Ranked.{AreRankedTests, IsRankedTested, AreRanked
 use Rattle.meaning_ranks.specs.Ranked.{IsRankedUnder}
 use Rattle.meaning_ranks.proofs.RankLemmas.{same_of_no_clash, zero_or_same, KnowsDirections}
 use Rattle.meaning_ranks.proofs.RankLemmas.{region_of, of_rank, raised}
-use Rattle.zpl_meaning.proofs.StatementLemmas.{first_not_above, joined_rank}
+use Rattle.meaning_runs.proofs.of_zpl_meaning.StatementLemmas.{first_not_above, joined_rank}
 
 -- ---- ranks
 

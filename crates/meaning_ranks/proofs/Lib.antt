@@ -12,3 +12,6 @@ pub mod RegionLemmas
 pub mod FlatLemmas
 pub mod FlatFormLemmas
 pub mod FlatPointLemmas
+pub use Rattle.meaning_runs.proofs.of_zpl_binding as of_zpl_binding
+pub use Rattle.meaning_runs.proofs.of_zpl_meaning as of_zpl_meaning
+pub use Rattle.meaning_runs.proofs.of_zpl_names as of_zpl_names

@@ -4,33 +4,33 @@ use Rattle.std.proofs.Common.{◌≡◌, ℕ, suc, false, List, [], ◌∷◌, m
 use Rattle.std.proofs.Common.{IsSome, Some, None, length, refl, sym, ap, subst}
 use Rattle.std.specs.List.{list_any}
 use Rattle.zpl_nums.specs.declared.ends.Border.{Border as BorderKind}
-use Rattle.zpl_tree.specs.Syntax.{Name, Call, Prefix, Program, Stmt, Prefixed, Form, Assign}
-use Rattle.zpl_tree.specs.Syntax.{Invoke, Block, If, While, Repeat, For, Border, Write, Return, Item}
-use Rattle.zpl_tree.specs.Syntax.{Str, Value, Base}
-use Rattle.zpl_tree.specs.Grammar.{IsForm, IsProgram}
-use Rattle.zpl_names.specs.Kinds.{Rank}
-use Rattle.zpl_names.specs.Scope.{kind_of}
-use Rattle.zpl_names.specs.Ranks.{region_shape}
-use Rattle.zpl_names.specs.Shapes.{Shapes, no_shapes}
-use Rattle.zpl_names.specs.Declared.{Routine, routine_named}
-use Rattle.zpl_names.specs.Sites.{Reach, Printed, form_sites, whole_rank}
-use Rattle.zpl_names.specs.Faults.{is_under_mask, item_rank, form_ranks}
-use Rattle.zpl_names.specs.Accepted.{IsFaultless}
-use Rattle.zpl_names.proofs.NameLemmas.{no_place}
-use Rattle.zpl_names.proofs.ListLemmas.{Contains-from_among}
-use Rattle.zpl_binding.specs.Settings.{Setting}
-use Rattle.zpl_binding.specs.Regions.{region_named}
-use Rattle.zpl_binding.specs.Declarations.{known_of}
-use Rattle.zpl_meaning.specs.Store.{Store}
-use Rattle.zpl_meaning.specs.Context.{Place, Setup}
-use Rattle.zpl_meaning.specs.Regions.{under_prefix}
-use Rattle.zpl_meaning.specs.Calls.{Called}
-use Rattle.zpl_meaning.specs.Visited.{parts_of, IsUnder, IsCall, body_place, IsVisited}
-use Rattle.zpl_meaning.specs.Proper.{IsProperForm}
-use Rattle.zpl_meaning.proofs.ProperLemmas.{Fits, reach_at, or_false}
-use Rattle.zpl_meaning.proofs.NamesLemmas.{routine_sound}
-use Rattle.zpl_meaning.proofs.VisitLemmas.{Laws, clean_of, Inside, InStmt, InBody}
-use Rattle.zpl_meaning.proofs.VisitLemmas.{visited_proper}
+use Rattle.meaning_runs.specs.of_zpl_tree.Syntax.{Name, Call, Prefix, Program, Stmt, Prefixed, Form, Assign}
+use Rattle.meaning_runs.specs.of_zpl_tree.Syntax.{Invoke, Block, If, While, Repeat, For, Border, Write, Return, Item}
+use Rattle.meaning_runs.specs.of_zpl_tree.Syntax.{Str, Value, Base}
+use Rattle.meaning_runs.specs.of_zpl_tree.Grammar.{IsForm, IsProgram}
+use Rattle.meaning_runs.specs.of_zpl_names.Kinds.{Rank}
+use Rattle.meaning_runs.specs.of_zpl_names.Scope.{kind_of}
+use Rattle.meaning_runs.specs.of_zpl_names.Ranks.{region_shape}
+use Rattle.meaning_runs.specs.of_zpl_names.Shapes.{Shapes, no_shapes}
+use Rattle.meaning_runs.specs.of_zpl_names.Declared.{Routine, routine_named}
+use Rattle.meaning_runs.specs.of_zpl_names.Sites.{Reach, Printed, form_sites, whole_rank}
+use Rattle.meaning_runs.specs.of_zpl_names.Faults.{is_under_mask, item_rank, form_ranks}
+use Rattle.meaning_runs.specs.of_zpl_names.Accepted.{IsFaultless}
+use Rattle.meaning_runs.proofs.of_zpl_names.NameLemmas.{no_place}
+use Rattle.meaning_runs.proofs.of_zpl_names.ListLemmas.{Contains-from_among}
+use Rattle.meaning_runs.specs.of_zpl_binding.Settings.{Setting}
+use Rattle.meaning_runs.specs.of_zpl_binding.Regions.{region_named}
+use Rattle.meaning_runs.specs.of_zpl_binding.Declarations.{known_of}
+use Rattle.meaning_runs.specs.of_zpl_meaning.Store.{Store}
+use Rattle.meaning_runs.specs.of_zpl_meaning.Context.{Place, Setup}
+use Rattle.meaning_runs.specs.of_zpl_meaning.Regions.{under_prefix}
+use Rattle.meaning_runs.specs.of_zpl_meaning.Calls.{Called}
+use Rattle.meaning_runs.specs.of_zpl_meaning.Visited.{parts_of, IsUnder, IsCall, body_place, IsVisited}
+use Rattle.meaning_runs.specs.of_zpl_meaning.Proper.{IsProperForm}
+use Rattle.meaning_runs.proofs.of_zpl_meaning.ProperLemmas.{Fits, reach_at, or_false}
+use Rattle.meaning_runs.proofs.of_zpl_meaning.NamesLemmas.{routine_sound}
+use Rattle.meaning_runs.proofs.of_zpl_meaning.VisitLemmas.{Laws, clean_of, Inside, InStmt, InBody}
+use Rattle.meaning_runs.proofs.of_zpl_meaning.VisitLemmas.{visited_proper}
 use Rattle.meaning_runs.specs.Met.{ComesUnder, MakesCall, call_of, Opening, opening_of, context_at}
 use Rattle.meaning_runs.specs.Met.{IsMet}
 use Rattle.meaning_runs.proofs.PartLemmas.{goes_among}
@@ -48,7 +48,7 @@ use Rattle.meaning_ranks.proofs.VisitedLemmas.{aimed, visited_ranked, ranked_beh
 use Rattle.meaning_ranks.proofs.RankLemmas.{KnowsDirections}
 use Rattle.meaning_ranks.proofs.FlatFormLemmas.{form_flat}
 use Rattle.meaning_ranks.proofs.BorderLemmas.{bordered}
-use Rattle.zpl_meaning.proofs.HandedLemmas.{handed_values}
+use Rattle.meaning_runs.proofs.of_zpl_meaning.HandedLemmas.{handed_values}
 use Rattle.meaning_ranks.proofs.CurrentLemmas.{AreTold, KnowsRegions, prefixes_told}
 use Rattle.meaning_ranks.proofs.CurrentLemmas.{unmasked, their_ranks}
 use Rattle.meaning_ranks.proofs.ShapeLemmas.{Fits as FitsRegion}

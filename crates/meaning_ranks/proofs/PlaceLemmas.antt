@@ -8,63 +8,63 @@ use Rattle.std.specs.List.{AllByRecursion, flat_map, cons_option}
 use Rattle.std.specs.Option.{option_or}
 use Rattle.std.specs.Str.{bytes_eq}
 use Rattle.std.proofs.lemmas.List.Elements.{recursion_from_All}
-use Rattle.zpl_tree.specs.Syntax.{Name, Expr, Call, Exprs, NoExpr, ThenExpr, Prefix, Program, Stmt}
-use Rattle.zpl_tree.specs.Syntax.{Prefixed, Stmts, NoStmt, ThenStmt, Form, Assign, Invoke, Block}
-use Rattle.zpl_tree.specs.Syntax.{If, While, Repeat, For, Border, Write, Return, Arm, Tested, Arms}
-use Rattle.zpl_tree.specs.Syntax.{NoArm, ThenArm, Otherwise, NoElse, Else, Bracket, NoBracket}
-use Rattle.zpl_tree.specs.Syntax.{Bracketed, Base, Param, VarDef}
-use Rattle.zpl_tree.specs.Syntax as plain
-use Rattle.zpl_tree.specs.Grammar.{IsStmt, AreStmts, IsForm, AreArms, IsOtherwise, IsBody}
-use Rattle.zpl_tree.specs.Grammar.{IsProgram}
-use Rattle.zpl_names.specs.Kinds as kind
-use Rattle.zpl_names.specs.Kinds.{Rank, Kind, Formal, ScalarFormal, ArrayFormal, Signature}
-use Rattle.zpl_names.specs.Scope.{Entry, Scope, kind_in, kind_of, is_procedure}
-use Rattle.zpl_names.specs.Ranks.{HasRank, IsKnownKind, first_rank}
-use Rattle.zpl_names.specs.Shapes.{Shapes, no_shapes, variable_kind}
-use Rattle.zpl_names.specs.Declared.{entry_for, head_scope, own_entries, signature_of, globals_of}
-use Rattle.zpl_names.specs.Declared.{Routine, IsProcedureOf, routines_of, routine_named, entry_of}
-use Rattle.zpl_names.specs.Declared.{scope_of, formals_of}
-use Rattle.zpl_names.specs.Sites.{Reach, in_body, under_prefixes, inside, Limit, Test as TestRole}
-use Rattle.zpl_names.specs.Sites.{Site, AtCall, AtStmt, CallRole, prefixes_sites}
-use Rattle.zpl_names.specs.Sites.{AsStatement, whole_sites, step_sites, test_rank, arms_rank}
-use Rattle.zpl_names.specs.Sites.{stmt_sites, stmts_sites, form_sites, arms_sites, arm_sites}
-use Rattle.zpl_names.specs.Sites.{otherwise_sites, body_sites, outermost_sites, routine_sites}
-use Rattle.zpl_names.specs.Sites.{CallSite, call_of, call_place}
-use Rattle.zpl_names.specs.Reached.{IsReached, Entered, Called as CalledFrom, sites_of, sites_at}
-use Rattle.zpl_names.specs.Reached.{calls_of, calls_at}
-use Rattle.zpl_names.specs.Accepted.{IsFaultless}
-use Rattle.zpl_names.specs.Accepted.{NoEntry, is_entry, no_entry}
-use Rattle.zpl_names.proofs.ListLemmas.{Among, among_from_Contains, Contains-from_among}
-use Rattle.zpl_names.proofs.NameLemmas.{no_place}
-use Rattle.zpl_names.proofs.FaultlessLemmas.{split}
-use Rattle.zpl_binding.specs.Settings.{Setting}
-use Rattle.zpl_meaning.specs.Store.{Names, Store, thing_of}
-use Rattle.zpl_meaning.specs.Context.{Setup, Place}
-use Rattle.zpl_meaning.specs.Variables.{Frame, empty_frame}
-use Rattle.zpl_meaning.specs.Calls.{Handed, Called, formals_in, value_exprs}
-use Rattle.zpl_meaning.specs.Calls.{handed_on, entered}
-use Rattle.zpl_meaning.specs.Regions.{under_prefix}
-use Rattle.zpl_meaning.specs.Program.{entry_call}
-use Rattle.zpl_meaning.specs.Proper.{IsProperCall, IsProperForm, IsProperUnder}
-use Rattle.zpl_meaning.specs.Visited.{IsUnder, Itself, Behind, list_of, arms_parts, else_parts, parts_of, IsCall}
-use Rattle.zpl_meaning.specs.Visited.{AsAnswer, AsStatement as CalledAsStatement, formals_at}
-use Rattle.zpl_meaning.specs.Visited.{handed_at, body_place, IsVisited, Begins, Holds, Calls}
-use Rattle.zpl_meaning.specs.Visited.{first_setup}
-use Rattle.zpl_meaning.proofs.DepthLemmas.{Each, each_left, each_right, each_from}
-use Rattle.zpl_meaning.proofs.ProperLemmas.{not_false, taken, IsNamed, Covers, Fits}
-use Rattle.zpl_meaning.proofs.ProperLemmas.{reach_at}
-use Rattle.zpl_meaning.proofs.StatementLemmas.{first_known, FitsUnder, under_fits}
-use Rattle.zpl_meaning.proofs.VisitLemmas.{IsHere, clean_of, Inside, InStmt, InBody, IsPart}
-use Rattle.zpl_meaning.proofs.VisitLemmas.{all_handed, HasSites, Laws, visited_proper}
-use Rattle.zpl_meaning.proofs.VisitLemmas.{find_among, call_there, stmts_part, arms_part}
-use Rattle.zpl_meaning.proofs.VisitLemmas.{else_part, body_part}
-use Rattle.zpl_meaning.proofs.NamesLemmas.{Listed, Nothing, listed_append, listed_found, IsGood}
-use Rattle.zpl_meaning.proofs.NamesLemmas.{IsFound, OptGood, good_in, good_from, named_from, Shaped}
-use Rattle.zpl_meaning.proofs.NamesLemmas.{globals_shaped, routine_sound, variables_listed}
-use Rattle.zpl_meaning.proofs.NamesLemmas.{declarations_listed, AreHanded, formals_listed}
-use Rattle.zpl_meaning.proofs.VisitLemmas.{none_there, body_grammar, IsOwn, AllOwn, own_append}
-use Rattle.zpl_meaning.proofs.VisitLemmas.{own_variable, own_each, own_flat, all_own, own_in}
-use Rattle.zpl_meaning.proofs.VisitLemmas.{global_procedure, all_good, or_good, found_in}
+use Rattle.meaning_runs.specs.of_zpl_tree.Syntax.{Name, Expr, Call, Exprs, NoExpr, ThenExpr, Prefix, Program, Stmt}
+use Rattle.meaning_runs.specs.of_zpl_tree.Syntax.{Prefixed, Stmts, NoStmt, ThenStmt, Form, Assign, Invoke, Block}
+use Rattle.meaning_runs.specs.of_zpl_tree.Syntax.{If, While, Repeat, For, Border, Write, Return, Arm, Tested, Arms}
+use Rattle.meaning_runs.specs.of_zpl_tree.Syntax.{NoArm, ThenArm, Otherwise, NoElse, Else, Bracket, NoBracket}
+use Rattle.meaning_runs.specs.of_zpl_tree.Syntax.{Bracketed, Base, Param, VarDef}
+use Rattle.meaning_runs.specs.of_zpl_tree.Syntax as plain
+use Rattle.meaning_runs.specs.of_zpl_tree.Grammar.{IsStmt, AreStmts, IsForm, AreArms, IsOtherwise, IsBody}
+use Rattle.meaning_runs.specs.of_zpl_tree.Grammar.{IsProgram}
+use Rattle.meaning_runs.specs.of_zpl_names.Kinds as kind
+use Rattle.meaning_runs.specs.of_zpl_names.Kinds.{Rank, Kind, Formal, ScalarFormal, ArrayFormal, Signature}
+use Rattle.meaning_runs.specs.of_zpl_names.Scope.{Entry, Scope, kind_in, kind_of, is_procedure}
+use Rattle.meaning_runs.specs.of_zpl_names.Ranks.{HasRank, IsKnownKind, first_rank}
+use Rattle.meaning_runs.specs.of_zpl_names.Shapes.{Shapes, no_shapes, variable_kind}
+use Rattle.meaning_runs.specs.of_zpl_names.Declared.{entry_for, head_scope, own_entries, signature_of, globals_of}
+use Rattle.meaning_runs.specs.of_zpl_names.Declared.{Routine, IsProcedureOf, routines_of, routine_named, entry_of}
+use Rattle.meaning_runs.specs.of_zpl_names.Declared.{scope_of, formals_of}
+use Rattle.meaning_runs.specs.of_zpl_names.Sites.{Reach, in_body, under_prefixes, inside, Limit, Test as TestRole}
+use Rattle.meaning_runs.specs.of_zpl_names.Sites.{Site, AtCall, AtStmt, CallRole, prefixes_sites}
+use Rattle.meaning_runs.specs.of_zpl_names.Sites.{AsStatement, whole_sites, step_sites, test_rank, arms_rank}
+use Rattle.meaning_runs.specs.of_zpl_names.Sites.{stmt_sites, stmts_sites, form_sites, arms_sites, arm_sites}
+use Rattle.meaning_runs.specs.of_zpl_names.Sites.{otherwise_sites, body_sites, outermost_sites, routine_sites}
+use Rattle.meaning_runs.specs.of_zpl_names.Sites.{CallSite, call_of, call_place}
+use Rattle.meaning_runs.specs.of_zpl_names.Reached.{IsReached, Entered, Called as CalledFrom, sites_of, sites_at}
+use Rattle.meaning_runs.specs.of_zpl_names.Reached.{calls_of, calls_at}
+use Rattle.meaning_runs.specs.of_zpl_names.Accepted.{IsFaultless}
+use Rattle.meaning_runs.specs.of_zpl_names.Accepted.{NoEntry, is_entry, no_entry}
+use Rattle.meaning_runs.proofs.of_zpl_names.ListLemmas.{Among, among_from_Contains, Contains-from_among}
+use Rattle.meaning_runs.proofs.of_zpl_names.NameLemmas.{no_place}
+use Rattle.meaning_runs.proofs.of_zpl_names.FaultlessLemmas.{split}
+use Rattle.meaning_runs.specs.of_zpl_binding.Settings.{Setting}
+use Rattle.meaning_runs.specs.of_zpl_meaning.Store.{Names, Store, thing_of}
+use Rattle.meaning_runs.specs.of_zpl_meaning.Context.{Setup, Place}
+use Rattle.meaning_runs.specs.of_zpl_meaning.Variables.{Frame, empty_frame}
+use Rattle.meaning_runs.specs.of_zpl_meaning.Calls.{Handed, Called, formals_in, value_exprs}
+use Rattle.meaning_runs.specs.of_zpl_meaning.Calls.{handed_on, entered}
+use Rattle.meaning_runs.specs.of_zpl_meaning.Regions.{under_prefix}
+use Rattle.meaning_runs.specs.of_zpl_meaning.Program.{entry_call}
+use Rattle.meaning_runs.specs.of_zpl_meaning.Proper.{IsProperCall, IsProperForm, IsProperUnder}
+use Rattle.meaning_runs.specs.of_zpl_meaning.Visited.{IsUnder, Itself, Behind, list_of, arms_parts, else_parts, parts_of, IsCall}
+use Rattle.meaning_runs.specs.of_zpl_meaning.Visited.{AsAnswer, AsStatement as CalledAsStatement, formals_at}
+use Rattle.meaning_runs.specs.of_zpl_meaning.Visited.{handed_at, body_place, IsVisited, Begins, Holds, Calls}
+use Rattle.meaning_runs.specs.of_zpl_meaning.Visited.{first_setup}
+use Rattle.meaning_runs.proofs.of_zpl_meaning.DepthLemmas.{Each, each_left, each_right, each_from}
+use Rattle.meaning_runs.proofs.of_zpl_meaning.ProperLemmas.{not_false, taken, IsNamed, Covers, Fits}
+use Rattle.meaning_runs.proofs.of_zpl_meaning.ProperLemmas.{reach_at}
+use Rattle.meaning_runs.proofs.of_zpl_meaning.StatementLemmas.{first_known, FitsUnder, under_fits}
+use Rattle.meaning_runs.proofs.of_zpl_meaning.VisitLemmas.{IsHere, clean_of, Inside, InStmt, InBody, IsPart}
+use Rattle.meaning_runs.proofs.of_zpl_meaning.VisitLemmas.{all_handed, HasSites, Laws, visited_proper}
+use Rattle.meaning_runs.proofs.of_zpl_meaning.VisitLemmas.{find_among, call_there, stmts_part, arms_part}
+use Rattle.meaning_runs.proofs.of_zpl_meaning.VisitLemmas.{else_part, body_part}
+use Rattle.meaning_runs.proofs.of_zpl_meaning.NamesLemmas.{Listed, Nothing, listed_append, listed_found, IsGood}
+use Rattle.meaning_runs.proofs.of_zpl_meaning.NamesLemmas.{IsFound, OptGood, good_in, good_from, named_from, Shaped}
+use Rattle.meaning_runs.proofs.of_zpl_meaning.NamesLemmas.{globals_shaped, routine_sound, variables_listed}
+use Rattle.meaning_runs.proofs.of_zpl_meaning.NamesLemmas.{declarations_listed, AreHanded, formals_listed}
+use Rattle.meaning_runs.proofs.of_zpl_meaning.VisitLemmas.{none_there, body_grammar, IsOwn, AllOwn, own_append}
+use Rattle.meaning_runs.proofs.of_zpl_meaning.VisitLemmas.{own_variable, own_each, own_flat, all_own, own_in}
+use Rattle.meaning_runs.proofs.of_zpl_meaning.VisitLemmas.{global_procedure, all_good, or_good, found_in}
 
 -- ---- statements in statements
 

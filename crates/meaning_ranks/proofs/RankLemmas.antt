@@ -9,40 +9,40 @@ use Rattle.std.specs.List.{flat_map}
 use Rattle.std.proofs.lemmas.Bool.{leb-true, ltb-false}
 use Rattle.std.proofs.lemmas.Int.{ints}
 use Rattle.zpl_region.specs.declared.regions.Region.{Region}
-use Rattle.zpl_tree.specs.Syntax.{Name, Expr, Number, Truth, Coord, Named, Shifted, Around, Remap}
-use Rattle.zpl_tree.specs.Syntax.{Call, Paren, Neg, Not, Abs, Pair, Reduce, Scan, Flood, Exprs}
-use Rattle.zpl_tree.specs.Syntax.{NoExpr, ThenExpr, Dir, NamedDir, Vector, Inner, Rexpr, Dims}
-use Rattle.zpl_tree.specs.Syntax.{NoBracket, Bracketed, Posts, NoPost, ThenPost}
-use Rattle.zpl_tree.specs.Syntax.{DimTexts, Base, Pre}
-use Rattle.zpl_tree.specs.Grammar.{IsExpr, AreExprs, IsDir, HasExpr, IsInner, ArePosts, IsAlong}
-use Rattle.zpl_tree.specs.Grammar.{expr_level, unary_level, left_level, right_level}
-use Rattle.zpl_names.specs.Kinds as kind
-use Rattle.zpl_names.specs.Kinds.{Rank, Kind}
-use Rattle.zpl_names.specs.Scope.{Scope, kind_of, is_value, is_array, is_direction}
-use Rattle.zpl_names.specs.Ranks.{IsRank, first_rank, both_ranks, known_rank, ranks_clash}
-use Rattle.zpl_names.specs.Ranks.{exprs_count, dims_count, at_most_three, direction_rank, dir_rank}
-use Rattle.zpl_names.specs.Ranks.{value_rank, array_rank, inner_rank, own_rank, own_ranks}
-use Rattle.zpl_names.specs.Ranks.{operand_rank}
-use Rattle.zpl_names.specs.Shapes.{Shapes, with_current, current_over, inner_shape}
-use Rattle.zpl_names.specs.Sites.{Reach, over_source, dir_sites, expr_sites}
-use Rattle.zpl_names.specs.Sites.{exprs_sites, region_sites, posts_sites, index_sites}
-use Rattle.zpl_names.specs.Faults.{unless_taken, fourth_part, no_dimension, is_past, is_other_count}
-use Rattle.zpl_names.specs.Faults.{index_clashes, pre_clashes, post_clashes, base_at, unknown_base}
-use Rattle.zpl_names.proofs.NameLemmas.{no_place, empty_parts}
-use Rattle.zpl_meaning.specs.Store.{Thing, Scalar, ArrayAt, Fixed, thing_of}
-use Rattle.zpl_meaning.specs.Context.{Place}
-use Rattle.zpl_meaning.specs.Regions.{under_source}
-use Rattle.zpl_meaning.specs.Proper.{IsArrayRank}
-use Rattle.zpl_meaning.proofs.DepthLemmas.{each_left, each_right}
-use Rattle.zpl_meaning.proofs.ProperLemmas.{IsClean, Clean, not_false, taken, IsNamed, Fits}
-use Rattle.zpl_meaning.proofs.ProperLemmas.{reach_at, RankLaws, Agrees, same_rank}
-use Rattle.zpl_meaning.proofs.ProperLemmas.{first_agrees, left_agrees, right_agrees, both_zero}
-use Rattle.zpl_meaning.proofs.ProperLemmas.{none_is_not, or_false, read_array}
-use Rattle.zpl_meaning.proofs.ProperLemmas.{region_rank, fits_source}
+use Rattle.meaning_runs.specs.of_zpl_tree.Syntax.{Name, Expr, Number, Truth, Coord, Named, Shifted, Around, Remap}
+use Rattle.meaning_runs.specs.of_zpl_tree.Syntax.{Call, Paren, Neg, Not, Abs, Pair, Reduce, Scan, Flood, Exprs}
+use Rattle.meaning_runs.specs.of_zpl_tree.Syntax.{NoExpr, ThenExpr, Dir, NamedDir, Vector, Inner, Rexpr, Dims}
+use Rattle.meaning_runs.specs.of_zpl_tree.Syntax.{NoBracket, Bracketed, Posts, NoPost, ThenPost}
+use Rattle.meaning_runs.specs.of_zpl_tree.Syntax.{DimTexts, Base, Pre}
+use Rattle.meaning_runs.specs.of_zpl_tree.Grammar.{IsExpr, AreExprs, IsDir, HasExpr, IsInner, ArePosts, IsAlong}
+use Rattle.meaning_runs.specs.of_zpl_tree.Grammar.{expr_level, unary_level, left_level, right_level}
+use Rattle.meaning_runs.specs.of_zpl_names.Kinds as kind
+use Rattle.meaning_runs.specs.of_zpl_names.Kinds.{Rank, Kind}
+use Rattle.meaning_runs.specs.of_zpl_names.Scope.{Scope, kind_of, is_value, is_array, is_direction}
+use Rattle.meaning_runs.specs.of_zpl_names.Ranks.{IsRank, first_rank, both_ranks, known_rank, ranks_clash}
+use Rattle.meaning_runs.specs.of_zpl_names.Ranks.{exprs_count, dims_count, at_most_three, direction_rank, dir_rank}
+use Rattle.meaning_runs.specs.of_zpl_names.Ranks.{value_rank, array_rank, inner_rank, own_rank, own_ranks}
+use Rattle.meaning_runs.specs.of_zpl_names.Ranks.{operand_rank}
+use Rattle.meaning_runs.specs.of_zpl_names.Shapes.{Shapes, with_current, current_over, inner_shape}
+use Rattle.meaning_runs.specs.of_zpl_names.Sites.{Reach, over_source, dir_sites, expr_sites}
+use Rattle.meaning_runs.specs.of_zpl_names.Sites.{exprs_sites, region_sites, posts_sites, index_sites}
+use Rattle.meaning_runs.specs.of_zpl_names.Faults.{unless_taken, fourth_part, no_dimension, is_past, is_other_count}
+use Rattle.meaning_runs.specs.of_zpl_names.Faults.{index_clashes, pre_clashes, post_clashes, base_at, unknown_base}
+use Rattle.meaning_runs.proofs.of_zpl_names.NameLemmas.{no_place, empty_parts}
+use Rattle.meaning_runs.specs.of_zpl_meaning.Store.{Thing, Scalar, ArrayAt, Fixed, thing_of}
+use Rattle.meaning_runs.specs.of_zpl_meaning.Context.{Place}
+use Rattle.meaning_runs.specs.of_zpl_meaning.Regions.{under_source}
+use Rattle.meaning_runs.specs.of_zpl_meaning.Proper.{IsArrayRank}
+use Rattle.meaning_runs.proofs.of_zpl_meaning.DepthLemmas.{each_left, each_right}
+use Rattle.meaning_runs.proofs.of_zpl_meaning.ProperLemmas.{IsClean, Clean, not_false, taken, IsNamed, Fits}
+use Rattle.meaning_runs.proofs.of_zpl_meaning.ProperLemmas.{reach_at, RankLaws, Agrees, same_rank}
+use Rattle.meaning_runs.proofs.of_zpl_meaning.ProperLemmas.{first_agrees, left_agrees, right_agrees, both_zero}
+use Rattle.meaning_runs.proofs.of_zpl_meaning.ProperLemmas.{none_is_not, or_false, read_array}
+use Rattle.meaning_runs.proofs.of_zpl_meaning.ProperLemmas.{region_rank, fits_source}
 use Rattle.meaning_ranks.specs.Ranked.{IsArrayOf, IsNameOf, HasDimension, GoesAlong}
 use Rattle.meaning_ranks.specs.Ranked.{ArePresOf, ArePostsOf, IsInnerOf, IsRegionOf, IsOfRank}
 use Rattle.meaning_ranks.specs.Ranked.{AreOfRank}
-use Rattle.zpl_meaning.proofs.ProperLemmas.{both_assoc}
+use Rattle.meaning_runs.proofs.of_zpl_meaning.ProperLemmas.{both_assoc}
 
 -- ---- ranks
 

@@ -11,38 +11,38 @@ use Rattle.std.proofs.lemmas.Bool.{leb-true}
 use Rattle.std.proofs.lemmas.Slice.Eq.{bytes_eq-Decides}
 use Rattle.zpl_region.specs.declared.regions.Region.{Region}
 use Rattle.zpl_region.specs.Hull.{all_from}
-use Rattle.zpl_tree.specs.Syntax.{Name, Pre, NamedRegion, Ditto, Inner, Rexpr, Dims, Posts, NoPost}
-use Rattle.zpl_tree.specs.Syntax.{ThenPost, DimText, Blank, Star, One, Span, DimTexts, NoDim, ThenDim}
-use Rattle.zpl_tree.specs.Syntax.{Base, Define, RegionDef, DirDef, VarDef, Decl, Config, Constant}
-use Rattle.zpl_tree.specs.Syntax.{Regions, Directions, Vars, Defined, Program, Bracket, NoBracket}
-use Rattle.zpl_tree.specs.Syntax.{Bracketed, Param}
-use Rattle.zpl_tree.specs.Syntax as plain
-use Rattle.zpl_names.specs.Kinds as kind
-use Rattle.zpl_names.specs.Kinds.{Shape, Rank, Kind}
-use Rattle.zpl_names.specs.Scope.{Entry, Scope, kind_in, kind_of, in_reach, is_region}
-use Rattle.zpl_names.specs.Ranks.{inner_rank, is_index, region_shape, dims_count}
-use Rattle.zpl_names.specs.Shapes.{Current, Absent, Unknown, no_shapes, current_at, shape_of_current, dim_shape}
-use Rattle.zpl_names.specs.Shapes.{with_dim, dims_shape, inner_shape, declared_shape}
-use Rattle.zpl_names.specs.Shapes.{variable_kind}
-use Rattle.zpl_names.specs.Declared.{entry_for, declaring, with_define, with_region, with_direction}
-use Rattle.zpl_names.specs.Declared.{with_variables, with_each, with_decl, globals_of}
-use Rattle.zpl_names.specs.Declared.{region_entry, direction_entry, procedure_entry, Routine, scope_of}
-use Rattle.zpl_names.specs.Declared.{head_scope, own_entries}
-use Rattle.zpl_meaning.proofs.NamesLemmas.{IsSound}
-use Rattle.zpl_names.specs.Faults.{repeated}
-use Rattle.zpl_names.specs.Accepted.{IsFaultless, TwiceNamed, names_twice, in_text}
-use Rattle.zpl_names.specs.Faults.{twice_named}
-use Rattle.zpl_names.proofs.ListLemmas.{Among, Contains-from_among}
-use Rattle.zpl_names.proofs.FaultlessLemmas.{left-among}
-use Rattle.zpl_names.proofs.NameLemmas.{kind_in-none, kind_in-distinct, empty_parts}
-use Rattle.zpl_binding.specs.Outcome.{Outcome, Gives, Fails, and_then, Computed, outcome_of}
-use Rattle.zpl_binding.specs.Outcome.{outcome_or}
-use Rattle.zpl_binding.specs.Settings.{Setting}
-use Rattle.zpl_binding.specs.Regions.{Known, region_over, limited, no_region, is_region_name}
-use Rattle.zpl_binding.specs.Regions.{region_named, index_of, named_or_index, inner_of, region_of}
-use Rattle.zpl_binding.specs.Declarations as bind
-use Rattle.zpl_binding.specs.Declarations.{computed_for, with_all, nothing_known, known_of}
-use Rattle.zpl_meaning.proofs.VisitLemmas.{found_in, none_there}
+use Rattle.meaning_runs.specs.of_zpl_tree.Syntax.{Name, Pre, NamedRegion, Ditto, Inner, Rexpr, Dims, Posts, NoPost}
+use Rattle.meaning_runs.specs.of_zpl_tree.Syntax.{ThenPost, DimText, Blank, Star, One, Span, DimTexts, NoDim, ThenDim}
+use Rattle.meaning_runs.specs.of_zpl_tree.Syntax.{Base, Define, RegionDef, DirDef, VarDef, Decl, Config, Constant}
+use Rattle.meaning_runs.specs.of_zpl_tree.Syntax.{Regions, Directions, Vars, Defined, Program, Bracket, NoBracket}
+use Rattle.meaning_runs.specs.of_zpl_tree.Syntax.{Bracketed, Param}
+use Rattle.meaning_runs.specs.of_zpl_tree.Syntax as plain
+use Rattle.meaning_runs.specs.of_zpl_names.Kinds as kind
+use Rattle.meaning_runs.specs.of_zpl_names.Kinds.{Shape, Rank, Kind}
+use Rattle.meaning_runs.specs.of_zpl_names.Scope.{Entry, Scope, kind_in, kind_of, in_reach, is_region}
+use Rattle.meaning_runs.specs.of_zpl_names.Ranks.{inner_rank, is_index, region_shape, dims_count}
+use Rattle.meaning_runs.specs.of_zpl_names.Shapes.{Current, Absent, Unknown, no_shapes, current_at, shape_of_current, dim_shape}
+use Rattle.meaning_runs.specs.of_zpl_names.Shapes.{with_dim, dims_shape, inner_shape, declared_shape}
+use Rattle.meaning_runs.specs.of_zpl_names.Shapes.{variable_kind}
+use Rattle.meaning_runs.specs.of_zpl_names.Declared.{entry_for, declaring, with_define, with_region, with_direction}
+use Rattle.meaning_runs.specs.of_zpl_names.Declared.{with_variables, with_each, with_decl, globals_of}
+use Rattle.meaning_runs.specs.of_zpl_names.Declared.{region_entry, direction_entry, procedure_entry, Routine, scope_of}
+use Rattle.meaning_runs.specs.of_zpl_names.Declared.{head_scope, own_entries}
+use Rattle.meaning_runs.proofs.of_zpl_meaning.NamesLemmas.{IsSound}
+use Rattle.meaning_runs.specs.of_zpl_names.Faults.{repeated}
+use Rattle.meaning_runs.specs.of_zpl_names.Accepted.{IsFaultless, TwiceNamed, names_twice, in_text}
+use Rattle.meaning_runs.specs.of_zpl_names.Faults.{twice_named}
+use Rattle.meaning_runs.proofs.of_zpl_names.ListLemmas.{Among, Contains-from_among}
+use Rattle.meaning_runs.proofs.of_zpl_names.FaultlessLemmas.{left-among}
+use Rattle.meaning_runs.proofs.of_zpl_names.NameLemmas.{kind_in-none, kind_in-distinct, empty_parts}
+use Rattle.meaning_runs.specs.of_zpl_binding.Outcome.{Outcome, Gives, Fails, and_then, Computed, outcome_of}
+use Rattle.meaning_runs.specs.of_zpl_binding.Outcome.{outcome_or}
+use Rattle.meaning_runs.specs.of_zpl_binding.Settings.{Setting}
+use Rattle.meaning_runs.specs.of_zpl_binding.Regions.{Known, region_over, limited, no_region, is_region_name}
+use Rattle.meaning_runs.specs.of_zpl_binding.Regions.{region_named, index_of, named_or_index, inner_of, region_of}
+use Rattle.meaning_runs.specs.of_zpl_binding.Declarations as bind
+use Rattle.meaning_runs.specs.of_zpl_binding.Declarations.{computed_for, with_all, nothing_known, known_of}
+use Rattle.meaning_runs.proofs.of_zpl_meaning.VisitLemmas.{found_in, none_there}
 use Rattle.meaning_ranks.proofs.ShapeLemmas.{Fits, IsSmall, forms_fit, posts_fit, span_fits}
 use Rattle.meaning_ranks.proofs.ShapeLemmas.{index_fits}
 

@@ -11,21 +11,21 @@ use Rattle.zpl_region.specs.Hull.{all_from}
 use Rattle.zpl_region.specs.Region.{dim_at, components, each, formed, outside_of, inside_of}
 use Rattle.zpl_region.specs.Region.{moved, strided}
 use Rattle.zpl_region.specs.Tests.{is_within_limit}
-use Rattle.zpl_tree.specs.Syntax.{Pre, Posts, NoPost, ThenPost, DimText, Blank, Star, One}
-use Rattle.zpl_tree.specs.Syntax.{Span, DimTexts, NoDim, ThenDim}
-use Rattle.zpl_names.specs.Kinds.{Shape}
-use Rattle.zpl_names.specs.Shapes.{Current, Absent, dim_of_current, dim_shape, with_dim, dims_shape}
-use Rattle.zpl_binding.specs.Outcome.{BindFault, Outcome, Gives, Fails, and_then}
-use Rattle.zpl_binding.specs.Outcome as bound
-use Rattle.zpl_binding.specs.Constants.{value_of}
-use Rattle.zpl_binding.specs.Vectors.{dir_of}
-use Rattle.zpl_binding.specs.Regions.{Known, dims_of, region_over, limited, dim_of, each_dim_of}
-use Rattle.zpl_binding.specs.Regions.{spanned, formed_by, behind, before}
-use Rattle.zpl_meaning.specs.Computed.{Computed, both_then, computed_then}
-use Rattle.zpl_meaning.specs.Computed as run
-use Rattle.zpl_meaning.specs.Store.{Environment, Store}
-use Rattle.zpl_meaning.specs.Value.{value_of as value_in}
-use Rattle.zpl_meaning.specs.Regions.{computed_of, dim_in, dims_in, span_in}
+use Rattle.meaning_runs.specs.of_zpl_tree.Syntax.{Pre, Posts, NoPost, ThenPost, DimText, Blank, Star, One}
+use Rattle.meaning_runs.specs.of_zpl_tree.Syntax.{Span, DimTexts, NoDim, ThenDim}
+use Rattle.meaning_runs.specs.of_zpl_names.Kinds.{Shape}
+use Rattle.meaning_runs.specs.of_zpl_names.Shapes.{Current, Absent, dim_of_current, dim_shape, with_dim, dims_shape}
+use Rattle.meaning_runs.specs.of_zpl_binding.Outcome.{BindFault, Outcome, Gives, Fails, and_then}
+use Rattle.meaning_runs.specs.of_zpl_binding.Outcome as bound
+use Rattle.meaning_runs.specs.of_zpl_binding.Constants.{value_of}
+use Rattle.meaning_runs.specs.of_zpl_binding.Vectors.{dir_of}
+use Rattle.meaning_runs.specs.of_zpl_binding.Regions.{Known, dims_of, region_over, limited, dim_of, each_dim_of}
+use Rattle.meaning_runs.specs.of_zpl_binding.Regions.{spanned, formed_by, behind, before}
+use Rattle.meaning_runs.specs.of_zpl_meaning.Computed.{Computed, both_then, computed_then}
+use Rattle.meaning_runs.specs.of_zpl_meaning.Computed as run
+use Rattle.meaning_runs.specs.of_zpl_meaning.Store.{Environment, Store}
+use Rattle.meaning_runs.specs.of_zpl_meaning.Value.{value_of as value_in}
+use Rattle.meaning_runs.specs.of_zpl_meaning.Regions.{computed_of, dim_in, dims_in, span_in}
 use Rattle.meaning_ranks.specs.Shaped.{is_flood, AreFloods, IsShaped}
 
 -- ---- forms

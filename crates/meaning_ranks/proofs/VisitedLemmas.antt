@@ -3,27 +3,27 @@ use Rattle.std.proofs.Common.{◌≡◌, true, List, [], ◌∷◌, ◌++◌, ma
 use Rattle.std.proofs.Common.{append_assoc}
 use Rattle.std.specs.List.{AllByRecursion, flat_map}
 use Rattle.std.proofs.lemmas.List.Elements.{recursion_from_All}
-use Rattle.zpl_tree.specs.Syntax.{Name, Prefix, Program, Stmt, Prefixed, Form, Block, Base, Param}
-use Rattle.zpl_tree.specs.Syntax.{Bracket, NoBracket, Bracketed}
-use Rattle.zpl_tree.specs.Syntax as plain
-use Rattle.zpl_tree.specs.Grammar.{IsForm, IsProgram}
-use Rattle.zpl_names.specs.Kinds.{Rank, Formal, Signature}
-use Rattle.zpl_names.specs.Scope.{Entry, Scope}
-use Rattle.zpl_names.specs.Ranks.{IsKnownKind}
-use Rattle.zpl_names.specs.Shapes.{Shapes, variable_kind}
-use Rattle.zpl_names.specs.Declared.{entry_for, head_scope, own_entries, formal_of, formals_of}
-use Rattle.zpl_names.specs.Declared.{signature_of, routine_named, routines_of}
-use Rattle.zpl_names.specs.Sites.{form_sites}
-use Rattle.zpl_names.specs.Faults.{ends_in_border}
-use Rattle.zpl_names.specs.Accepted.{IsFaultless}
-use Rattle.zpl_names.proofs.ListLemmas.{Contains-from_among}
-use Rattle.zpl_binding.specs.Settings.{Setting}
-use Rattle.zpl_meaning.specs.Context.{Place, Setup}
-use Rattle.zpl_meaning.specs.Regions.{under_prefix}
-use Rattle.zpl_meaning.specs.Proper.{IsArrayRank}
-use Rattle.zpl_meaning.specs.Visited.{first_setup, IsUnder, IsVisited}
-use Rattle.zpl_meaning.proofs.ProperLemmas.{Fits, reach_at}
-use Rattle.zpl_meaning.proofs.VisitLemmas.{Laws, clean_of, Inside, InStmt, InBody}
+use Rattle.meaning_runs.specs.of_zpl_tree.Syntax.{Name, Prefix, Program, Stmt, Prefixed, Form, Block, Base, Param}
+use Rattle.meaning_runs.specs.of_zpl_tree.Syntax.{Bracket, NoBracket, Bracketed}
+use Rattle.meaning_runs.specs.of_zpl_tree.Syntax as plain
+use Rattle.meaning_runs.specs.of_zpl_tree.Grammar.{IsForm, IsProgram}
+use Rattle.meaning_runs.specs.of_zpl_names.Kinds.{Rank, Formal, Signature}
+use Rattle.meaning_runs.specs.of_zpl_names.Scope.{Entry, Scope}
+use Rattle.meaning_runs.specs.of_zpl_names.Ranks.{IsKnownKind}
+use Rattle.meaning_runs.specs.of_zpl_names.Shapes.{Shapes, variable_kind}
+use Rattle.meaning_runs.specs.of_zpl_names.Declared.{entry_for, head_scope, own_entries, formal_of, formals_of}
+use Rattle.meaning_runs.specs.of_zpl_names.Declared.{signature_of, routine_named, routines_of}
+use Rattle.meaning_runs.specs.of_zpl_names.Sites.{form_sites}
+use Rattle.meaning_runs.specs.of_zpl_names.Faults.{ends_in_border}
+use Rattle.meaning_runs.specs.of_zpl_names.Accepted.{IsFaultless}
+use Rattle.meaning_runs.proofs.of_zpl_names.ListLemmas.{Contains-from_among}
+use Rattle.meaning_runs.specs.of_zpl_binding.Settings.{Setting}
+use Rattle.meaning_runs.specs.of_zpl_meaning.Context.{Place, Setup}
+use Rattle.meaning_runs.specs.of_zpl_meaning.Regions.{under_prefix}
+use Rattle.meaning_runs.specs.of_zpl_meaning.Proper.{IsArrayRank}
+use Rattle.meaning_runs.specs.of_zpl_meaning.Visited.{first_setup, IsUnder, IsVisited}
+use Rattle.meaning_runs.proofs.of_zpl_meaning.ProperLemmas.{Fits, reach_at}
+use Rattle.meaning_runs.proofs.of_zpl_meaning.VisitLemmas.{Laws, clean_of, Inside, InStmt, InBody}
 use Rattle.meaning_ranks.specs.Ranked.{IsRankedForm, IsRankedUnder, IsRankedStmt}
 use Rattle.meaning_ranks.proofs.RankLemmas.{KnowsDirections}
 use Rattle.meaning_ranks.proofs.FormLemmas.{form_ranked, under_ranked, IsKnownFormal}

@@ -1,12 +1,12 @@
 -- What a procedure that is called for an answer has come to.
 use Rattle.std.specs.Prelude.{◌≡◌, ℕ, ℤ, List, None}
-use Rattle.zpl_tree.specs.Syntax.{Expr, Prefix, Prefixed, Return}
-use Rattle.zpl_names.specs.Sites.{Result}
-use Rattle.zpl_meaning.specs.Computed.{Gives}
-use Rattle.zpl_meaning.specs.Store.{Store, scalar_at}
-use Rattle.zpl_meaning.specs.Context.{Place}
-use Rattle.zpl_meaning.specs.Phases.{scalar_in}
-use Rattle.zpl_meaning.specs.Calls.{Called}
+use Rattle.meaning_runs.specs.of_zpl_tree.Syntax.{Expr, Prefix, Prefixed, Return}
+use Rattle.meaning_runs.specs.of_zpl_names.Sites.{Result}
+use Rattle.meaning_runs.specs.of_zpl_meaning.Computed.{Gives}
+use Rattle.meaning_runs.specs.of_zpl_meaning.Store.{Store, scalar_at}
+use Rattle.meaning_runs.specs.of_zpl_meaning.Context.{Place}
+use Rattle.meaning_runs.specs.of_zpl_meaning.Phases.{scalar_in}
+use Rattle.meaning_runs.specs.of_zpl_meaning.Calls.{Called}
 use Rattle.meaning_runs.specs.Met.{ComesUnder, IsMet, Opening}
 
 -- A `return` that the run comes to, in the procedure that was called and behind its prefixes; the

@@ -3,11 +3,11 @@ use Rattle.std.specs.Prelude.{◌≡◌, ℕ, ◌<◌, List, ◌∷◌, length, 
 use Rattle.zpl_nums.specs.declared.ends.Border.{Border as BorderKind}
 use Rattle.zpl_nums.specs.declared.ends.End.TheVariants.{Done}
 use Rattle.zpl_region.specs.declared.regions.Region.{Region}
-use Rattle.zpl_tree.specs.Syntax.{Name}
-use Rattle.zpl_meaning.specs.Store.{ArrayAt, Store, thing_of}
-use Rattle.zpl_meaning.specs.Context.{Edge, Place}
-use Rattle.zpl_meaning.specs.Outcome.{Outcome}
-use Rattle.zpl_meaning.specs.Statement.{border_thing}
+use Rattle.meaning_runs.specs.of_zpl_tree.Syntax.{Name}
+use Rattle.meaning_runs.specs.of_zpl_meaning.Store.{ArrayAt, Store, thing_of}
+use Rattle.meaning_runs.specs.of_zpl_meaning.Context.{Edge, Place}
+use Rattle.meaning_runs.specs.of_zpl_meaning.Outcome.{Outcome}
+use Rattle.meaning_runs.specs.of_zpl_meaning.Statement.{border_thing}
 use Rattle.meaning_ranks.specs.Ranked.{IsArrayOf}
 
 -- the border of one name

@@ -4,24 +4,24 @@ use Rattle.std.specs.Prelude.{◌≡◌, ℕ, zero, suc, Bool, true, false, List
 use Rattle.zpl_nums.specs.declared.operators.Op.{Op}
 use Rattle.zpl_region.specs.declared.regions.Region.{Region}
 use Rattle.zpl_region.specs.Region.{dim_at}
-use Rattle.zpl_tree.specs.Syntax.{Name, Expr, Number, Truth, Coord, Named, Shifted, Around, Remap}
-use Rattle.zpl_tree.specs.Syntax.{Call, Paren, Neg, Not, Abs, Pair, Reduce, Scan, Flood, Exprs}
-use Rattle.zpl_tree.specs.Syntax.{NoExpr, ThenExpr, NoBracket, Bracketed, Item, Str, Value, Form}
-use Rattle.zpl_tree.specs.Syntax.{Assign, Invoke, Block, If, While, Repeat, For, Border, Write, Return}
-use Rattle.zpl_tree.specs.Syntax.{Tested, Arms, NoArm, ThenArm}
-use Rattle.zpl_names.specs.Kinds.{Shape, Rank, Formal, ScalarFormal, ArrayFormal}
-use Rattle.zpl_names.specs.Scope.{kind_of}
-use Rattle.zpl_names.specs.Ranks.{operand_rank}
-use Rattle.zpl_names.specs.Sites.{Role, Limit, Result, Test, Printed, Actual, Assigned, tests_rank}
-use Rattle.zpl_names.specs.Sites.{is_shattered}
-use Rattle.zpl_meaning.specs.Computed.{Gives}
-use Rattle.zpl_meaning.specs.Store.{Store}
-use Rattle.zpl_meaning.specs.Context.{over_at, Place, reach_of, rank_in}
-use Rattle.zpl_meaning.specs.Regions.{under_source}
-use Rattle.zpl_meaning.specs.Settled.{Placed, source_rank, source_in}
-use Rattle.zpl_meaning.specs.Points.{assigned_expr, exprs_read, form_parts}
-use Rattle.zpl_meaning.specs.Calls.{formals_in}
-use Rattle.zpl_meaning.specs.Statement.{step_expr}
+use Rattle.meaning_runs.specs.of_zpl_tree.Syntax.{Name, Expr, Number, Truth, Coord, Named, Shifted, Around, Remap}
+use Rattle.meaning_runs.specs.of_zpl_tree.Syntax.{Call, Paren, Neg, Not, Abs, Pair, Reduce, Scan, Flood, Exprs}
+use Rattle.meaning_runs.specs.of_zpl_tree.Syntax.{NoExpr, ThenExpr, NoBracket, Bracketed, Item, Str, Value, Form}
+use Rattle.meaning_runs.specs.of_zpl_tree.Syntax.{Assign, Invoke, Block, If, While, Repeat, For, Border, Write, Return}
+use Rattle.meaning_runs.specs.of_zpl_tree.Syntax.{Tested, Arms, NoArm, ThenArm}
+use Rattle.meaning_runs.specs.of_zpl_names.Kinds.{Shape, Rank, Formal, ScalarFormal, ArrayFormal}
+use Rattle.meaning_runs.specs.of_zpl_names.Scope.{kind_of}
+use Rattle.meaning_runs.specs.of_zpl_names.Ranks.{operand_rank}
+use Rattle.meaning_runs.specs.of_zpl_names.Sites.{Role, Limit, Result, Test, Printed, Actual, Assigned, tests_rank}
+use Rattle.meaning_runs.specs.of_zpl_names.Sites.{is_shattered}
+use Rattle.meaning_runs.specs.of_zpl_meaning.Computed.{Gives}
+use Rattle.meaning_runs.specs.of_zpl_meaning.Store.{Store}
+use Rattle.meaning_runs.specs.of_zpl_meaning.Context.{over_at, Place, reach_of, rank_in}
+use Rattle.meaning_runs.specs.of_zpl_meaning.Regions.{under_source}
+use Rattle.meaning_runs.specs.of_zpl_meaning.Settled.{Placed, source_rank, source_in}
+use Rattle.meaning_runs.specs.of_zpl_meaning.Points.{assigned_expr, exprs_read, form_parts}
+use Rattle.meaning_runs.specs.of_zpl_meaning.Calls.{formals_in}
+use Rattle.meaning_runs.specs.of_zpl_meaning.Statement.{step_expr}
 use Rattle.meaning_ranks.specs.Shaped.{is_flood, IsShaped}
 
 -- so many dimensions, none of them flood

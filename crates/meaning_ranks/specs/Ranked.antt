@@ -4,29 +4,29 @@ use Rattle.std.specs.Prelude.{◌≡◌, ◌⊎◌, ◌≤◌, ℕ, Bool, true, 
 use Rattle.std.specs.Prelude.{Some, None, IsSome}
 use Rattle.zpl_nums.specs.declared.operators.Op.{Op}
 use Rattle.zpl_region.specs.declared.regions.Region.{Region}
-use Rattle.zpl_tree.specs.Syntax.{Name, Expr, Number, Truth, Coord, Named, Shifted, Around, Remap}
-use Rattle.zpl_tree.specs.Syntax.{Call, Paren, Neg, Not, Abs, Pair, Reduce, Scan, Flood, Exprs}
-use Rattle.zpl_tree.specs.Syntax.{NoExpr, ThenExpr, Inner, Rexpr, Dims, NoBracket, Bracketed, Pre}
-use Rattle.zpl_tree.specs.Syntax.{Posts, NoPost, ThenPost, Mask as MaskText, Prefix, Item, Str}
-use Rattle.zpl_tree.specs.Syntax.{Value, Stmt, Prefixed, Stmts, NoStmt, ThenStmt, Form, Assign}
-use Rattle.zpl_tree.specs.Syntax.{Invoke, Block, If, While, Repeat, For, Border, Write, Return, Arm}
-use Rattle.zpl_tree.specs.Syntax.{Tested, Arms, NoArm, ThenArm, Otherwise, NoElse, Else}
-use Rattle.zpl_names.specs.Kinds.{Rank, Formal, ScalarFormal, ArrayFormal}
-use Rattle.zpl_names.specs.Scope.{Scope, kind_of}
-use Rattle.zpl_names.specs.Ranks.{own_rank, operand_rank, inner_rank, exprs_count, dims_count}
-use Rattle.zpl_names.specs.Ranks.{direction_rank, dir_rank, array_rank, array_shape, mask_rank}
-use Rattle.zpl_names.specs.Types.{is_elementwise}
-use Rattle.zpl_names.specs.Shapes.{prefix_rank}
-use Rattle.zpl_names.specs.Sites.{Role, Limit, Result, Test, Printed, Actual, Assigned, tests_rank}
-use Rattle.zpl_names.specs.Sites.{is_shattered}
-use Rattle.zpl_meaning.specs.Store.{Thing, Scalar, ArrayAt, thing_of}
-use Rattle.zpl_meaning.specs.Context.{Over, Place, reach_of, rank_in}
-use Rattle.zpl_meaning.specs.Regions.{under_prefix, under_source}
-use Rattle.zpl_meaning.specs.Settled.{source_rank}
-use Rattle.zpl_meaning.specs.Points.{assigned_expr}
-use Rattle.zpl_meaning.specs.Calls.{formals_in}
-use Rattle.zpl_meaning.specs.Proper.{IsArrayRank}
-use Rattle.zpl_meaning.specs.Statement.{step_expr}
+use Rattle.meaning_runs.specs.of_zpl_tree.Syntax.{Name, Expr, Number, Truth, Coord, Named, Shifted, Around, Remap}
+use Rattle.meaning_runs.specs.of_zpl_tree.Syntax.{Call, Paren, Neg, Not, Abs, Pair, Reduce, Scan, Flood, Exprs}
+use Rattle.meaning_runs.specs.of_zpl_tree.Syntax.{NoExpr, ThenExpr, Inner, Rexpr, Dims, NoBracket, Bracketed, Pre}
+use Rattle.meaning_runs.specs.of_zpl_tree.Syntax.{Posts, NoPost, ThenPost, Mask as MaskText, Prefix, Item, Str}
+use Rattle.meaning_runs.specs.of_zpl_tree.Syntax.{Value, Stmt, Prefixed, Stmts, NoStmt, ThenStmt, Form, Assign}
+use Rattle.meaning_runs.specs.of_zpl_tree.Syntax.{Invoke, Block, If, While, Repeat, For, Border, Write, Return, Arm}
+use Rattle.meaning_runs.specs.of_zpl_tree.Syntax.{Tested, Arms, NoArm, ThenArm, Otherwise, NoElse, Else}
+use Rattle.meaning_runs.specs.of_zpl_names.Kinds.{Rank, Formal, ScalarFormal, ArrayFormal}
+use Rattle.meaning_runs.specs.of_zpl_names.Scope.{Scope, kind_of}
+use Rattle.meaning_runs.specs.of_zpl_names.Ranks.{own_rank, operand_rank, inner_rank, exprs_count, dims_count}
+use Rattle.meaning_runs.specs.of_zpl_names.Ranks.{direction_rank, dir_rank, array_rank, array_shape, mask_rank}
+use Rattle.meaning_runs.specs.of_zpl_names.Types.{is_elementwise}
+use Rattle.meaning_runs.specs.of_zpl_names.Shapes.{prefix_rank}
+use Rattle.meaning_runs.specs.of_zpl_names.Sites.{Role, Limit, Result, Test, Printed, Actual, Assigned, tests_rank}
+use Rattle.meaning_runs.specs.of_zpl_names.Sites.{is_shattered}
+use Rattle.meaning_runs.specs.of_zpl_meaning.Store.{Thing, Scalar, ArrayAt, thing_of}
+use Rattle.meaning_runs.specs.of_zpl_meaning.Context.{Over, Place, reach_of, rank_in}
+use Rattle.meaning_runs.specs.of_zpl_meaning.Regions.{under_prefix, under_source}
+use Rattle.meaning_runs.specs.of_zpl_meaning.Settled.{source_rank}
+use Rattle.meaning_runs.specs.of_zpl_meaning.Points.{assigned_expr}
+use Rattle.meaning_runs.specs.of_zpl_meaning.Calls.{formals_in}
+use Rattle.meaning_runs.specs.of_zpl_meaning.Proper.{IsArrayRank}
+use Rattle.meaning_runs.specs.of_zpl_meaning.Statement.{step_expr}
 
 -- ---- names
 

@@ -3,8 +3,8 @@ use Rattle.std.specs.Prelude.{◌≡◌, ℕ, Bool, true, false, List, [], ◌�
 use Rattle.zpl_region.specs.declared.dims.Dim.{Dim}
 use Rattle.zpl_region.specs.declared.dims.Dim.TheVariants.{Range, Flood}
 use Rattle.zpl_region.specs.declared.regions.Region.{Region}
-use Rattle.zpl_names.specs.Kinds.{Shape}
-use Rattle.zpl_meaning.specs.Context.{Over, Currents}
+use Rattle.meaning_runs.specs.of_zpl_names.Kinds.{Shape}
+use Rattle.meaning_runs.specs.of_zpl_meaning.Context.{Over, Currents}
 
 abbrev pub is_flood : Dim → Bool
 is_flood (Range lo hi step align) = false

@@ -1,10 +1,10 @@
 -- Statements that don't stand under a mask: prints of arrays, and borders.
 use Rattle.std.specs.Prelude.{◌≡◌, List, [], ◌∷◌, None}
-use Rattle.zpl_tree.specs.Syntax.{Item, Str, Value, Form, Assign, Invoke, Block, If, While, Repeat}
-use Rattle.zpl_tree.specs.Syntax.{For, Border, Write, Return}
-use Rattle.zpl_names.specs.Kinds.{Rank}
-use Rattle.zpl_names.specs.Sites.{Printed}
-use Rattle.zpl_meaning.specs.Context.{Place, over_at, rank_in}
+use Rattle.meaning_runs.specs.of_zpl_tree.Syntax.{Item, Str, Value, Form, Assign, Invoke, Block, If, While, Repeat}
+use Rattle.meaning_runs.specs.of_zpl_tree.Syntax.{For, Border, Write, Return}
+use Rattle.meaning_runs.specs.of_zpl_names.Kinds.{Rank}
+use Rattle.meaning_runs.specs.of_zpl_names.Sites.{Printed}
+use Rattle.meaning_runs.specs.of_zpl_meaning.Context.{Place, over_at, rank_in}
 
 -- the current region of the rank has no mask
 abbrev pub HasNoMask : Place → Rank → Type 0

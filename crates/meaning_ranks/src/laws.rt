@@ -2,16 +2,16 @@
 ghost use Rattle.std.specs.Prelude.{◌≡◌, ℕ, List, None};
 ghost use Rattle.zpl_nums.specs.declared.ends.Border.{Border as BorderKind};
 ghost use Rattle.zpl_nums.specs.declared.ends.End.TheVariants.{Done};
-ghost use Rattle.zpl_tree.specs.Syntax.{Assign, Border, Call, Exprs, Form, Name, Prefix, Prefixed};
-ghost use Rattle.zpl_tree.specs.Syntax.{Program, Stmt};
-ghost use Rattle.zpl_tree.specs.Grammar.{IsProgram};
-ghost use Rattle.zpl_names.specs.Accepted.{IsFaultless};
-ghost use Rattle.zpl_binding.specs.Settings.{Setting};
-ghost use Rattle.zpl_meaning.specs.Store.{Store};
-ghost use Rattle.zpl_meaning.specs.Context.{Place};
-ghost use Rattle.zpl_meaning.specs.Calls.{Called};
-ghost use Rattle.zpl_meaning.specs.Program.{call_at};
-ghost use Rattle.zpl_meaning.specs.Visited.{first_setup, IsVisited};
+ghost use Rattle.meaning_runs.specs.of_zpl_tree.Syntax.{Assign, Border, Call, Exprs, Form, Name, Prefix, Prefixed};
+ghost use Rattle.meaning_runs.specs.of_zpl_tree.Syntax.{Program, Stmt};
+ghost use Rattle.meaning_runs.specs.of_zpl_tree.Grammar.{IsProgram};
+ghost use Rattle.meaning_runs.specs.of_zpl_names.Accepted.{IsFaultless};
+ghost use Rattle.meaning_runs.specs.of_zpl_binding.Settings.{Setting};
+ghost use Rattle.meaning_runs.specs.of_zpl_meaning.Store.{Store};
+ghost use Rattle.meaning_runs.specs.of_zpl_meaning.Context.{Place};
+ghost use Rattle.meaning_runs.specs.of_zpl_meaning.Calls.{Called};
+ghost use Rattle.meaning_runs.specs.of_zpl_meaning.Program.{call_at};
+ghost use Rattle.meaning_runs.specs.of_zpl_meaning.Visited.{first_setup, IsVisited};
 ghost use Rattle.meaning_runs.specs.Met.{ComesUnder, IsMet, MakesCall, opening_of};
 ghost use Rattle.meaning_ranks.specs.Ranked.{IsRankedStmt};
 ghost use Rattle.meaning_ranks.specs.Answered.{HasAnswered};
@@ -20,12 +20,12 @@ ghost use Rattle.meaning_ranks.specs.Flat.{IsFlatForm};
 ghost use Rattle.meaning_ranks.specs.Shaped.{HaveTheirRanks};
 ghost use Rattle.meaning_ranks.specs.Unmasked.{IsUnmasked};
 
-use meaning_runs::{
-    answers_have_places, no_run_comes_to_the_end_of_calls, stores_have_what_names_stand_for,
-};
-use zpl_names::{
+use meaning_runs::zpl_names::{
     declared_ranks_are_at_most_three, faultless_programs_have_faultless_sites,
     faultless_programs_leave_nothing_open, procedures_are_there, ranks_are_at_most_three,
+};
+use meaning_runs::{
+    answers_have_places, no_run_comes_to_the_end_of_calls, stores_have_what_names_stand_for,
 };
 
 /// At each place that a run of a program of the grammar without faults visits, ranks agree: a

@@ -11,3 +11,4 @@ pub use laws::{
     answers_come_of_returns, borders_are_of_arrays, current_regions_have_their_ranks,
     no_flood_dimension_is_walked, prints_and_borders_have_no_mask, ranks_agree,
 };
+pub use meaning_runs::{zpl_meaning, zpl_names};

@@ -3,13 +3,13 @@
 use Rattle.std.proofs.Common.{◌≡◌, ℕ, ◌+◌, ◌<◌, ℤ, pos, List, [], ◌∷◌, ◌++◌}
 use Rattle.std.proofs.Common.{length, arith, length-append}
 use Rattle.std.specs.List.{AllByRecursion}
-use Rattle.zpl_arrays.specs.Array.{Array}
+use Rattle.zpl_meaning.specs.of_zpl_arrays.Array.{Array}
 use Rattle.zpl_region.specs.declared.regions.Region.{Region}
-use Rattle.zpl_tree.specs.Syntax.{Name, Bracket, NoBracket, Bracketed, VarDef}
-use Rattle.zpl_names.specs.Declared.{Routine}
-use Rattle.zpl_names.specs.Expansion.{FormalName, formal_names}
-use Rattle.zpl_binding.specs.Regions.{Known}
-use Rattle.zpl_binding.specs.Storages.{Border}
+use Rattle.zpl_meaning.specs.of_zpl_tree.Syntax.{Name, Bracket, NoBracket, Bracketed, VarDef}
+use Rattle.zpl_meaning.specs.of_zpl_names.Declared.{Routine}
+use Rattle.zpl_meaning.specs.of_zpl_names.Expansion.{FormalName, formal_names}
+use Rattle.zpl_meaning.specs.of_zpl_binding.Regions.{Known}
+use Rattle.zpl_meaning.specs.of_zpl_binding.Storages.{Border}
 use Rattle.zpl_meaning.specs.Store.{Thing, Scalar, ArrayAt, Fixed, Names, Store}
 use Rattle.zpl_meaning.specs.Context.{Setup}
 use Rattle.zpl_meaning.specs.Variables.{Frame, with_thing, with_scalar_named, with_array_named}

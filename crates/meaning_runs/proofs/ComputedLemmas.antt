@@ -5,25 +5,25 @@ use Rattle.std.proofs.Common.{Option, Some, None, Contains, refl, sym, ap, â—Œâˆ
 use Rattle.std.specs.List.{AllByRecursion, flat_map}
 use Rattle.std.specs.Option.{option_or}
 use Rattle.std.proofs.lemmas.List.Elements.{All-from_recursion}
-use Rattle.zpl_tree.specs.Syntax.{Name, Pre, RegionBase, NamedRegion, Ditto, NamedDir, Vector}
-use Rattle.zpl_tree.specs.Syntax.{Rexpr}
-use Rattle.zpl_tree.specs.Syntax.{Dims, Posts, Program}
-use Rattle.zpl_names.specs.Kinds as kind
-use Rattle.zpl_names.specs.Kinds.{Kind}
-use Rattle.zpl_names.specs.Scope.{in_reach, kind_in, kind_of, is_region, is_direction}
-use Rattle.zpl_names.specs.Ranks.{is_index}
-use Rattle.zpl_names.specs.Shapes.{unknown_shapes}
-use Rattle.zpl_names.specs.Declared.{Routine, routines_of, globals_of}
-use Rattle.zpl_names.specs.Sites.{Reach, Site, AtWhole, AtExpr, AtCall, AtNamed, AtDir, AtRegion}
-use Rattle.zpl_names.specs.Sites.{AtMask, AtStmt, AtBase, AtPosts, AtProcedure, routine_sites}
-use Rattle.zpl_names.specs.Faults.{unless_taken, unknown_base}
-use Rattle.zpl_names.specs.Accepted.{IsFaultless, HasNoFault}
-use Rattle.zpl_names.proofs.ListLemmas.{Among, among_from_Contains}
-use Rattle.zpl_names.proofs.NameLemmas.{empty_parts, no_place}
-use Rattle.zpl_names.proofs.FaultlessLemmas.{clean-routine}
-use Rattle.zpl_binding.specs.Settings.{Setting}
-use Rattle.zpl_binding.specs.Regions.{Known}
-use Rattle.zpl_binding.specs.Declarations.{known_of, region_names, direction_names, names_of}
+use Rattle.zpl_meaning.specs.of_zpl_tree.Syntax.{Name, Pre, RegionBase, NamedRegion, Ditto, NamedDir, Vector}
+use Rattle.zpl_meaning.specs.of_zpl_tree.Syntax.{Rexpr}
+use Rattle.zpl_meaning.specs.of_zpl_tree.Syntax.{Dims, Posts, Program}
+use Rattle.zpl_meaning.specs.of_zpl_names.Kinds as kind
+use Rattle.zpl_meaning.specs.of_zpl_names.Kinds.{Kind}
+use Rattle.zpl_meaning.specs.of_zpl_names.Scope.{in_reach, kind_in, kind_of, is_region, is_direction}
+use Rattle.zpl_meaning.specs.of_zpl_names.Ranks.{is_index}
+use Rattle.zpl_meaning.specs.of_zpl_names.Shapes.{unknown_shapes}
+use Rattle.zpl_meaning.specs.of_zpl_names.Declared.{Routine, routines_of, globals_of}
+use Rattle.zpl_meaning.specs.of_zpl_names.Sites.{Reach, Site, AtWhole, AtExpr, AtCall, AtNamed, AtDir, AtRegion}
+use Rattle.zpl_meaning.specs.of_zpl_names.Sites.{AtMask, AtStmt, AtBase, AtPosts, AtProcedure, routine_sites}
+use Rattle.zpl_meaning.specs.of_zpl_names.Faults.{unless_taken, unknown_base}
+use Rattle.zpl_meaning.specs.of_zpl_names.Accepted.{IsFaultless, HasNoFault}
+use Rattle.zpl_meaning.proofs.of_zpl_names.ListLemmas.{Among, among_from_Contains}
+use Rattle.zpl_meaning.proofs.of_zpl_names.NameLemmas.{empty_parts, no_place}
+use Rattle.zpl_meaning.proofs.of_zpl_names.FaultlessLemmas.{clean-routine}
+use Rattle.zpl_meaning.specs.of_zpl_binding.Settings.{Setting}
+use Rattle.zpl_meaning.specs.of_zpl_binding.Regions.{Known}
+use Rattle.zpl_meaning.specs.of_zpl_binding.Declarations.{known_of, region_names, direction_names, names_of}
 use Rattle.meaning_runs.specs.Computed.{HasBase, IsComputedAt}
 use Rattle.meaning_runs.proofs.OwnLemmas.{IsGlobal, global_in}
 use Rattle.meaning_runs.proofs.SiteLemmas.{IsIn, Told, site_told}

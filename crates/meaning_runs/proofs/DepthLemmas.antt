@@ -4,26 +4,26 @@ use Rattle.std.proofs.Common.{[], ◌∷◌, ◌++◌, Option, Some, None, cond,
 use Rattle.std.proofs.Common.{subst, true≢false}
 use Rattle.std.specs.Prelude.{filter_map}
 use Rattle.std.specs.List.{list_all, cons_option}
-use Rattle.zpl_tree.specs.Syntax.{Name, Call, Exprs, Prefix, Program, Stmt, Prefixed, Stmts}
-use Rattle.zpl_tree.specs.Syntax.{NoStmt, ThenStmt, Form, Assign, Invoke, Block, If, While, Repeat}
-use Rattle.zpl_tree.specs.Syntax.{For, Border, Write, Return, Tested, Arms, NoArm, ThenArm}
-use Rattle.zpl_tree.specs.Syntax.{Otherwise, NoElse, Else, Base}
-use Rattle.zpl_names.specs.Scope.{kind_of, is_procedure}
-use Rattle.zpl_names.specs.Shapes.{unknown_shapes}
-use Rattle.zpl_names.specs.Declared.{Routine, routines_of, routine_named, scope_of}
-use Rattle.zpl_names.specs.Sites.{Reach, in_body, under_prefixes, inside, Limit, Test as TestRole}
-use Rattle.zpl_names.specs.Sites.{Site, AtWhole, AtExpr, AtCall, AtNamed, AtDir, AtRegion}
-use Rattle.zpl_names.specs.Sites.{AtMask, AtStmt, AtBase, AtPosts, AtProcedure, whole_sites}
-use Rattle.zpl_names.specs.Sites.{prefixes_sites, step_sites, test_rank, arms_rank, stmt_sites}
-use Rattle.zpl_names.specs.Sites.{stmts_sites, form_sites, arms_sites, arm_sites, otherwise_sites}
-use Rattle.zpl_names.specs.Sites.{body_sites, outermost_sites, routine_sites, CallSite, call_of}
-use Rattle.zpl_names.specs.Expansion.{is_shallow}
-use Rattle.zpl_names.specs.Accepted.{IsFaultless, HasNoFault, Recursion, DeepCalls}
-use Rattle.zpl_names.proofs.ListLemmas.{Among, among_from_Contains, and_parts}
-use Rattle.zpl_names.proofs.NameLemmas.{no_place}
-use Rattle.zpl_names.proofs.FaultlessLemmas.{split, clean-routine}
-use Rattle.zpl_names.proofs.ReachedLemmas.{entry_is_shallow}
-use Rattle.zpl_binding.specs.Settings.{Setting}
+use Rattle.zpl_meaning.specs.of_zpl_tree.Syntax.{Name, Call, Exprs, Prefix, Program, Stmt, Prefixed, Stmts}
+use Rattle.zpl_meaning.specs.of_zpl_tree.Syntax.{NoStmt, ThenStmt, Form, Assign, Invoke, Block, If, While, Repeat}
+use Rattle.zpl_meaning.specs.of_zpl_tree.Syntax.{For, Border, Write, Return, Tested, Arms, NoArm, ThenArm}
+use Rattle.zpl_meaning.specs.of_zpl_tree.Syntax.{Otherwise, NoElse, Else, Base}
+use Rattle.zpl_meaning.specs.of_zpl_names.Scope.{kind_of, is_procedure}
+use Rattle.zpl_meaning.specs.of_zpl_names.Shapes.{unknown_shapes}
+use Rattle.zpl_meaning.specs.of_zpl_names.Declared.{Routine, routines_of, routine_named, scope_of}
+use Rattle.zpl_meaning.specs.of_zpl_names.Sites.{Reach, in_body, under_prefixes, inside, Limit, Test as TestRole}
+use Rattle.zpl_meaning.specs.of_zpl_names.Sites.{Site, AtWhole, AtExpr, AtCall, AtNamed, AtDir, AtRegion}
+use Rattle.zpl_meaning.specs.of_zpl_names.Sites.{AtMask, AtStmt, AtBase, AtPosts, AtProcedure, whole_sites}
+use Rattle.zpl_meaning.specs.of_zpl_names.Sites.{prefixes_sites, step_sites, test_rank, arms_rank, stmt_sites}
+use Rattle.zpl_meaning.specs.of_zpl_names.Sites.{stmts_sites, form_sites, arms_sites, arm_sites, otherwise_sites}
+use Rattle.zpl_meaning.specs.of_zpl_names.Sites.{body_sites, outermost_sites, routine_sites, CallSite, call_of}
+use Rattle.zpl_meaning.specs.of_zpl_names.Expansion.{is_shallow}
+use Rattle.zpl_meaning.specs.of_zpl_names.Accepted.{IsFaultless, HasNoFault, Recursion, DeepCalls}
+use Rattle.zpl_meaning.proofs.of_zpl_names.ListLemmas.{Among, among_from_Contains, and_parts}
+use Rattle.zpl_meaning.proofs.of_zpl_names.NameLemmas.{no_place}
+use Rattle.zpl_meaning.proofs.of_zpl_names.FaultlessLemmas.{split, clean-routine}
+use Rattle.zpl_meaning.proofs.of_zpl_names.ReachedLemmas.{entry_is_shallow}
+use Rattle.zpl_meaning.specs.of_zpl_binding.Settings.{Setting}
 use Rattle.zpl_meaning.specs.Store.{Store}
 use Rattle.zpl_meaning.specs.Context.{Place}
 use Rattle.zpl_meaning.specs.Calls.{Called}

@@ -2,9 +2,9 @@
 -- it is a loop that wants a turn which it may not make.
 use Rattle.std.proofs.Common.{◌≡◌, ℕ, zero, suc, sym, ap, ◌∙◌}
 use Rattle.zpl_nums.specs.declared.ends.End.TheVariants.{Done, More}
-use Rattle.zpl_tree.specs.Syntax.{Expr, Stmt, Stmts, NoStmt, ThenStmt, Form, Assign, Invoke, Block}
-use Rattle.zpl_tree.specs.Syntax.{If, While, Repeat, For, Border, Write, Return, Tested, Arms}
-use Rattle.zpl_tree.specs.Syntax.{NoArm, ThenArm, Otherwise, NoElse, Else}
+use Rattle.zpl_meaning.specs.of_zpl_tree.Syntax.{Expr, Stmt, Stmts, NoStmt, ThenStmt, Form, Assign, Invoke, Block}
+use Rattle.zpl_meaning.specs.of_zpl_tree.Syntax.{If, While, Repeat, For, Border, Write, Return, Tested, Arms}
+use Rattle.zpl_meaning.specs.of_zpl_tree.Syntax.{NoArm, ThenArm, Otherwise, NoElse, Else}
 use Rattle.zpl_meaning.specs.Store.{Store}
 use Rattle.zpl_meaning.specs.Outcome.{Outcome, goes_on, then_do, tested, while_turns, repeat_turns}
 use Rattle.zpl_meaning.specs.Statement.{arms_at}

@@ -6,20 +6,20 @@ use Rattle.std.specs.Prelude.{find}
 use Rattle.std.specs.List.{AllByRecursion}
 use Rattle.std.specs.Str.{bytes_eq}
 use Rattle.std.proofs.lemmas.List.Elements.{All-from_recursion}
-use Rattle.zpl_arrays.specs.Array.{Array}
+use Rattle.zpl_meaning.specs.of_zpl_arrays.Array.{Array}
 use Rattle.zpl_region.specs.declared.regions.Region.{Region}
-use Rattle.zpl_tree.specs.Syntax.{Name, Expr, Number, Truth, Coord, Named, Shifted, Around, Remap}
-use Rattle.zpl_tree.specs.Syntax.{Call, Paren, Neg, Not, Abs, Pair, Reduce, Scan, Flood, Exprs}
-use Rattle.zpl_tree.specs.Syntax.{NoExpr, ThenExpr, Bracket, NoBracket, Bracketed, Define, VarDef}
-use Rattle.zpl_tree.specs.Syntax.{Decl, Config, Constant, Regions, Directions, Vars, Defined}
-use Rattle.zpl_tree.specs.Syntax.{Mask as MaskText, Prefix}
-use Rattle.zpl_names.specs.Kinds.{Rank, Formal, ScalarFormal, ArrayFormal}
-use Rattle.zpl_names.specs.Ranks.{mask_rank}
-use Rattle.zpl_names.specs.Shapes.{prefix_rank}
-use Rattle.zpl_names.specs.Declared.{Routine}
-use Rattle.zpl_names.specs.Expansion.{FormalName, formal_names}
-use Rattle.zpl_binding.specs.Regions.{Known}
-use Rattle.zpl_binding.specs.Storages.{Border}
+use Rattle.zpl_meaning.specs.of_zpl_tree.Syntax.{Name, Expr, Number, Truth, Coord, Named, Shifted, Around, Remap}
+use Rattle.zpl_meaning.specs.of_zpl_tree.Syntax.{Call, Paren, Neg, Not, Abs, Pair, Reduce, Scan, Flood, Exprs}
+use Rattle.zpl_meaning.specs.of_zpl_tree.Syntax.{NoExpr, ThenExpr, Bracket, NoBracket, Bracketed, Define, VarDef}
+use Rattle.zpl_meaning.specs.of_zpl_tree.Syntax.{Decl, Config, Constant, Regions, Directions, Vars, Defined}
+use Rattle.zpl_meaning.specs.of_zpl_tree.Syntax.{Mask as MaskText, Prefix}
+use Rattle.zpl_meaning.specs.of_zpl_names.Kinds.{Rank, Formal, ScalarFormal, ArrayFormal}
+use Rattle.zpl_meaning.specs.of_zpl_names.Ranks.{mask_rank}
+use Rattle.zpl_meaning.specs.of_zpl_names.Shapes.{prefix_rank}
+use Rattle.zpl_meaning.specs.of_zpl_names.Declared.{Routine}
+use Rattle.zpl_meaning.specs.of_zpl_names.Expansion.{FormalName, formal_names}
+use Rattle.zpl_meaning.specs.of_zpl_binding.Regions.{Known}
+use Rattle.zpl_meaning.specs.of_zpl_binding.Storages.{Border}
 use Rattle.zpl_meaning.specs.Computed.{Computed, Gives, Traps, computed_then}
 use Rattle.zpl_meaning.specs.Store.{Thing, Scalar, ArrayAt, Fixed, Names, Environment, Store}
 use Rattle.zpl_meaning.specs.Store.{thing_of}

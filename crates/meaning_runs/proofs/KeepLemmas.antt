@@ -8,20 +8,20 @@ use Rattle.zpl_nums.specs.declared.ends.End.{End}
 use Rattle.zpl_nums.specs.declared.ends.End.TheVariants.{Done, Trap, More}
 use Rattle.zpl_nums.specs.declared.ends.Border.{Border as BorderKind}
 use Rattle.zpl_nums.specs.Integer.{is_true}
-use Rattle.zpl_arrays.specs.Array.{Array}
-use Rattle.zpl_tree.specs.Syntax.{Name, Expr, Number, Truth, Coord, Named, Shifted, Around, Remap}
-use Rattle.zpl_tree.specs.Syntax.{Call, Paren, Neg, Not, Abs, Pair, Reduce, Scan, Flood}
-use Rattle.zpl_tree.specs.Syntax.{Bracket, NoBracket, Bracketed, VarDef, Prefix, Stmt, Prefixed}
-use Rattle.zpl_tree.specs.Syntax.{Stmts, NoStmt, ThenStmt, Form}
-use Rattle.zpl_tree.specs.Syntax.{Assign, Invoke, Block, If, While, Repeat, For, Border, Write}
-use Rattle.zpl_tree.specs.Syntax.{Return, Arm, Tested, Arms, NoArm, ThenArm, Otherwise, NoElse}
-use Rattle.zpl_tree.specs.Syntax.{Else}
-use Rattle.zpl_names.specs.Kinds.{Rank}
-use Rattle.zpl_names.specs.Sites.{Role, Assigned, tests_rank}
-use Rattle.zpl_names.specs.Declared.{Routine, routine_named}
-use Rattle.zpl_names.specs.Expansion.{FormalName, formal_names}
-use Rattle.zpl_binding.specs.Regions.{Known}
-use Rattle.zpl_binding.specs.Storages.{Border as BorderText}
+use Rattle.zpl_meaning.specs.of_zpl_arrays.Array.{Array}
+use Rattle.zpl_meaning.specs.of_zpl_tree.Syntax.{Name, Expr, Number, Truth, Coord, Named, Shifted, Around, Remap}
+use Rattle.zpl_meaning.specs.of_zpl_tree.Syntax.{Call, Paren, Neg, Not, Abs, Pair, Reduce, Scan, Flood}
+use Rattle.zpl_meaning.specs.of_zpl_tree.Syntax.{Bracket, NoBracket, Bracketed, VarDef, Prefix, Stmt, Prefixed}
+use Rattle.zpl_meaning.specs.of_zpl_tree.Syntax.{Stmts, NoStmt, ThenStmt, Form}
+use Rattle.zpl_meaning.specs.of_zpl_tree.Syntax.{Assign, Invoke, Block, If, While, Repeat, For, Border, Write}
+use Rattle.zpl_meaning.specs.of_zpl_tree.Syntax.{Return, Arm, Tested, Arms, NoArm, ThenArm, Otherwise, NoElse}
+use Rattle.zpl_meaning.specs.of_zpl_tree.Syntax.{Else}
+use Rattle.zpl_meaning.specs.of_zpl_names.Kinds.{Rank}
+use Rattle.zpl_meaning.specs.of_zpl_names.Sites.{Role, Assigned, tests_rank}
+use Rattle.zpl_meaning.specs.of_zpl_names.Declared.{Routine, routine_named}
+use Rattle.zpl_meaning.specs.of_zpl_names.Expansion.{FormalName, formal_names}
+use Rattle.zpl_meaning.specs.of_zpl_binding.Regions.{Known}
+use Rattle.zpl_meaning.specs.of_zpl_binding.Storages.{Border as BorderText}
 use Rattle.zpl_meaning.specs.Computed.{Computed, Gives, Traps}
 use Rattle.zpl_meaning.specs.Store.{Thing, Scalar, ArrayAt, Fixed, Store, thing_of, scalar_at}
 use Rattle.zpl_meaning.specs.Store.{with_scalar, with_array, cut_back}

@@ -11,31 +11,31 @@ use Rattle.std.proofs.lemmas.Slice.Eq.{bytes_eq-Decides}
 use Rattle.zpl_region.specs.declared.regions.Region.{Region}
 use Rattle.zpl_region.specs.Region.{outside_of, inside_of, moved, strided}
 use Rattle.zpl_region.specs.Tests.{is_within_limit}
-use Rattle.zpl_tree.specs.Syntax.{Name, Base, Bracket, NoBracket, Bracketed, Define, RegionDef}
-use Rattle.zpl_tree.specs.Syntax.{DirDef}
-use Rattle.zpl_tree.specs.Syntax.{VarDef, Decl, Config, Constant, Regions, Directions, Vars}
-use Rattle.zpl_tree.specs.Syntax.{Defined}
-use Rattle.zpl_tree.specs.Syntax.{Pre, Dir, NamedDir, Vector, Posts, NoPost, ThenPost, Exprs}
-use Rattle.zpl_tree.specs.Syntax.{Program}
-use Rattle.zpl_tree.specs.Syntax.{Prefix, Stmt, Prefixed}
-use Rattle.zpl_tree.specs.Syntax as plain
-use Rattle.zpl_names.specs.Kinds as kind
-use Rattle.zpl_names.specs.Kinds.{Kind}
-use Rattle.zpl_names.specs.Scope.{Entry, Scope, kind_in, kind_of}
-use Rattle.zpl_names.specs.Shapes.{variable_kind}
-use Rattle.zpl_names.specs.Declared.{declaring, entry_for, with_define, with_region, with_direction}
-use Rattle.zpl_names.specs.Declared.{with_variables, with_procedure, with_each, with_decl}
-use Rattle.zpl_names.specs.Declared.{globals_of}
-use Rattle.zpl_names.specs.Declared.{Routine, routines_of, scope_of}
-use Rattle.zpl_names.proofs.ListLemmas.{Among, Contains-from_among}
-use Rattle.zpl_names.proofs.FaultlessLemmas.{split, left-among, right-among}
-use Rattle.zpl_binding.specs.Outcome.{BindFault, RegionLimit, Outcome, Gives, Fails}
-use Rattle.zpl_binding.specs.Outcome.{outcome_of}
-use Rattle.zpl_binding.specs.Vectors.{three_components, vector_of, dir_of}
-use Rattle.zpl_binding.specs.Regions.{Known, limited, formed_by, behind, before}
-use Rattle.zpl_binding.specs.Declarations.{known_of, region_names, direction_names, names_of}
-use Rattle.zpl_binding.specs.Settings.{Setting}
-use Rattle.zpl_binding.specs.Bound.{vectors_in}
+use Rattle.zpl_meaning.specs.of_zpl_tree.Syntax.{Name, Base, Bracket, NoBracket, Bracketed, Define, RegionDef}
+use Rattle.zpl_meaning.specs.of_zpl_tree.Syntax.{DirDef}
+use Rattle.zpl_meaning.specs.of_zpl_tree.Syntax.{VarDef, Decl, Config, Constant, Regions, Directions, Vars}
+use Rattle.zpl_meaning.specs.of_zpl_tree.Syntax.{Defined}
+use Rattle.zpl_meaning.specs.of_zpl_tree.Syntax.{Pre, Dir, NamedDir, Vector, Posts, NoPost, ThenPost, Exprs}
+use Rattle.zpl_meaning.specs.of_zpl_tree.Syntax.{Program}
+use Rattle.zpl_meaning.specs.of_zpl_tree.Syntax.{Prefix, Stmt, Prefixed}
+use Rattle.zpl_meaning.specs.of_zpl_tree.Syntax as plain
+use Rattle.zpl_meaning.specs.of_zpl_names.Kinds as kind
+use Rattle.zpl_meaning.specs.of_zpl_names.Kinds.{Kind}
+use Rattle.zpl_meaning.specs.of_zpl_names.Scope.{Entry, Scope, kind_in, kind_of}
+use Rattle.zpl_meaning.specs.of_zpl_names.Shapes.{variable_kind}
+use Rattle.zpl_meaning.specs.of_zpl_names.Declared.{declaring, entry_for, with_define, with_region, with_direction}
+use Rattle.zpl_meaning.specs.of_zpl_names.Declared.{with_variables, with_procedure, with_each, with_decl}
+use Rattle.zpl_meaning.specs.of_zpl_names.Declared.{globals_of}
+use Rattle.zpl_meaning.specs.of_zpl_names.Declared.{Routine, routines_of, scope_of}
+use Rattle.zpl_meaning.proofs.of_zpl_names.ListLemmas.{Among, Contains-from_among}
+use Rattle.zpl_meaning.proofs.of_zpl_names.FaultlessLemmas.{split, left-among, right-among}
+use Rattle.zpl_meaning.specs.of_zpl_binding.Outcome.{BindFault, RegionLimit, Outcome, Gives, Fails}
+use Rattle.zpl_meaning.specs.of_zpl_binding.Outcome.{outcome_of}
+use Rattle.zpl_meaning.specs.of_zpl_binding.Vectors.{three_components, vector_of, dir_of}
+use Rattle.zpl_meaning.specs.of_zpl_binding.Regions.{Known, limited, formed_by, behind, before}
+use Rattle.zpl_meaning.specs.of_zpl_binding.Declarations.{known_of, region_names, direction_names, names_of}
+use Rattle.zpl_meaning.specs.of_zpl_binding.Settings.{Setting}
+use Rattle.zpl_meaning.specs.of_zpl_binding.Bound.{vectors_in}
 use Rattle.zpl_meaning.specs.Store.{Store}
 use Rattle.zpl_meaning.specs.Context.{Place}
 use Rattle.zpl_meaning.specs.Given.{IsGiven}

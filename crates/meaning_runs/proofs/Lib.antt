@@ -17,3 +17,6 @@ pub mod EndLemmas
 pub mod StopLemmas
 pub mod TrapRunLemmas
 pub mod DepthLemmas
+pub use Rattle.zpl_meaning.proofs.of_zpl_binding as of_zpl_binding
+pub use Rattle.zpl_meaning.proofs as of_zpl_meaning
+pub use Rattle.zpl_meaning.proofs.of_zpl_names as of_zpl_names

@@ -2,12 +2,12 @@
 use Rattle.std.proofs.Common.{◌≡◌, ℕ, suc, ℤ, pos, List, subst}
 use Rattle.std.proofs.Common.{arith}
 use Rattle.std.proofs.lemmas.List.{length-map}
-use Rattle.zpl_tree.specs.Syntax.{Name, Exprs, Prefix, Program, Stmt, Prefixed, Stmts}
-use Rattle.zpl_tree.specs.Syntax.{Form, Arms, Otherwise}
-use Rattle.zpl_names.specs.Declared.{Routine}
-use Rattle.zpl_binding.specs.Settings.{Setting}
-use Rattle.zpl_binding.specs.Declarations.{known_of}
-use Rattle.zpl_binding.specs.Storages.{borders_of}
+use Rattle.zpl_meaning.specs.of_zpl_tree.Syntax.{Name, Exprs, Prefix, Program, Stmt, Prefixed, Stmts}
+use Rattle.zpl_meaning.specs.of_zpl_tree.Syntax.{Form, Arms, Otherwise}
+use Rattle.zpl_meaning.specs.of_zpl_names.Declared.{Routine}
+use Rattle.zpl_meaning.specs.of_zpl_binding.Settings.{Setting}
+use Rattle.zpl_meaning.specs.of_zpl_binding.Declarations.{known_of}
+use Rattle.zpl_meaning.specs.of_zpl_binding.Storages.{borders_of}
 use Rattle.zpl_meaning.specs.Computed.{Computed, Gives, Traps, computed_then}
 use Rattle.zpl_meaning.specs.Store.{Store, empty_store}
 use Rattle.zpl_meaning.specs.Context.{Place}

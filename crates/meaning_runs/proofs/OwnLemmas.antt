@@ -6,18 +6,18 @@ use Rattle.std.specs.Prelude.{find}
 use Rattle.std.specs.List.{AllByRecursion, flat_map}
 use Rattle.std.specs.Option.{option_or}
 use Rattle.std.specs.Str.{bytes_eq}
-use Rattle.zpl_tree.specs.Syntax.{Name, Base, Bracket, NoBracket, Bracketed, Param, VarDef, Decl}
-use Rattle.zpl_tree.specs.Syntax.{Config, Constant, Regions, Directions, Vars, Defined, Program}
-use Rattle.zpl_tree.specs.Syntax as plain
-use Rattle.zpl_names.specs.Kinds as kind
-use Rattle.zpl_names.specs.Kinds.{Kind, Signature}
-use Rattle.zpl_names.specs.Scope.{Entry, Scope, kind_in, kind_of}
-use Rattle.zpl_names.specs.Shapes.{variable_kind}
-use Rattle.zpl_names.specs.Declared.{entry_for, head_scope, own_entries, Routine}
-use Rattle.zpl_names.specs.Declared.{routines_behind, routines_of, routine_named, scope_of}
-use Rattle.zpl_names.specs.Declared.{globals_of}
-use Rattle.zpl_names.specs.Declared.{with_procedure}
-use Rattle.zpl_names.proofs.ListLemmas.{Among}
+use Rattle.zpl_meaning.specs.of_zpl_tree.Syntax.{Name, Base, Bracket, NoBracket, Bracketed, Param, VarDef, Decl}
+use Rattle.zpl_meaning.specs.of_zpl_tree.Syntax.{Config, Constant, Regions, Directions, Vars, Defined, Program}
+use Rattle.zpl_meaning.specs.of_zpl_tree.Syntax as plain
+use Rattle.zpl_meaning.specs.of_zpl_names.Kinds as kind
+use Rattle.zpl_meaning.specs.of_zpl_names.Kinds.{Kind, Signature}
+use Rattle.zpl_meaning.specs.of_zpl_names.Scope.{Entry, Scope, kind_in, kind_of}
+use Rattle.zpl_meaning.specs.of_zpl_names.Shapes.{variable_kind}
+use Rattle.zpl_meaning.specs.of_zpl_names.Declared.{entry_for, head_scope, own_entries, Routine}
+use Rattle.zpl_meaning.specs.of_zpl_names.Declared.{routines_behind, routines_of, routine_named, scope_of}
+use Rattle.zpl_meaning.specs.of_zpl_names.Declared.{globals_of}
+use Rattle.zpl_meaning.specs.of_zpl_names.Declared.{with_procedure}
+use Rattle.zpl_meaning.proofs.of_zpl_names.ListLemmas.{Among}
 use Rattle.zpl_meaning.proofs.VisitLemmas.{IsOwn, AllOwn, own_append, own_variable, own_each}
 use Rattle.zpl_meaning.proofs.VisitLemmas.{own_flat, all_own, own_in, find_among}
 

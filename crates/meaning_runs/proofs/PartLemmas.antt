@@ -1,10 +1,10 @@
 -- The statements in a statement: induction over them, and a run comes to no others.
 use Rattle.std.proofs.Common.{ℕ, List, ◌⊎◌, inl, inr, refl, subst}
-use Rattle.zpl_tree.specs.Syntax.{Prefix, Stmt, Prefixed, Stmts, NoStmt, ThenStmt, Form, Assign}
-use Rattle.zpl_tree.specs.Syntax.{Invoke, Block, If, While, Repeat, For, Border, Write, Return}
-use Rattle.zpl_tree.specs.Syntax.{Tested, Arms, NoArm, ThenArm, Otherwise, NoElse, Else}
-use Rattle.zpl_names.proofs.ListLemmas.{Among}
-use Rattle.zpl_names.proofs.FaultlessLemmas.{split, left-among, right-among}
+use Rattle.zpl_meaning.specs.of_zpl_tree.Syntax.{Prefix, Stmt, Prefixed, Stmts, NoStmt, ThenStmt, Form, Assign}
+use Rattle.zpl_meaning.specs.of_zpl_tree.Syntax.{Invoke, Block, If, While, Repeat, For, Border, Write, Return}
+use Rattle.zpl_meaning.specs.of_zpl_tree.Syntax.{Tested, Arms, NoArm, ThenArm, Otherwise, NoElse, Else}
+use Rattle.zpl_meaning.proofs.of_zpl_names.ListLemmas.{Among}
+use Rattle.zpl_meaning.proofs.of_zpl_names.FaultlessLemmas.{split, left-among, right-among}
 use Rattle.zpl_meaning.specs.Store.{Store}
 use Rattle.zpl_meaning.specs.Statement.{Context}
 use Rattle.zpl_meaning.specs.Visited.{list_of, arms_parts, else_parts, parts_of}

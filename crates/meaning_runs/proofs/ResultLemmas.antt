@@ -4,28 +4,28 @@ use Rattle.std.proofs.Common.{List, [], ◌∷◌, ◌++◌, length, Option, Som
 use Rattle.std.proofs.Common.{refl}
 use Rattle.std.proofs.Common.{sym, ap, ◌∙◌, subst, arith, length-append, true≢false, zero}
 use Rattle.std.specs.Prelude.{is_some, is_none}
-use Rattle.zpl_tree.specs.Syntax.{Name, Expr, Call, Exprs, Prefix, Program, Stmt, Prefixed}
-use Rattle.zpl_tree.specs.Syntax.{Stmts, NoStmt, ThenStmt, Form, Assign, Invoke, Block, If, While}
-use Rattle.zpl_tree.specs.Syntax.{Repeat, For, Border, Write, Return, Tested, Arms, NoArm, ThenArm}
-use Rattle.zpl_tree.specs.Syntax.{Otherwise, NoElse, Else, Base, Param}
-use Rattle.zpl_names.specs.Kinds as kind
-use Rattle.zpl_names.specs.Kinds.{Kind, Signature}
-use Rattle.zpl_names.specs.Scope.{kind_of, kind_in, is_procedure}
-use Rattle.zpl_names.specs.Shapes.{unknown_shapes}
-use Rattle.zpl_names.specs.Declared.{Routine, routines_of, routine_named, entry_of}
-use Rattle.zpl_names.specs.Declared.{scope_of, globals_of}
-use Rattle.zpl_names.specs.Sites.{Reach, in_body, under_prefix, under_prefixes, inside, Site}
-use Rattle.zpl_names.specs.Sites.{AtCall, CallRole}
-use Rattle.zpl_names.specs.Sites.{AtStmt, AsStatement, Limit, Test as TestRole, whole_sites}
-use Rattle.zpl_names.specs.Sites.{prefixes_sites, step_sites, test_rank, arms_rank, stmt_sites}
-use Rattle.zpl_names.specs.Sites.{stmts_sites, form_sites, arms_sites, arm_sites, otherwise_sites}
-use Rattle.zpl_names.specs.Sites.{body_sites, outermost_sites, routine_sites}
-use Rattle.zpl_names.specs.Faults.{answers}
-use Rattle.zpl_names.specs.Accepted.{IsFaultless, HasNoFault, NoEntry, is_entry, no_entry}
-use Rattle.zpl_names.proofs.ListLemmas.{Among, among_from_Contains}
-use Rattle.zpl_names.proofs.NameLemmas.{no_place, procedure_is_there}
-use Rattle.zpl_names.proofs.FaultlessLemmas.{split, clean-routine}
-use Rattle.zpl_binding.specs.Settings.{Setting}
+use Rattle.zpl_meaning.specs.of_zpl_tree.Syntax.{Name, Expr, Call, Exprs, Prefix, Program, Stmt, Prefixed}
+use Rattle.zpl_meaning.specs.of_zpl_tree.Syntax.{Stmts, NoStmt, ThenStmt, Form, Assign, Invoke, Block, If, While}
+use Rattle.zpl_meaning.specs.of_zpl_tree.Syntax.{Repeat, For, Border, Write, Return, Tested, Arms, NoArm, ThenArm}
+use Rattle.zpl_meaning.specs.of_zpl_tree.Syntax.{Otherwise, NoElse, Else, Base, Param}
+use Rattle.zpl_meaning.specs.of_zpl_names.Kinds as kind
+use Rattle.zpl_meaning.specs.of_zpl_names.Kinds.{Kind, Signature}
+use Rattle.zpl_meaning.specs.of_zpl_names.Scope.{kind_of, kind_in, is_procedure}
+use Rattle.zpl_meaning.specs.of_zpl_names.Shapes.{unknown_shapes}
+use Rattle.zpl_meaning.specs.of_zpl_names.Declared.{Routine, routines_of, routine_named, entry_of}
+use Rattle.zpl_meaning.specs.of_zpl_names.Declared.{scope_of, globals_of}
+use Rattle.zpl_meaning.specs.of_zpl_names.Sites.{Reach, in_body, under_prefix, under_prefixes, inside, Site}
+use Rattle.zpl_meaning.specs.of_zpl_names.Sites.{AtCall, CallRole}
+use Rattle.zpl_meaning.specs.of_zpl_names.Sites.{AtStmt, AsStatement, Limit, Test as TestRole, whole_sites}
+use Rattle.zpl_meaning.specs.of_zpl_names.Sites.{prefixes_sites, step_sites, test_rank, arms_rank, stmt_sites}
+use Rattle.zpl_meaning.specs.of_zpl_names.Sites.{stmts_sites, form_sites, arms_sites, arm_sites, otherwise_sites}
+use Rattle.zpl_meaning.specs.of_zpl_names.Sites.{body_sites, outermost_sites, routine_sites}
+use Rattle.zpl_meaning.specs.of_zpl_names.Faults.{answers}
+use Rattle.zpl_meaning.specs.of_zpl_names.Accepted.{IsFaultless, HasNoFault, NoEntry, is_entry, no_entry}
+use Rattle.zpl_meaning.proofs.of_zpl_names.ListLemmas.{Among, among_from_Contains}
+use Rattle.zpl_meaning.proofs.of_zpl_names.NameLemmas.{no_place, procedure_is_there}
+use Rattle.zpl_meaning.proofs.of_zpl_names.FaultlessLemmas.{split, clean-routine}
+use Rattle.zpl_meaning.specs.of_zpl_binding.Settings.{Setting}
 use Rattle.zpl_meaning.specs.Store.{Store}
 use Rattle.zpl_meaning.specs.Context.{Place}
 use Rattle.zpl_meaning.specs.Regions.{under_prefix as under_prefix_at}

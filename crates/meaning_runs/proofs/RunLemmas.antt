@@ -4,15 +4,15 @@ use Rattle.std.proofs.Common.{Option, Some, None, refl, sym, ap, ◌∙◌, subs
 use Rattle.std.specs.Prelude.{◌↔◌, int_lt}
 use Rattle.zpl_nums.specs.declared.ends.End.TheVariants.{Done, More}
 use Rattle.zpl_nums.specs.declared.operators.Op.{Op}
-use Rattle.zpl_tree.specs.Syntax.{Name, Expr, Number, Truth, Coord, Named, Shifted, Around, Remap}
-use Rattle.zpl_tree.specs.Syntax.{Call, Paren, Neg, Not, Abs, Pair, Reduce, Scan, Flood, Exprs}
-use Rattle.zpl_tree.specs.Syntax.{ForHead, Prefix, Program, Stmt, Prefixed, Stmts, Form, Assign}
-use Rattle.zpl_tree.specs.Syntax.{Invoke, Block, If, While, Repeat, For, Border, Write, Return}
-use Rattle.zpl_tree.specs.Syntax.{Otherwise, NoElse, Else}
-use Rattle.zpl_names.proofs.ListLemmas.{Among}
-use Rattle.zpl_names.specs.Declared.{Routine, routine_named}
-use Rattle.zpl_names.specs.Reached.{longest_chain}
-use Rattle.zpl_binding.specs.Settings.{Setting}
+use Rattle.zpl_meaning.specs.of_zpl_tree.Syntax.{Name, Expr, Number, Truth, Coord, Named, Shifted, Around, Remap}
+use Rattle.zpl_meaning.specs.of_zpl_tree.Syntax.{Call, Paren, Neg, Not, Abs, Pair, Reduce, Scan, Flood, Exprs}
+use Rattle.zpl_meaning.specs.of_zpl_tree.Syntax.{ForHead, Prefix, Program, Stmt, Prefixed, Stmts, Form, Assign}
+use Rattle.zpl_meaning.specs.of_zpl_tree.Syntax.{Invoke, Block, If, While, Repeat, For, Border, Write, Return}
+use Rattle.zpl_meaning.specs.of_zpl_tree.Syntax.{Otherwise, NoElse, Else}
+use Rattle.zpl_meaning.proofs.of_zpl_names.ListLemmas.{Among}
+use Rattle.zpl_meaning.specs.of_zpl_names.Declared.{Routine, routine_named}
+use Rattle.zpl_meaning.specs.of_zpl_names.Reached.{longest_chain}
+use Rattle.zpl_meaning.specs.of_zpl_binding.Settings.{Setting}
 use Rattle.zpl_meaning.specs.Computed.{Gives}
 use Rattle.zpl_meaning.specs.Store.{Thing, Scalar, ArrayAt, Fixed, Store, thing_of}
 use Rattle.zpl_meaning.specs.Store.{scalar_at, cut_back}

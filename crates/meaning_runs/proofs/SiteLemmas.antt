@@ -4,38 +4,38 @@ use Rattle.std.proofs.Common.{Option}
 use Rattle.std.proofs.Common.{Some, None, option_to_list, Contains, refl, sym, ap, ◌∙◌, subst}
 use Rattle.std.specs.List.{flat_map}
 use Rattle.zpl_nums.specs.declared.operators.Op.{Op}
-use Rattle.zpl_tree.specs.Syntax.{Name, Pre, RegionBase, NamedRegion, Ditto, Expr, Number, Truth}
-use Rattle.zpl_tree.specs.Syntax.{Coord, Named, Shifted, Around, Remap, Call, Paren, Neg, Not, Abs}
-use Rattle.zpl_tree.specs.Syntax.{Pair, Reduce, Scan, Flood, Exprs, NoExpr, ThenExpr, Dir, NamedDir}
-use Rattle.zpl_tree.specs.Syntax.{Vector, Inner, Rexpr, Dims, NoBracket, Bracketed, Posts, NoPost}
-use Rattle.zpl_tree.specs.Syntax.{ThenPost, DimText, Blank, Star, One, Span, DimTexts, NoDim}
-use Rattle.zpl_tree.specs.Syntax.{ThenDim, Mask, Prefix, Item, Str, Value, Stmt, Prefixed, Stmts}
-use Rattle.zpl_tree.specs.Syntax.{NoStmt, ThenStmt, Form, Assign, Invoke, Block, If, While, Repeat}
-use Rattle.zpl_tree.specs.Syntax.{For, Border, Write, Return, Arm, Tested, Arms, NoArm, ThenArm}
-use Rattle.zpl_tree.specs.Syntax.{Otherwise, NoElse, Else, Base, Program, Decl, Config, Constant}
-use Rattle.zpl_tree.specs.Syntax.{Regions, Directions, Vars, Defined}
-use Rattle.zpl_names.specs.Kinds.{Rank}
-use Rattle.zpl_names.specs.Scope.{Entry}
-use Rattle.zpl_names.specs.Ranks.{inner_rank, own_rank, is_index, mask_rank}
-use Rattle.zpl_names.specs.Shapes.{unknown_shapes}
-use Rattle.zpl_names.specs.Declared.{Routine, routine_of, routines_of, routines_behind, scope_of}
-use Rattle.zpl_names.specs.Declared.{globals_of, with_decl, with_procedure}
-use Rattle.zpl_names.specs.Sites.{Reach, in_body, in_vector, over_source, under_prefix}
-use Rattle.zpl_names.specs.Sites.{under_prefixes}
-use Rattle.zpl_names.specs.Sites.{inside, Role, Bound, Component, Limit, Result, Test as TestRole}
-use Rattle.zpl_names.specs.Sites.{Printed, Actual, Operand, Assigned, whole_rank, Site, AtWhole}
-use Rattle.zpl_names.specs.Sites.{AtExpr, AtDir, AtRegion, AtMask}
-use Rattle.zpl_names.specs.Sites.{index_sites, expr_sites, exprs_sites, actuals_sites, dir_sites}
-use Rattle.zpl_names.specs.Sites.{components_sites, region_sites, posts_sites, dims_sites}
-use Rattle.zpl_names.specs.Sites.{dim_sites}
-use Rattle.zpl_names.specs.Sites.{whole_sites, prefixes_sites, value_sites, item_sites}
-use Rattle.zpl_names.specs.Sites.{step_sites, stmt_sites, stmts_sites, form_sites, arms_sites}
-use Rattle.zpl_names.specs.Sites.{arm_sites, otherwise_sites, body_sites, outermost_sites}
-use Rattle.zpl_names.specs.Sites.{routine_sites, arms_rank, test_rank, each_sites, decl_sites}
-use Rattle.zpl_names.specs.Sites.{head_sites, text_sites}
-use Rattle.zpl_names.proofs.ListLemmas.{Among, Contains-from_among}
-use Rattle.zpl_names.proofs.FaultlessLemmas.{left-among, right-among, flat_among}
-use Rattle.zpl_binding.specs.Bound.{vectors_at, vectors_in}
+use Rattle.zpl_meaning.specs.of_zpl_tree.Syntax.{Name, Pre, RegionBase, NamedRegion, Ditto, Expr, Number, Truth}
+use Rattle.zpl_meaning.specs.of_zpl_tree.Syntax.{Coord, Named, Shifted, Around, Remap, Call, Paren, Neg, Not, Abs}
+use Rattle.zpl_meaning.specs.of_zpl_tree.Syntax.{Pair, Reduce, Scan, Flood, Exprs, NoExpr, ThenExpr, Dir, NamedDir}
+use Rattle.zpl_meaning.specs.of_zpl_tree.Syntax.{Vector, Inner, Rexpr, Dims, NoBracket, Bracketed, Posts, NoPost}
+use Rattle.zpl_meaning.specs.of_zpl_tree.Syntax.{ThenPost, DimText, Blank, Star, One, Span, DimTexts, NoDim}
+use Rattle.zpl_meaning.specs.of_zpl_tree.Syntax.{ThenDim, Mask, Prefix, Item, Str, Value, Stmt, Prefixed, Stmts}
+use Rattle.zpl_meaning.specs.of_zpl_tree.Syntax.{NoStmt, ThenStmt, Form, Assign, Invoke, Block, If, While, Repeat}
+use Rattle.zpl_meaning.specs.of_zpl_tree.Syntax.{For, Border, Write, Return, Arm, Tested, Arms, NoArm, ThenArm}
+use Rattle.zpl_meaning.specs.of_zpl_tree.Syntax.{Otherwise, NoElse, Else, Base, Program, Decl, Config, Constant}
+use Rattle.zpl_meaning.specs.of_zpl_tree.Syntax.{Regions, Directions, Vars, Defined}
+use Rattle.zpl_meaning.specs.of_zpl_names.Kinds.{Rank}
+use Rattle.zpl_meaning.specs.of_zpl_names.Scope.{Entry}
+use Rattle.zpl_meaning.specs.of_zpl_names.Ranks.{inner_rank, own_rank, is_index, mask_rank}
+use Rattle.zpl_meaning.specs.of_zpl_names.Shapes.{unknown_shapes}
+use Rattle.zpl_meaning.specs.of_zpl_names.Declared.{Routine, routine_of, routines_of, routines_behind, scope_of}
+use Rattle.zpl_meaning.specs.of_zpl_names.Declared.{globals_of, with_decl, with_procedure}
+use Rattle.zpl_meaning.specs.of_zpl_names.Sites.{Reach, in_body, in_vector, over_source, under_prefix}
+use Rattle.zpl_meaning.specs.of_zpl_names.Sites.{under_prefixes}
+use Rattle.zpl_meaning.specs.of_zpl_names.Sites.{inside, Role, Bound, Component, Limit, Result, Test as TestRole}
+use Rattle.zpl_meaning.specs.of_zpl_names.Sites.{Printed, Actual, Operand, Assigned, whole_rank, Site, AtWhole}
+use Rattle.zpl_meaning.specs.of_zpl_names.Sites.{AtExpr, AtDir, AtRegion, AtMask}
+use Rattle.zpl_meaning.specs.of_zpl_names.Sites.{index_sites, expr_sites, exprs_sites, actuals_sites, dir_sites}
+use Rattle.zpl_meaning.specs.of_zpl_names.Sites.{components_sites, region_sites, posts_sites, dims_sites}
+use Rattle.zpl_meaning.specs.of_zpl_names.Sites.{dim_sites}
+use Rattle.zpl_meaning.specs.of_zpl_names.Sites.{whole_sites, prefixes_sites, value_sites, item_sites}
+use Rattle.zpl_meaning.specs.of_zpl_names.Sites.{step_sites, stmt_sites, stmts_sites, form_sites, arms_sites}
+use Rattle.zpl_meaning.specs.of_zpl_names.Sites.{arm_sites, otherwise_sites, body_sites, outermost_sites}
+use Rattle.zpl_meaning.specs.of_zpl_names.Sites.{routine_sites, arms_rank, test_rank, each_sites, decl_sites}
+use Rattle.zpl_meaning.specs.of_zpl_names.Sites.{head_sites, text_sites}
+use Rattle.zpl_meaning.proofs.of_zpl_names.ListLemmas.{Among, Contains-from_among}
+use Rattle.zpl_meaning.proofs.of_zpl_names.FaultlessLemmas.{left-among, right-among, flat_among}
+use Rattle.zpl_meaning.specs.of_zpl_binding.Bound.{vectors_at, vectors_in}
 use Rattle.zpl_meaning.proofs.DepthLemmas.{Each, each_left, each_right}
 use Rattle.meaning_runs.specs.Computed.{HasVectors}
 

@@ -5,12 +5,12 @@ use Rattle.std.specs.Prelude.{int_lt}
 use Rattle.zpl_nums.specs.declared.ends.End.TheVariants.{Done}
 use Rattle.zpl_nums.specs.declared.ends.TrapKind.{TrapKind}
 use Rattle.zpl_nums.specs.declared.operators.Op.{Op}
-use Rattle.zpl_tree.specs.Syntax.{Name, Expr, Number, Truth, Coord, Named, Shifted, Around, Remap}
-use Rattle.zpl_tree.specs.Syntax.{Call, Paren, Neg, Not, Abs, Pair, Reduce, Scan, Flood, Exprs}
-use Rattle.zpl_tree.specs.Syntax.{ForHead, Stmt, Stmts, NoStmt, ThenStmt}
-use Rattle.zpl_tree.specs.Syntax.{Form, Assign, Invoke, Block, If, While, Repeat, For, Border}
-use Rattle.zpl_tree.specs.Syntax.{Write}
-use Rattle.zpl_tree.specs.Syntax.{Return, Tested, Arms, NoArm, ThenArm, Otherwise, NoElse, Else}
+use Rattle.zpl_meaning.specs.of_zpl_tree.Syntax.{Name, Expr, Number, Truth, Coord, Named, Shifted, Around, Remap}
+use Rattle.zpl_meaning.specs.of_zpl_tree.Syntax.{Call, Paren, Neg, Not, Abs, Pair, Reduce, Scan, Flood, Exprs}
+use Rattle.zpl_meaning.specs.of_zpl_tree.Syntax.{ForHead, Stmt, Stmts, NoStmt, ThenStmt}
+use Rattle.zpl_meaning.specs.of_zpl_tree.Syntax.{Form, Assign, Invoke, Block, If, While, Repeat, For, Border}
+use Rattle.zpl_meaning.specs.of_zpl_tree.Syntax.{Write}
+use Rattle.zpl_meaning.specs.of_zpl_tree.Syntax.{Return, Tested, Arms, NoArm, ThenArm, Otherwise, NoElse, Else}
 use Rattle.zpl_meaning.specs.Computed.{Gives}
 use Rattle.zpl_meaning.specs.Store.{Thing, Scalar, ArrayAt, Fixed, Store, thing_of, scalar_at}
 use Rattle.zpl_meaning.specs.Store.{cut_back}

@@ -4,14 +4,14 @@ use Rattle.std.proofs.Common.{◌∷◌, length, Option, Some, None, refl, ap, �
 use Rattle.std.specs.Prelude.{◌↔◌, int_lt}
 use Rattle.zpl_nums.specs.declared.ends.End.TheVariants.{Trap}
 use Rattle.zpl_nums.specs.declared.ends.TrapKind.{TrapKind}
-use Rattle.zpl_tree.specs.Syntax.{Name, Exprs, ForHead, Prefix, Program, Stmt, Prefixed}
-use Rattle.zpl_tree.specs.Syntax.{Stmts, Form, If, While}
-use Rattle.zpl_tree.specs.Syntax.{Repeat, For, Arms}
-use Rattle.zpl_tree.specs.Syntax.{Otherwise}
-use Rattle.zpl_names.proofs.ListLemmas.{Among}
-use Rattle.zpl_names.specs.Declared.{Routine, routine_named}
-use Rattle.zpl_names.specs.Reached.{longest_chain}
-use Rattle.zpl_binding.specs.Settings.{Setting}
+use Rattle.zpl_meaning.specs.of_zpl_tree.Syntax.{Name, Exprs, ForHead, Prefix, Program, Stmt, Prefixed}
+use Rattle.zpl_meaning.specs.of_zpl_tree.Syntax.{Stmts, Form, If, While}
+use Rattle.zpl_meaning.specs.of_zpl_tree.Syntax.{Repeat, For, Arms}
+use Rattle.zpl_meaning.specs.of_zpl_tree.Syntax.{Otherwise}
+use Rattle.zpl_meaning.proofs.of_zpl_names.ListLemmas.{Among}
+use Rattle.zpl_meaning.specs.of_zpl_names.Declared.{Routine, routine_named}
+use Rattle.zpl_meaning.specs.of_zpl_names.Reached.{longest_chain}
+use Rattle.zpl_meaning.specs.of_zpl_binding.Settings.{Setting}
 use Rattle.zpl_meaning.specs.Computed.{Traps}
 use Rattle.zpl_meaning.specs.Store.{Store, thing_of, scalar_at, cut_back}
 use Rattle.zpl_meaning.specs.Context.{Setup, Place}

@@ -2,9 +2,9 @@
 use Rattle.std.proofs.Common.{◌≡◌, ℕ, ℤ, List, [], ◌∷◌, map, inl, inr, refl, sym, ap}
 use Rattle.std.proofs.Common.{◌∙◌}
 use Rattle.zpl_nums.specs.declared.ends.End.TheVariants.{Trap, More}
-use Rattle.zpl_tree.specs.Syntax.{Stmt, Prefixed, Form, Assign, Invoke, Block, If, While}
-use Rattle.zpl_tree.specs.Syntax.{Repeat, For, Border, Write, Return, Otherwise, NoElse, Else}
-use Rattle.zpl_names.proofs.ListLemmas.{Among, among_from_Contains, Contains-from_among}
+use Rattle.zpl_meaning.specs.of_zpl_tree.Syntax.{Stmt, Prefixed, Form, Assign, Invoke, Block, If, While}
+use Rattle.zpl_meaning.specs.of_zpl_tree.Syntax.{Repeat, For, Border, Write, Return, Otherwise, NoElse, Else}
+use Rattle.zpl_meaning.proofs.of_zpl_names.ListLemmas.{Among, among_from_Contains, Contains-from_among}
 use Rattle.zpl_meaning.specs.Computed.{Computed, Gives, Traps}
 use Rattle.zpl_meaning.specs.Store.{Store, thing_of}
 use Rattle.zpl_meaning.specs.Context.{Place}

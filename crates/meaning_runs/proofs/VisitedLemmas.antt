@@ -2,9 +2,9 @@
 use Rattle.std.proofs.Common.{◌≡◌, ℕ, suc, Bool, true, false, ◌&&◌, ℤ, List, [], ◌∷◌, length}
 use Rattle.std.proofs.Common.{Some, None, refl, subst, arith}
 use Rattle.zpl_nums.specs.declared.ends.TrapKind.{TrapKind}
-use Rattle.zpl_tree.specs.Syntax.{Name, Call, Exprs, Prefix, Stmt, Prefixed, Form, Assign, Invoke}
-use Rattle.zpl_names.specs.Declared.{Routine, routine_named}
-use Rattle.zpl_names.proofs.ListLemmas.{Contains-from_among}
+use Rattle.zpl_meaning.specs.of_zpl_tree.Syntax.{Name, Call, Exprs, Prefix, Stmt, Prefixed, Form, Assign, Invoke}
+use Rattle.zpl_meaning.specs.of_zpl_names.Declared.{Routine, routine_named}
+use Rattle.zpl_meaning.proofs.of_zpl_names.ListLemmas.{Contains-from_among}
 use Rattle.zpl_meaning.specs.Computed.{Computed, Gives, Traps, computed_then, both_then, provided}
 use Rattle.zpl_meaning.specs.Store.{Store}
 use Rattle.zpl_meaning.specs.Context.{Place}

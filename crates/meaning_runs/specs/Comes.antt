@@ -2,8 +2,8 @@
 -- and the turns of its loops.
 use Rattle.std.specs.Prelude.{◌≡◌, ℕ, zero, suc, true, false, ℤ}
 use Rattle.zpl_nums.specs.declared.ends.End.TheVariants.{Done}
-use Rattle.zpl_tree.specs.Syntax.{Expr, Stmt, Stmts, ThenStmt, Form, Block, If, While}
-use Rattle.zpl_tree.specs.Syntax.{Repeat, Tested, Arms, NoArm, ThenArm, Otherwise, Else}
+use Rattle.zpl_meaning.specs.of_zpl_tree.Syntax.{Expr, Stmt, Stmts, ThenStmt, Form, Block, If, While}
+use Rattle.zpl_meaning.specs.of_zpl_tree.Syntax.{Repeat, Tested, Arms, NoArm, ThenArm, Otherwise, Else}
 use Rattle.zpl_meaning.specs.Store.{Store}
 use Rattle.zpl_meaning.specs.Outcome.{Outcome, Test, Count, is_past, next_value}
 use Rattle.zpl_meaning.specs.Statement.{arms_at}

@@ -1,13 +1,13 @@
 -- The regions and directions that are named in the text, and the vectors there: what was computed
 -- for them before the run.
 use Rattle.std.specs.Prelude.{◌≡◌, false, List, All, Contains}
-use Rattle.zpl_tree.specs.Syntax.{Pre, RegionBase, NamedRegion, Ditto, NamedDir, Vector, Rexpr}
-use Rattle.zpl_tree.specs.Syntax.{Posts, NoPost, ThenPost, Program}
-use Rattle.zpl_names.specs.Ranks.{is_index}
-use Rattle.zpl_names.specs.Sites.{Reach, Site, AtDir, AtRegion}
-use Rattle.zpl_binding.specs.Regions.{Known}
-use Rattle.zpl_binding.specs.Declarations.{names_of}
-use Rattle.zpl_binding.specs.Bound.{vectors_in}
+use Rattle.zpl_meaning.specs.of_zpl_tree.Syntax.{Pre, RegionBase, NamedRegion, Ditto, NamedDir, Vector, Rexpr}
+use Rattle.zpl_meaning.specs.of_zpl_tree.Syntax.{Posts, NoPost, ThenPost, Program}
+use Rattle.zpl_meaning.specs.of_zpl_names.Ranks.{is_index}
+use Rattle.zpl_meaning.specs.of_zpl_names.Sites.{Reach, Site, AtDir, AtRegion}
+use Rattle.zpl_meaning.specs.of_zpl_binding.Regions.{Known}
+use Rattle.zpl_meaning.specs.of_zpl_binding.Declarations.{names_of}
+use Rattle.zpl_meaning.specs.of_zpl_binding.Bound.{vectors_in}
 
 -- the vectors that stand behind `at` and `by` are among those of the statements of the text
 abbrev pub HasVectors : Program → Posts → Type 0

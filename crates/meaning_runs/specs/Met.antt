@@ -1,12 +1,12 @@
 -- The statements that a run comes to, each with the place and the store that it finds there.
 use Rattle.std.specs.Prelude.{◌≡◌, ℕ, suc, ℤ, pos, false, int_lt, List, [], ◌∷◌, length, Some, None}
-use Rattle.zpl_tree.specs.Syntax.{Name, Call, Exprs, ForHead, Prefix, Program, Stmt, Prefixed}
-use Rattle.zpl_tree.specs.Syntax.{Stmts, Form, Assign, Invoke, For}
-use Rattle.zpl_names.specs.Declared.{Routine, routine_named, entry_of}
-use Rattle.zpl_names.specs.Reached.{longest_chain}
-use Rattle.zpl_binding.specs.Settings.{Setting}
-use Rattle.zpl_binding.specs.Declarations.{known_of}
-use Rattle.zpl_binding.specs.Storages.{borders_of}
+use Rattle.zpl_meaning.specs.of_zpl_tree.Syntax.{Name, Call, Exprs, ForHead, Prefix, Program, Stmt, Prefixed}
+use Rattle.zpl_meaning.specs.of_zpl_tree.Syntax.{Stmts, Form, Assign, Invoke, For}
+use Rattle.zpl_meaning.specs.of_zpl_names.Declared.{Routine, routine_named, entry_of}
+use Rattle.zpl_meaning.specs.of_zpl_names.Reached.{longest_chain}
+use Rattle.zpl_meaning.specs.of_zpl_binding.Settings.{Setting}
+use Rattle.zpl_meaning.specs.of_zpl_binding.Declarations.{known_of}
+use Rattle.zpl_meaning.specs.of_zpl_binding.Storages.{borders_of}
 use Rattle.zpl_meaning.specs.Computed.{Gives}
 use Rattle.zpl_meaning.specs.Store.{Scalar, Store, thing_of, with_scalar}
 use Rattle.zpl_meaning.specs.Context.{Over, Setup, Place}

@@ -1,6 +1,6 @@
 -- How the statements in a form are run: by themselves, or for one tuple of a shattered statement.
 use Rattle.std.specs.Prelude.{ℕ}
-use Rattle.zpl_tree.specs.Syntax.{Expr, Stmt, Stmts}
+use Rattle.zpl_meaning.specs.of_zpl_tree.Syntax.{Expr, Stmt, Stmts}
 use Rattle.zpl_meaning.specs.Store.{Store}
 use Rattle.zpl_meaning.specs.Outcome.{Outcome, Test}
 use Rattle.zpl_meaning.specs.Points.{Point, point_test, point_stmt, point_stmts}

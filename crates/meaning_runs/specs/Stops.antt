@@ -1,6 +1,6 @@
 -- Where a run wants more: at a loop that wants a turn, and may make none.
 use Rattle.std.specs.Prelude.{◌≡◌, ℕ, zero, true, false, ℤ, List}
-use Rattle.zpl_tree.specs.Syntax.{ForHead, Prefix, Prefixed, Stmts, Form, For}
+use Rattle.zpl_meaning.specs.of_zpl_tree.Syntax.{ForHead, Prefix, Prefixed, Stmts, Form, For}
 use Rattle.zpl_meaning.specs.Store.{Store}
 use Rattle.zpl_meaning.specs.Context.{Place}
 use Rattle.zpl_meaning.specs.Outcome.{is_past}

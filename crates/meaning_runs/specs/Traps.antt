@@ -2,9 +2,9 @@
 use Rattle.std.specs.Prelude.{◌≡◌, ℕ, suc, true, false, List, ◌∷◌}
 use Rattle.zpl_nums.specs.declared.ends.End.TheVariants.{Done, Trap}
 use Rattle.zpl_nums.specs.declared.ends.TrapKind.{TrapKind}
-use Rattle.zpl_tree.specs.Syntax.{Name, Expr, Exprs, ForHead, Prefix, Stmt, Prefixed, Stmts, Form}
-use Rattle.zpl_tree.specs.Syntax.{Assign, Invoke, Block, If, While, Repeat, For, Border, Write}
-use Rattle.zpl_tree.specs.Syntax.{Return, Tested, Arms, ThenArm, Otherwise}
+use Rattle.zpl_meaning.specs.of_zpl_tree.Syntax.{Name, Expr, Exprs, ForHead, Prefix, Stmt, Prefixed, Stmts, Form}
+use Rattle.zpl_meaning.specs.of_zpl_tree.Syntax.{Assign, Invoke, Block, If, While, Repeat, For, Border, Write}
+use Rattle.zpl_meaning.specs.of_zpl_tree.Syntax.{Return, Tested, Arms, ThenArm, Otherwise}
 use Rattle.zpl_meaning.specs.Computed.{Gives, Traps}
 use Rattle.zpl_meaning.specs.Store.{Store}
 use Rattle.zpl_meaning.specs.Context.{Over, Place}

@@ -1,8 +1,8 @@
 -- What the run of one tuple of a shattered statement comes to.
 use Rattle.std.specs.Prelude.{◌≡◌, ℕ, ℤ, List, Contains}
-use Rattle.zpl_tree.specs.Syntax.{Prefix, Prefixed, Form}
-use Rattle.zpl_names.specs.Kinds.{Rank}
-use Rattle.zpl_names.specs.Sites.{tests_rank}
+use Rattle.zpl_meaning.specs.of_zpl_tree.Syntax.{Prefix, Prefixed, Form}
+use Rattle.zpl_meaning.specs.of_zpl_names.Kinds.{Rank}
+use Rattle.zpl_meaning.specs.of_zpl_names.Sites.{tests_rank}
 use Rattle.zpl_meaning.specs.Computed.{Gives}
 use Rattle.zpl_meaning.specs.Store.{Store}
 use Rattle.zpl_meaning.specs.Context.{Over, Place, over_at, reach_of}

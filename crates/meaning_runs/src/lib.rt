@@ -11,3 +11,5 @@ pub use laws::{
     more_comes_of_loops, no_run_comes_to_the_end_of_calls, regions_have_been_computed,
     runs_keep_what_there_is, stores_have_what_names_stand_for, traps_come_of_statements,
 };
+pub use zpl_meaning;
+pub use zpl_meaning::zpl_names;

@@ -13,8 +13,8 @@ use Rattle.grid_meaning.specs.Local.{Local, processors}
 use Rattle.row_orders.specs.Rows.{ArePartners, alone_where, delivery_stages, taken_where, taking}
 use Rattle.row_runs.specs.Run.{Does, Goes}
 use Rattle.flat_form.specs.Whole.{Whole}
-use Rattle.plan_meaning.specs.Abreast.{Abreast, are_none, every, go_where, is_quiet, locals_of, share_of}
-use Rattle.plan_meaning.specs.Messages.{are_partners, begun, bytes, delivered, does_well, final_of, from_of, leaves_row, middle_of, next_or, next_with, receivers, senders, shown_of, starts_alone, to_of, took, words_of}
+use Rattle.plan_orders.specs.of_plan_meaning.Abreast.{Abreast, are_none, every, go_where, is_quiet, locals_of, share_of}
+use Rattle.plan_orders.specs.of_plan_meaning.Messages.{are_partners, begun, bytes, delivered, does_well, final_of, from_of, leaves_row, middle_of, next_or, next_with, receivers, senders, shown_of, starts_alone, to_of, took, words_of}
 use Rattle.plan_orders.proofs.DeliverLemmas.{alone_of, receivers_of, senders_of}
 use Rattle.row_runs.specs.Rows.{AreEffects, BothGo}
 use Rattle.needs_runs.specs.Holds.{Holds}

@@ -37,8 +37,8 @@ use Rattle.row_runs.specs.Rows.{AreEffects, OldWrong}
 use Rattle.flat_form.specs.Moves.{edged, found, moved_in, provided, reads_in}
 use Rattle.flat_form.specs.Right.{can_write}
 use Rattle.flat_form.specs.Whole.{Whole}
-use Rattle.plan_meaning.specs.Abreast.{Abreast}
-use Rattle.plan_meaning.specs.Messages.{delivered}
+use Rattle.plan_orders.specs.of_plan_meaning.Abreast.{Abreast}
+use Rattle.plan_orders.specs.of_plan_meaning.Messages.{delivered}
 use Rattle.needs_runs.specs.Agree.{FitRowAgrees, HasLayout}
 use Rattle.needs_runs.specs.Holds.{Holds}
 use Rattle.needs_runs.proofs.FlatLemmas.{are_blocks, three}

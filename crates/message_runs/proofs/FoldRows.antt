@@ -13,8 +13,8 @@ use Rattle.row_runs.specs.Run.{Does, Goes, Stops, Wrong}
 use Rattle.flat_form.specs.Act.{fold_number, is_awaited}
 use Rattle.flat_form.specs.Right.{is_settled}
 use Rattle.flat_form.specs.Whole.{Whole}
-use Rattle.plan_meaning.specs.Abreast.{Abreast, are_none, go_where, locals_of}
-use Rattle.plan_meaning.specs.Act as plan
+use Rattle.plan_orders.specs.of_plan_meaning.Abreast.{Abreast, are_none, go_where, locals_of}
+use Rattle.plan_orders.specs.of_plan_meaning.Act as plan
 use Rattle.normal_runs.proofs.PlaceLemmas.{set_apart, set_length, set_there}
 use Rattle.row_runs.specs.Rows.{AreEffects, BothGo, OldWrong}
 use Rattle.needs_runs.specs.Agree.{FitRowAgrees}

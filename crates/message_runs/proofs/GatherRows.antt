@@ -44,8 +44,8 @@ use Rattle.row_runs.specs.Run.{Does, Goes}
 use Rattle.flat_form.specs.Moves.{found, provided, reads_in}
 use Rattle.flat_form.specs.Right.{no_flood}
 use Rattle.flat_form.specs.Whole.{Whole}
-use Rattle.plan_meaning.specs.Abreast.{Abreast, locals_of}
-use Rattle.plan_meaning.specs.Messages.{delivered}
+use Rattle.plan_orders.specs.of_plan_meaning.Abreast.{Abreast, locals_of}
+use Rattle.plan_orders.specs.of_plan_meaning.Messages.{delivered}
 use Rattle.row_runs.specs.Rows.{AreEffects, OldWrong}
 use Rattle.needs_runs.specs.Agree.{FitRowAgrees, HasLayout}
 use Rattle.needs_runs.specs.Holds.{Holds}

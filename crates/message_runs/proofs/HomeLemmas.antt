@@ -27,7 +27,7 @@ use Rattle.grid_meaning.proofs.BoxLemmas.{box_is}
 use Rattle.flat_form.specs.Right.{each_matches}
 use Rattle.flat_form.specs.States.{IsStoreOf}
 use Rattle.flat_form.specs.Whole.{Whole}
-use Rattle.plan_meaning.specs.Abreast.{Abreast}
+use Rattle.plan_orders.specs.of_plan_meaning.Abreast.{Abreast}
 use Rattle.needs_runs.specs.Agree.{HasLayout}
 use Rattle.needs_runs.specs.Holds.{Holds}
 use Rattle.needs_runs.proofs.BringLemmas.{value_held}

@@ -26,7 +26,7 @@ use Rattle.normal_runs.proofs.PlaceLemmas.{moved_none}
 use Rattle.flat_form.specs.Moves.{reads_in}
 use Rattle.flat_form.specs.Right.{each_covers, each_matches, has_places, is_unmoved, matches, may_read, reads_well}
 use Rattle.flat_form.specs.Whole.{Whole}
-use Rattle.plan_meaning.specs.Abreast.{Abreast}
+use Rattle.plan_orders.specs.of_plan_meaning.Abreast.{Abreast}
 use Rattle.needs_runs.specs.Holds.{Holds, lies_in_own}
 use Rattle.needs_runs.proofs.HoldsLemmas.{both_parts, both_true}
 use Rattle.needs_runs.proofs.PlaceLemmas.{held_there}

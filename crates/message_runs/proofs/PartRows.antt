@@ -39,8 +39,8 @@ use Rattle.row_runs.specs.Rows.{AreEffects, OldWrong}
 use Rattle.flat_form.specs.Moves.{found, moved_in, parted, provided, reads_in}
 use Rattle.flat_form.specs.Right.{can_write, no_flood}
 use Rattle.flat_form.specs.Whole.{Whole}
-use Rattle.plan_meaning.specs.Abreast.{Abreast, locals_of}
-use Rattle.plan_meaning.specs.Messages as plan
+use Rattle.plan_orders.specs.of_plan_meaning.Abreast.{Abreast, locals_of}
+use Rattle.plan_orders.specs.of_plan_meaning.Messages as plan
 use Rattle.normal_runs.proofs.PlaceLemmas.{members_apart, set_apart}
 use Rattle.needs_runs.specs.Agree.{FitRowAgrees, HasLayout}
 use Rattle.needs_runs.specs.Holds.{Holds}

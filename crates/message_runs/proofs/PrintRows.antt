@@ -20,10 +20,10 @@ use Rattle.flat_form.specs.Names.{each_word, word_scalars}
 use Rattle.flat_form.specs.Right.{is_settled}
 use Rattle.flat_form.specs.Row.{words_at}
 use Rattle.flat_form.specs.Whole.{Whole, registers_of}
-use Rattle.plan_meaning.specs.Abreast.{Abreast, Share, are_none, every, go_where, is_quiet, locals_of, share_of, standing}
-use Rattle.plan_meaning.specs.Act as plan
-use Rattle.plan_meaning.specs.Act.{action_of, alone, ended_by, ends_where, is_ended_as, print_ends}
-use Rattle.plan_meaning.specs.Messages.{leaves_row, next_or, shown_of}
+use Rattle.plan_orders.specs.of_plan_meaning.Abreast.{Abreast, Share, are_none, every, go_where, is_quiet, locals_of, share_of, standing}
+use Rattle.plan_orders.specs.of_plan_meaning.Act as plan
+use Rattle.plan_orders.specs.of_plan_meaning.Act.{action_of, alone, ended_by, ends_where, is_ended_as, print_ends}
+use Rattle.plan_orders.specs.of_plan_meaning.Messages.{leaves_row, next_or, shown_of}
 use Rattle.row_runs.specs.Rows.{AreEffects, BothGo, BothStop, OldWrong}
 use Rattle.needs_runs.specs.Agree.{FitRowAgrees}
 use Rattle.needs_runs.specs.Holds.{Holds}

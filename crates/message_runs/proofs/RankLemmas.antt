@@ -11,7 +11,7 @@ use Rattle.grid_meaning.specs.Local.{Local}
 use Rattle.grid_meaning.specs.State.{IsSlot}
 use Rattle.grid_meaning.specs.Stored.{no_places}
 use Rattle.flat_form.specs.Whole.{Whole}
-use Rattle.plan_meaning.specs.Abreast.{Abreast}
+use Rattle.plan_orders.specs.of_plan_meaning.Abreast.{Abreast}
 use Rattle.needs_runs.specs.Holds.{Holds}
 use Rattle.needs_runs.proofs.SlotLemmas.{zip_back}
 

@@ -12,8 +12,8 @@ use Rattle.row_orders.specs.Rows.{ArePartners, at_turn, taking}
 use Rattle.row_runs.specs.Run.{Does, Goes}
 use Rattle.row_runs.specs.Rows.{AreEffects, BothGo}
 use Rattle.flat_form.specs.Whole.{Whole}
-use Rattle.plan_meaning.specs.Abreast.{Abreast, are_none, every, go_where, is_quiet, locals_of, share_of}
-use Rattle.plan_meaning.specs.Messages.{answered, answering, answers, answers_from, answers_to, are_partners, asked, asking, behind_answers, heard_by, leaves_row, next_or, receivers, remapped, remaps_well, requests, senders}
+use Rattle.plan_orders.specs.of_plan_meaning.Abreast.{Abreast, are_none, every, go_where, is_quiet, locals_of, share_of}
+use Rattle.plan_orders.specs.of_plan_meaning.Messages.{answered, answering, answers, answers_from, answers_to, are_partners, asked, asking, behind_answers, heard_by, leaves_row, next_or, receivers, remapped, remaps_well, requests, senders}
 use Rattle.needs_runs.specs.Holds.{Holds}
 use Rattle.needs_runs.proofs.HoldsLemmas.{both_true, every_all, holds_as, some_processors}
 use Rattle.message_runs.proofs.DeliverLemmas.{all_pass, few_is, taking_same}

@@ -25,9 +25,9 @@ use Rattle.row_runs.specs.Rows.{AreEffects, OldWrong}
 use Rattle.flat_form.specs.Moves.{found, moved_in, provided, reads_in, wanted_at}
 use Rattle.flat_form.specs.Right.{can_write}
 use Rattle.flat_form.specs.Whole.{Whole, with_store}
-use Rattle.plan_meaning.specs.Abreast.{Abreast, share_of}
-use Rattle.plan_meaning.specs.Act as plan
-use Rattle.plan_meaning.specs.Messages.{receivers, remapped, senders}
+use Rattle.plan_orders.specs.of_plan_meaning.Abreast.{Abreast, share_of}
+use Rattle.plan_orders.specs.of_plan_meaning.Act as plan
+use Rattle.plan_orders.specs.of_plan_meaning.Messages.{receivers, remapped, senders}
 use Rattle.plan_orders.proofs.RemapLemmas.{asking_stages, back_from, receivers_are, senders_are, stages_are}
 use Rattle.needs_runs.specs.Agree.{FitRowAgrees, HasLayout}
 use Rattle.needs_runs.specs.Holds.{Holds}

@@ -26,7 +26,7 @@ use Rattle.grid_meaning.specs.Stored.{no_places}
 use Rattle.grid_meaning.proofs.RemapLemmas.{length-others}
 use Rattle.row_orders.specs.Rows.{taken_where, taking}
 use Rattle.flat_form.specs.Whole.{Whole}
-use Rattle.plan_meaning.specs.Abreast.{Abreast, locals_of}
+use Rattle.plan_orders.specs.of_plan_meaning.Abreast.{Abreast, locals_of}
 use Rattle.normal_runs.proofs.PlaceLemmas.{set_apart, set_there, set_twice}
 use Rattle.needs_runs.specs.Agree.{HasLayout}
 use Rattle.needs_runs.specs.Holds.{Holds}

@@ -36,8 +36,8 @@ use Rattle.row_runs.specs.Rows.{AreEffects, OldWrong}
 use Rattle.flat_form.specs.Moves.{found, kept_by, moved_in, provided, reads_in, reads_mask, scan_value, scanned_in}
 use Rattle.flat_form.specs.Right.{can_write, no_flood}
 use Rattle.flat_form.specs.Whole.{Whole, with_store}
-use Rattle.plan_meaning.specs.Abreast.{Abreast, locals_of, share_of}
-use Rattle.plan_meaning.specs.Messages.{delivered}
+use Rattle.plan_orders.specs.of_plan_meaning.Abreast.{Abreast, locals_of, share_of}
+use Rattle.plan_orders.specs.of_plan_meaning.Messages.{delivered}
 use Rattle.normal_runs.proofs.PlaceLemmas.{set_same, set_there, set_twice}
 use Rattle.scan_plan.specs.Line.{head_of, heads, is_along, line_dim, line_total, masked, totals_of}
 use Rattle.scan_plan.specs.Scan.{LineTotal, before, lines_of, parts_of, precedes, whole_scan}

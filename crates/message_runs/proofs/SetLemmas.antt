@@ -16,7 +16,7 @@ use Rattle.grid_meaning.specs.Stored.{no_places}
 use Rattle.flat_form.specs.Right.{matches}
 use Rattle.flat_form.specs.States.{IsStoreOf}
 use Rattle.flat_form.specs.Whole.{Whole}
-use Rattle.plan_meaning.specs.Abreast.{Abreast}
+use Rattle.plan_orders.specs.of_plan_meaning.Abreast.{Abreast}
 use Rattle.needs_runs.specs.Agree.{HasLayout}
 use Rattle.needs_runs.specs.Holds.{HasFloodsOf, HasPart, Holds, lies_in_own}
 use Rattle.needs_runs.proofs.BringLemmas.{element_alike}

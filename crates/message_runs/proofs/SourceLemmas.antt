@@ -16,8 +16,8 @@ use Rattle.row_runs.specs.Run.{Does}
 use Rattle.row_runs.specs.Rows.{AreEffects}
 use Rattle.flat_form.specs.Moves.{moved_in}
 use Rattle.flat_form.specs.Whole.{Whole}
-use Rattle.plan_meaning.specs.Abreast.{Abreast, locals_of}
-use Rattle.plan_meaning.specs.Messages as plan
+use Rattle.plan_orders.specs.of_plan_meaning.Abreast.{Abreast, locals_of}
+use Rattle.plan_orders.specs.of_plan_meaning.Messages as plan
 use Rattle.normal_runs.proofs.PlaceLemmas.{set_apart, set_there}
 use Rattle.needs_runs.specs.Agree.{HasLayout}
 use Rattle.needs_runs.specs.Holds.{Holds}

@@ -25,8 +25,8 @@ use Rattle.row_runs.specs.Run.{Does, Goes}
 use Rattle.row_runs.specs.Rows.{AreEffects}
 use Rattle.flat_form.specs.Moves.{found, moved_in, with_stores}
 use Rattle.flat_form.specs.Whole.{Whole, with_store}
-use Rattle.plan_meaning.specs.Abreast.{Abreast, locals_of, share_of}
-use Rattle.plan_meaning.specs.Messages as plan
+use Rattle.plan_orders.specs.of_plan_meaning.Abreast.{Abreast, locals_of, share_of}
+use Rattle.plan_orders.specs.of_plan_meaning.Messages as plan
 use Rattle.normal_runs.proofs.PlaceLemmas.{set_there, set_twice}
 use Rattle.needs_runs.specs.Holds.{Holds}
 use Rattle.needs_runs.proofs.HoldsLemmas.{holds_as, some_processors}

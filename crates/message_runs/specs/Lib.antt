@@ -1,0 +1,1 @@
+pub use Rattle.plan_orders.specs as of_plan_orders

@@ -3,14 +3,14 @@ use Rattle.std.proofs.Common.{◌≡◌, refl, sym, ◌∙◌, ap, subst, arith,
 use Rattle.std.specs.Prelude.{int_lt}
 use Rattle.std.proofs.lemmas.Int.{ints}
 use Rattle.std.proofs.lemmas.List.Elements.{All-cons, All-head, All-tail}
-use Rattle.zpl_nums.specs.declared.ends.Border.{Border}
-use Rattle.zpl_region.specs.declared.dims.Dim.{Dim}
-use Rattle.zpl_region.specs.declared.dims.Dim.TheVariants.{Range, Flood}
-use Rattle.zpl_region.specs.declared.regions.Region.{Region}
-use Rattle.zpl_region.specs.Dim.{IsUpTo, dim_outside_of}
-use Rattle.zpl_region.specs.Ends.{single_of}
-use Rattle.zpl_region.specs.Region.{components, each, outside_of}
-use Rattle.zpl_region.proofs.ListLemmas.{int_lt-false, int_lt-true}
+use Rattle.zpl_arrays.specs.of_zpl_nums.declared.ends.Border.{Border}
+use Rattle.zpl_arrays.specs.of_zpl_region.declared.dims.Dim.{Dim}
+use Rattle.zpl_arrays.specs.of_zpl_region.declared.dims.Dim.TheVariants.{Range, Flood}
+use Rattle.zpl_arrays.specs.of_zpl_region.declared.regions.Region.{Region}
+use Rattle.zpl_arrays.specs.of_zpl_region.Dim.{IsUpTo, dim_outside_of}
+use Rattle.zpl_arrays.specs.of_zpl_region.Ends.{single_of}
+use Rattle.zpl_arrays.specs.of_zpl_region.Region.{components, each, outside_of}
+use Rattle.zpl_arrays.proofs.of_zpl_region.ListLemmas.{int_lt-false, int_lt-true}
 use Rattle.zpl_arrays.specs.Flood.{dim_flood_source, each_flood_source}
 use Rattle.grid_layout.specs.declared.blocks.Blocks.{Blocks}
 use Rattle.grid_layout.specs.Layout.{Arrangement, laid_out, own_first, own_last}

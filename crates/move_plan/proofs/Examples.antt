@@ -1,10 +1,10 @@
 -- Pieces of borders and floods, computed.
 use Rattle.std.specs.Prelude.{◌≡◌, refl, ℕ, ℤ, pos, negsuc, List, [], ◌∷◌, map}
-use Rattle.zpl_nums.specs.declared.ends.Border.TheVariants.{Wrap, Reflect}
-use Rattle.zpl_region.specs.declared.dims.Dim.TheVariants.{Flood}
-use Rattle.zpl_region.specs.declared.regions.Region.{Region}
-use Rattle.zpl_region.specs.Region.{padding, members}
-use Rattle.zpl_region.specs.Hull.{all_from}
+use Rattle.zpl_arrays.specs.of_zpl_nums.declared.ends.Border.TheVariants.{Wrap, Reflect}
+use Rattle.zpl_arrays.specs.of_zpl_region.declared.dims.Dim.TheVariants.{Flood}
+use Rattle.zpl_arrays.specs.of_zpl_region.declared.regions.Region.{Region}
+use Rattle.zpl_arrays.specs.of_zpl_region.Region.{padding, members}
+use Rattle.zpl_arrays.specs.of_zpl_region.Hull.{all_from}
 use Rattle.grid_layout.specs.Layout.{Arrangement}
 use Rattle.grid_layout.specs.Words.{processors}
 use Rattle.move_plan.specs.BorderPiece.{border_piece_of}

@@ -2,3 +2,5 @@ pub mod PieceLemmas
 pub mod CodeLemmas
 pub mod RegionLemmas
 mod Examples
+pub use Rattle.grid_layout.proofs as of_grid_layout
+pub use Rattle.zpl_arrays.proofs.of_zpl_region as of_zpl_region

@@ -6,20 +6,20 @@ use Rattle.std.specs.List.{AllZip, filter, flat_map}
 use Rattle.std.proofs.lemmas.Bool.{and_parts, eq-eqb, or_cases}
 use Rattle.std.proofs.lemmas.Int.{clamps, ints}
 use Rattle.std.proofs.lemmas.List.Elements.{All-head, All-tail, filter_agree}
-use Rattle.zpl_nums.specs.declared.ends.Border.{Border}
-use Rattle.zpl_nums.specs.declared.ends.Border.TheVariants.{Wrap, Reflect}
-use Rattle.zpl_region.specs.declared.dims.Dim.{Dim}
-use Rattle.zpl_region.specs.declared.dims.Dim.TheVariants.{Range, Flood}
-use Rattle.zpl_region.specs.declared.regions.Region.{Region}
-use Rattle.zpl_region.specs.Dim.{IsDim, IsDimWithinLimit, IsUpTo, coordinates, dim_outside_of, extent}
-use Rattle.zpl_region.specs.Ends.{single_of}
-use Rattle.zpl_region.specs.Progression.{is_between}
-use Rattle.zpl_region.specs.Region.{IsRegion, components, each, members, tuples}
-use Rattle.zpl_region.specs.Tests.{is_same_set}
-use Rattle.zpl_region.proofs.DimLemmas.{among_range, coordinates-met, pos-extent}
-use Rattle.zpl_region.proofs.EndLemmas.{single_iff}
-use Rattle.zpl_region.proofs.ListLemmas.{Among, among_filtered, int_eq-false, int_lt-false, int_lt-true, cases_order_z, le_from_test, test_from_le}
-use Rattle.zpl_region.proofs.TupleLemmas.{among_tuples, filter-tuples}
+use Rattle.zpl_arrays.specs.of_zpl_nums.declared.ends.Border.{Border}
+use Rattle.zpl_arrays.specs.of_zpl_nums.declared.ends.Border.TheVariants.{Wrap, Reflect}
+use Rattle.zpl_arrays.specs.of_zpl_region.declared.dims.Dim.{Dim}
+use Rattle.zpl_arrays.specs.of_zpl_region.declared.dims.Dim.TheVariants.{Range, Flood}
+use Rattle.zpl_arrays.specs.of_zpl_region.declared.regions.Region.{Region}
+use Rattle.zpl_arrays.specs.of_zpl_region.Dim.{IsDim, IsDimWithinLimit, IsUpTo, coordinates, dim_outside_of, extent}
+use Rattle.zpl_arrays.specs.of_zpl_region.Ends.{single_of}
+use Rattle.zpl_arrays.specs.of_zpl_region.Progression.{is_between}
+use Rattle.zpl_arrays.specs.of_zpl_region.Region.{IsRegion, components, each, members, tuples}
+use Rattle.zpl_arrays.specs.of_zpl_region.Tests.{is_same_set}
+use Rattle.zpl_arrays.proofs.of_zpl_region.DimLemmas.{among_range, coordinates-met, pos-extent}
+use Rattle.zpl_arrays.proofs.of_zpl_region.EndLemmas.{single_iff}
+use Rattle.zpl_arrays.proofs.of_zpl_region.ListLemmas.{Among, among_filtered, int_eq-false, int_lt-false, int_lt-true, cases_order_z, le_from_test, test_from_le}
+use Rattle.zpl_arrays.proofs.of_zpl_region.TupleLemmas.{among_tuples, filter-tuples}
 use Rattle.zpl_arrays.specs.Border.{border_source, dim_border_source, each_border_source}
 use Rattle.zpl_arrays.specs.Conformity.{dims_spread, flood_conforms, is_single}
 use Rattle.zpl_arrays.specs.Flood.{dim_flood_source, each_flood_source, flood_source}

@@ -1,9 +1,9 @@
 -- The indices of a flood that a receiver sets from an owner's values.
 use Rattle.std.specs.Prelude.{ℕ, ℤ, if◌then◌else◌, List, [], ◌∷◌, Option, Some, None}
-use Rattle.zpl_region.specs.declared.dims.Dim.{Dim}
-use Rattle.zpl_region.specs.declared.regions.Region.{Region}
-use Rattle.zpl_region.specs.Ends.{single_of}
-use Rattle.zpl_region.specs.Progression.{is_between}
+use Rattle.zpl_arrays.specs.of_zpl_region.declared.dims.Dim.{Dim}
+use Rattle.zpl_arrays.specs.of_zpl_region.declared.regions.Region.{Region}
+use Rattle.zpl_arrays.specs.of_zpl_region.Ends.{single_of}
+use Rattle.zpl_arrays.specs.of_zpl_region.Progression.{is_between}
 use Rattle.grid_layout.specs.declared.blocks.Blocks.{Blocks}
 use Rattle.grid_layout.specs.Layout.{Arrangement, laid_out, own_first, own_last}
 use Rattle.grid_layout.specs.Piece.{nothing, owned_part}

@@ -1,14 +1,14 @@
 //! Border statements: which of a receiver's indices take their values from one owner.
 ghost use Rattle.std.specs.Prelude.{◌≡◌, ◌<◌, All};
-ghost use Rattle.zpl_region.specs.Dim.{IsDim, IsDimWithinLimit, IsUpTo, dim_outside_of};
-ghost use Rattle.zpl_region.specs.Region.{IsRegion, components, outside_of};
+ghost use Rattle.zpl_arrays.specs.of_zpl_region.Dim.{IsDim, IsDimWithinLimit, IsUpTo, dim_outside_of};
+ghost use Rattle.zpl_arrays.specs.of_zpl_region.Region.{IsRegion, components, outside_of};
 ghost use Rattle.grid_layout.specs.Grid.{processors_of};
 ghost use Rattle.move_plan.specs.BorderPiece.{border_piece_of, dim_border_piece, target_bounds};
 
 use grid_layout::{Layout, components, part};
 use zpl_arrays::border_coordinate;
-use zpl_nums::Border;
-use zpl_region::{Dim, Region, Vec3};
+use zpl_arrays::zpl_nums::Border;
+use zpl_arrays::zpl_region::{Dim, Region, Vec3};
 
 /// The `d` positions beside the bounds of a dimension.
 fn outside(dim: Dim, d: i64) -> Dim

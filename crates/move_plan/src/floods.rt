@@ -1,14 +1,14 @@
 //! Floods: where their values come from.
 ghost use Rattle.std.specs.Prelude.{◌≡◌, ◌<◌, ◌≤◌};
-ghost use Rattle.zpl_region.specs.Ends.{single_of};
-ghost use Rattle.zpl_region.specs.Dim.{IsDim};
-ghost use Rattle.zpl_region.specs.Region.{IsRegion};
+ghost use Rattle.zpl_arrays.specs.of_zpl_region.Ends.{single_of};
+ghost use Rattle.zpl_arrays.specs.of_zpl_region.Dim.{IsDim};
+ghost use Rattle.zpl_arrays.specs.of_zpl_region.Region.{IsRegion};
 ghost use Rattle.zpl_arrays.specs.Flood.{flood_source};
 ghost use Rattle.grid_layout.specs.Grid.{processors_of};
 ghost use Rattle.move_plan.specs.FloodPiece.{dim_flood_piece, flood_piece_of};
 
 use grid_layout::Layout;
-use zpl_region::{Dim, Region, Vec3};
+use zpl_arrays::zpl_region::{Dim, Region, Vec3};
 
 /// What stands for a dimension past the rank.
 const PADDING: Dim = Dim::Range {

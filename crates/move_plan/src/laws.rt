@@ -3,10 +3,10 @@
 //! Each law is the contract of a function that does nothing: a call brings the law into a proof.
 ghost use Rattle.std.specs.Prelude.{◌≡◌, ◌==◌, ◌<◌, ◌≤◌, ℕ, ℤ, List, All, IsTrue, IsPermutation};
 ghost use Rattle.std.specs.Prelude.{filter, flat_map, length};
-ghost use Rattle.zpl_nums.specs.declared.ends.Border.{Border};
-ghost use Rattle.zpl_region.specs.declared.regions.Region.{Region as Tuples};
-ghost use Rattle.zpl_region.specs.Dim.{IsDimWithinLimit, IsUpTo};
-ghost use Rattle.zpl_region.specs.Region.{IsRegion, members};
+ghost use Rattle.zpl_arrays.specs.of_zpl_nums.declared.ends.Border.{Border};
+ghost use Rattle.zpl_arrays.specs.of_zpl_region.declared.regions.Region.{Region as Tuples};
+ghost use Rattle.zpl_arrays.specs.of_zpl_region.Dim.{IsDimWithinLimit, IsUpTo};
+ghost use Rattle.zpl_arrays.specs.of_zpl_region.Region.{IsRegion, members};
 ghost use Rattle.zpl_arrays.specs.Border.{border_source};
 ghost use Rattle.zpl_arrays.specs.Conformity.{flood_conforms};
 ghost use Rattle.zpl_arrays.specs.Flood.{flood_source};

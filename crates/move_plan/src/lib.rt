@@ -10,4 +10,7 @@ mod laws;
 
 pub use borders::border_piece;
 pub use floods::{flood_piece, flood_source};
+pub use grid_layout;
 pub use laws::{border_pieces_go_by_sources, flood_pieces_go_by_sources};
+pub use zpl_arrays;
+pub use zpl_arrays::{zpl_nums, zpl_region};

@@ -26,3 +26,6 @@ pub use regions::{
 };
 pub use scope::Scope;
 pub use shapes::{Current, Shape, Shapes};
+pub use zpl_names;
+pub use zpl_nums;
+pub use zpl_tree;

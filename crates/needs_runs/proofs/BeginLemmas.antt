@@ -25,18 +25,18 @@ use Rattle.node_form.specs.declared.arrays.ArrayRow.{ArrayRow}
 use Rattle.node_form.specs.declared.tables.Tables.{Tables}
 use Rattle.node_form.specs.Fits.{FitsArray, HasFringe, IsRank, storage_dim, storage_of}
 use Rattle.node_form.specs.Value.{unmoved}
-use Rattle.grid_meaning.specs.Local as grid
-use Rattle.grid_meaning.specs.Local.{processors}
-use Rattle.grid_meaning.specs.Place.{moved_by}
-use Rattle.grid_meaning.specs.Room.{zeros_at}
-use Rattle.grid_meaning.specs.State.{ArePlaces, IsSlot, IsStore}
-use Rattle.grid_meaning.specs.Stored.{arrangement_of, no_places}
-use Rattle.grid_meaning.proofs.BoxLemmas.{box_is}
-use Rattle.grid_meaning.proofs.RegionLemmas.{no_steps, places_steps}
-use Rattle.flat_form.specs.Right.{each_covers, each_matches}
-use Rattle.flat_form.specs.Static.{is_in_fringe}
-use Rattle.flat_form.specs.Whole.{start_places, start_whole}
-use Rattle.flat_form.proofs.WholeLemmas.{begin_whole}
+use Rattle.plan_meaning.specs.of_grid_meaning.Local as grid
+use Rattle.plan_meaning.specs.of_grid_meaning.Local.{processors}
+use Rattle.plan_meaning.specs.of_grid_meaning.Place.{moved_by}
+use Rattle.plan_meaning.specs.of_grid_meaning.Room.{zeros_at}
+use Rattle.plan_meaning.specs.of_grid_meaning.State.{ArePlaces, IsSlot, IsStore}
+use Rattle.plan_meaning.specs.of_grid_meaning.Stored.{arrangement_of, no_places}
+use Rattle.plan_meaning.proofs.of_grid_meaning.BoxLemmas.{box_is}
+use Rattle.plan_meaning.proofs.of_grid_meaning.RegionLemmas.{no_steps, places_steps}
+use Rattle.plan_meaning.specs.of_flat_form.Right.{each_covers, each_matches}
+use Rattle.plan_meaning.specs.of_flat_form.Static.{is_in_fringe}
+use Rattle.plan_meaning.specs.of_flat_form.Whole.{start_places, start_whole}
+use Rattle.plan_meaning.proofs.of_flat_form.WholeLemmas.{begin_whole}
 use Rattle.normal_runs.proofs.PlaceLemmas.{moved_none}
 use Rattle.plan_meaning.specs.Abreast.{start_abreast}
 use Rattle.needs_runs.specs.Agree.{HasLayout}

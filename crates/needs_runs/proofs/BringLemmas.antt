@@ -12,8 +12,8 @@ use Rattle.zpl_region.specs.declared.regions.Region.{Region}
 use Rattle.zpl_region.proofs.ListLemmas.{cases_order_z, cons_same}
 use Rattle.zpl_arrays.specs.Array.{Array, IsArray, element, flattened, has_place, updated}
 use Rattle.zpl_arrays.proofs.ArrayLemmas.{array_of-element, element-array_of, updated_elsewhere, updated_here, updated_is_array}
-use Rattle.grid_meaning.specs.Place.{held_value, held_with, value_at, values_at, where_held, with_value, with_values}
-use Rattle.grid_meaning.specs.State.{IsStore}
+use Rattle.plan_meaning.specs.of_grid_meaning.Place.{held_value, held_with, value_at, values_at, where_held, with_value, with_values}
+use Rattle.plan_meaning.specs.of_grid_meaning.State.{IsStore}
 use Rattle.node_form.specs.declared.arrays.ArrayDim.{ArrayDim}
 use Rattle.node_form.specs.declared.arrays.ArrayDim.TheVariants.{Range, Star}
 use Rattle.node_form.specs.declared.arrays.ArrayRow.{ArrayRow}

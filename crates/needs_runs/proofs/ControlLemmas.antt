@@ -16,17 +16,17 @@ use Rattle.node_form.specs.Value.{Computed, Gives, Divides, Lacks, and_then, rea
 use Rattle.row_runs.specs.Straight.{Every}
 use Rattle.row_runs.specs.Run as run
 use Rattle.row_runs.specs.Run.{Goes, Stops, Does}
-use Rattle.grid_meaning.specs.Collective.{scalar_at}
-use Rattle.grid_meaning.specs.Local.{processors}
-use Rattle.grid_meaning.specs.State.{IsSlot}
-use Rattle.flat_form.specs.Act as flat
-use Rattle.flat_form.specs.Names.{word_scalars}
-use Rattle.flat_form.specs.Right.{is_settled}
-use Rattle.flat_form.specs.Row.{Words}
-use Rattle.flat_form.specs.Whole.{Whole, registers_of}
+use Rattle.plan_meaning.specs.of_grid_meaning.Collective.{scalar_at}
+use Rattle.plan_meaning.specs.of_grid_meaning.Local.{processors}
+use Rattle.plan_meaning.specs.of_grid_meaning.State.{IsSlot}
+use Rattle.plan_meaning.specs.of_flat_form.Act as flat
+use Rattle.plan_meaning.specs.of_flat_form.Names.{word_scalars}
+use Rattle.plan_meaning.specs.of_flat_form.Right.{is_settled}
+use Rattle.plan_meaning.specs.of_flat_form.Row.{Words}
+use Rattle.plan_meaning.specs.of_flat_form.Whole.{Whole, registers_of}
 use Rattle.normal_runs.proofs.PlaceLemmas.{set_apart, set_length}
-use Rattle.flat_form.proofs.AgreeLemmas.{set_alike}
-use Rattle.flat_form.proofs.WordLemmas.{ReadsSame, value_same}
+use Rattle.plan_meaning.proofs.of_flat_form.AgreeLemmas.{set_alike}
+use Rattle.plan_meaning.proofs.of_flat_form.WordLemmas.{ReadsSame, value_same}
 use Rattle.plan_meaning.specs.Abreast.{Abreast, are_none, go_where, locals_of}
 use Rattle.plan_meaning.specs.Act as plan
 use Rattle.plan_meaning.specs.Act.{control_of, controlled_as, go_one_way, is_ending, is_way, shares_on}

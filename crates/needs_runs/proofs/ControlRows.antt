@@ -25,15 +25,15 @@ use Rattle.node_form.specs.Fits.{IsRank, storage_of}
 use Rattle.node_form.specs.Value.{and_then, mapped, read}
 use Rattle.row_runs.specs.Run as run
 use Rattle.row_runs.specs.Run.{Goes, Stops, Wrong, Effect, Does}
-use Rattle.grid_meaning.specs.Local.{processors}
-use Rattle.grid_meaning.specs.State.{IsSlot}
-use Rattle.flat_form.specs.Act as flat
-use Rattle.flat_form.specs.Act.{act}
-use Rattle.flat_form.specs.Names.{each_word, word_scalars}
-use Rattle.flat_form.specs.Right.{are_settled, is_settled}
-use Rattle.flat_form.specs.Row.{Words, inlined, part_inlined, part_words, words_at}
-use Rattle.flat_form.specs.Whole.{Whole, registers_of}
-use Rattle.flat_form.proofs.InlineLemmas.{control_inline}
+use Rattle.plan_meaning.specs.of_grid_meaning.Local.{processors}
+use Rattle.plan_meaning.specs.of_grid_meaning.State.{IsSlot}
+use Rattle.plan_meaning.specs.of_flat_form.Act as flat
+use Rattle.plan_meaning.specs.of_flat_form.Act.{act}
+use Rattle.plan_meaning.specs.of_flat_form.Names.{each_word, word_scalars}
+use Rattle.plan_meaning.specs.of_flat_form.Right.{are_settled, is_settled}
+use Rattle.plan_meaning.specs.of_flat_form.Row.{Words, inlined, part_inlined, part_words, words_at}
+use Rattle.plan_meaning.specs.of_flat_form.Whole.{Whole, registers_of}
+use Rattle.plan_meaning.proofs.of_flat_form.InlineLemmas.{control_inline}
 use Rattle.plan_meaning.specs.Abreast.{Abreast}
 use Rattle.plan_meaning.specs.Act as plan
 use Rattle.needs_runs.specs.Holds.{Holds}

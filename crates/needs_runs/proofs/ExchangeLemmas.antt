@@ -31,20 +31,20 @@ use Rattle.node_form.specs.declared.tables.Tables.{Tables}
 use Rattle.node_form.specs.Fits.{storage_of}
 use Rattle.row_runs.specs.Run.{Goes}
 use Rattle.row_runs.specs.Straight.{Every}
-use Rattle.grid_meaning.specs.Action.{goes_on}
-use Rattle.grid_meaning.specs.Collective.{Collective, scalar_at, Sends, TakesFrom, Last, others, others_where}
-use Rattle.grid_meaning.specs.Exchange as exchange
-use Rattle.grid_meaning.specs.Exchange.{places_in, places_of, word_count, words_between, words_written}
-use Rattle.grid_meaning.specs.Local.{Local, processor_numbers, processors}
-use Rattle.grid_meaning.specs.Place.{held_value, moved_by, own_part, value_at, values_at, with_values}
-use Rattle.grid_meaning.specs.State.{ArePlaces, IsSlot, IsStore}
-use Rattle.grid_meaning.specs.Stored.{arrangement_of, box_of}
-use Rattle.row_orders.specs.Rows.{ArePartners, Flight, alone_where, taking, taken_where}
-use Rattle.row_orders.proofs.PartnerLemmas.{others_where_others, partners_by_words}
-use Rattle.flat_form.specs.Right.{each_covers}
-use Rattle.flat_form.specs.Static.{is_in_fringe}
-use Rattle.flat_form.specs.States.{IsStoreOf}
-use Rattle.flat_form.specs.Whole.{Whole}
+use Rattle.plan_meaning.specs.of_grid_meaning.Action.{goes_on}
+use Rattle.plan_meaning.specs.of_grid_meaning.Collective.{Collective, scalar_at, Sends, TakesFrom, Last, others, others_where}
+use Rattle.plan_meaning.specs.of_grid_meaning.Exchange as exchange
+use Rattle.plan_meaning.specs.of_grid_meaning.Exchange.{places_in, places_of, word_count, words_between, words_written}
+use Rattle.plan_meaning.specs.of_grid_meaning.Local.{Local, processor_numbers, processors}
+use Rattle.plan_meaning.specs.of_grid_meaning.Place.{held_value, moved_by, own_part, value_at, values_at, with_values}
+use Rattle.plan_meaning.specs.of_grid_meaning.State.{ArePlaces, IsSlot, IsStore}
+use Rattle.plan_meaning.specs.of_grid_meaning.Stored.{arrangement_of, box_of}
+use Rattle.plan_meaning.specs.of_row_orders.Rows.{ArePartners, Flight, alone_where, taking, taken_where}
+use Rattle.plan_meaning.proofs.of_row_orders.PartnerLemmas.{others_where_others, partners_by_words}
+use Rattle.plan_meaning.specs.of_flat_form.Right.{each_covers}
+use Rattle.plan_meaning.specs.of_flat_form.Static.{is_in_fringe}
+use Rattle.plan_meaning.specs.of_flat_form.States.{IsStoreOf}
+use Rattle.plan_meaning.specs.of_flat_form.Whole.{Whole}
 use Rattle.plan_meaning.specs.Abreast.{Abreast, Share, every, go_where, locals_of, of_processors, share_of, standing}
 use Rattle.plan_meaning.proofs.ThereLemmas.{there_is}
 use Rattle.plan_meaning.specs.Messages.{begun, does_well, final_of, finished, from_of, middle_of, next_with, receivers, senders, started, starts_alone, to_of, took, words_of}

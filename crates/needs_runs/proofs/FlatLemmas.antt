@@ -26,11 +26,11 @@ use Rattle.node_form.specs.declared.arrays.ArrayDim.TheVariants.{Range, Star}
 use Rattle.node_form.specs.declared.arrays.ArrayRow.{ArrayRow}
 use Rattle.node_form.specs.declared.tables.Tables.{Tables}
 use Rattle.node_form.specs.Fits.{FitsArray, IsRank, storage_dim}
-use Rattle.grid_meaning.specs.Local.{processors}
-use Rattle.grid_meaning.specs.State.{ArePlaces, AreRoomIn, IsRoom, IsStore}
-use Rattle.grid_meaning.specs.Stored.{arrangement_of, box_of, no_places, stored}
-use Rattle.flat_form.specs.Right.{each_matches, matches}
-use Rattle.flat_form.specs.Whole.{Whole}
+use Rattle.plan_meaning.specs.of_grid_meaning.Local.{processors}
+use Rattle.plan_meaning.specs.of_grid_meaning.State.{ArePlaces, AreRoomIn, IsRoom, IsStore}
+use Rattle.plan_meaning.specs.of_grid_meaning.Stored.{arrangement_of, box_of, no_places, stored}
+use Rattle.plan_meaning.specs.of_flat_form.Right.{each_matches, matches}
+use Rattle.plan_meaning.specs.of_flat_form.Whole.{Whole}
 use Rattle.needs_runs.specs.Agree.{HasLayout}
 use Rattle.needs_runs.specs.Holds.{HasFloodsOf, Holds}
 use Rattle.needs_runs.proofs.BringLemmas.{flattened_as}

@@ -4,8 +4,8 @@ use Rattle.std.specs.List.{AllZip}
 use Rattle.zpl_region.specs.declared.regions.Region.{Region}
 use Rattle.zpl_arrays.specs.Array.{Array}
 use Rattle.node_form.specs.declared.arrays.ArrayRow.{ArrayRow}
-use Rattle.grid_meaning.specs.Stored.{no_places}
-use Rattle.flat_form.specs.Right.{matches}
+use Rattle.plan_meaning.specs.of_grid_meaning.Stored.{no_places}
+use Rattle.plan_meaning.specs.of_flat_form.Right.{matches}
 use Rattle.needs_runs.specs.Holds.{HasFloodsOf}
 
 pub floods_kept : (rows : List ArrayRow) (olds news : List Array)

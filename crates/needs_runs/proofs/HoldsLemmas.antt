@@ -8,10 +8,10 @@ use Rattle.std.specs.List.{AllByRecursion, list_all, range_with_len}
 use Rattle.zpl_nums.specs.Fold.{joined}
 use Rattle.node_form.specs.declared.tables.Tables.{Tables}
 use Rattle.node_form.specs.Grid.{factors_of}
-use Rattle.grid_meaning.specs.Collective.{scalar_at}
-use Rattle.grid_meaning.specs.Local.{Local, processors}
-use Rattle.row_orders.specs.Agreement.{joined_over}
-use Rattle.flat_form.specs.Whole.{Whole}
+use Rattle.plan_meaning.specs.of_grid_meaning.Collective.{scalar_at}
+use Rattle.plan_meaning.specs.of_grid_meaning.Local.{Local, processors}
+use Rattle.plan_meaning.specs.of_row_orders.Agreement.{joined_over}
+use Rattle.plan_meaning.specs.of_flat_form.Whole.{Whole}
 use Rattle.plan_meaning.specs.Abreast.{Abreast, every, locals_of, standing}
 use Rattle.needs_runs.specs.Holds.{Holds, HoldsOwn}
 

@@ -14,3 +14,4 @@ pub mod RoomRows
 pub mod SlotLemmas
 pub mod FlatLemmas
 pub mod FloodLemmas
+pub use Rattle.plan_meaning.proofs as of_plan_meaning

@@ -29,10 +29,10 @@ use Rattle.grid_layout.proofs.BlockLemmas.{last_of_more}
 use Rattle.node_form.specs.declared.arrays.ArrayDim.{ArrayDim}
 use Rattle.node_form.specs.declared.arrays.ArrayDim.TheVariants.{Range, Star}
 use Rattle.node_form.specs.Fits.{storage_dim}
-use Rattle.grid_meaning.specs.Place.{moved_by}
-use Rattle.grid_meaning.specs.Stored.{width_above, width_below}
-use Rattle.flat_form.specs.Right.{each_covers}
-use Rattle.flat_form.specs.Static.{is_in_fringe}
+use Rattle.plan_meaning.specs.of_grid_meaning.Place.{moved_by}
+use Rattle.plan_meaning.specs.of_grid_meaning.Stored.{width_above, width_below}
+use Rattle.plan_meaning.specs.of_flat_form.Right.{each_covers}
+use Rattle.plan_meaning.specs.of_flat_form.Static.{is_in_fringe}
 use Rattle.needs_runs.proofs.HoldsLemmas.{both_parts}
 
 -- ---- one dimension

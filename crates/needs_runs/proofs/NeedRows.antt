@@ -12,14 +12,14 @@ use Rattle.node_form.specs.declared.arrays.Item.{Item}
 use Rattle.node_form.specs.declared.tables.Tables.{Tables}
 use Rattle.row_runs.specs.Run.{Step}
 use Rattle.row_runs.specs.Straight.{Every, Flow, OnTo, flow_behind, flow_of, through}
-use Rattle.grid_meaning.specs.Exchange as exchange
-use Rattle.grid_meaning.specs.Local.{processors}
-use Rattle.grid_meaning.specs.Place.{moved_by, own_part, value_at}
-use Rattle.grid_meaning.specs.State.{IsSlot}
-use Rattle.flat_form.specs.Right.{each_covers}
-use Rattle.flat_form.specs.Static.{is_in_fringe}
-use Rattle.flat_form.specs.Whole.{Whole}
-use Rattle.plan_form.specs.Units.{PlanRow, unit_rows}
+use Rattle.plan_meaning.specs.of_grid_meaning.Exchange as exchange
+use Rattle.plan_meaning.specs.of_grid_meaning.Local.{processors}
+use Rattle.plan_meaning.specs.of_grid_meaning.Place.{moved_by, own_part, value_at}
+use Rattle.plan_meaning.specs.of_grid_meaning.State.{IsSlot}
+use Rattle.plan_meaning.specs.of_flat_form.Right.{each_covers}
+use Rattle.plan_meaning.specs.of_flat_form.Static.{is_in_fringe}
+use Rattle.plan_meaning.specs.of_flat_form.Whole.{Whole}
+use Rattle.comm_needs.specs.of_plan_form.Units.{PlanRow, unit_rows}
 use Rattle.comm_needs.specs.Needs.{needed_alone}
 use Rattle.plan_meaning.specs.Abreast.{Abreast}
 use Rattle.plan_meaning.specs.Messages.{finished}

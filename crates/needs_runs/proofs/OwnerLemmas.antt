@@ -22,10 +22,10 @@ use Rattle.grid_layout.specs.Piece.{each_needed, nothing, part}
 use Rattle.grid_layout.specs.Piece.{place_dim, range_or_nothing}
 use Rattle.grid_layout.proofs.PartLemmas.{has_dim, has_each}
 use Rattle.grid_layout.proofs.ThreeLemmas.{rebuilt, three}
-use Rattle.grid_meaning.specs.Local.{processors}
-use Rattle.grid_meaning.specs.Stored.{box_of, stored}
-use Rattle.grid_meaning.proofs.BoxLemmas.{box_is}
-use Rattle.grid_meaning.proofs.WorldLemmas.{processors_alike}
+use Rattle.plan_meaning.specs.of_grid_meaning.Local.{processors}
+use Rattle.plan_meaning.specs.of_grid_meaning.Stored.{box_of, stored}
+use Rattle.plan_meaning.proofs.of_grid_meaning.BoxLemmas.{box_is}
+use Rattle.plan_meaning.proofs.of_grid_meaning.WorldLemmas.{processors_alike}
 use Rattle.node_form.specs.declared.arrays.ArrayDim.{ArrayDim}
 use Rattle.node_form.specs.declared.arrays.ArrayDim.TheVariants.{Range, Star}
 use Rattle.node_form.specs.declared.arrays.ArrayRow.{ArrayRow}

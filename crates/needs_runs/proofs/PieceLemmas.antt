@@ -34,18 +34,18 @@ use Rattle.grid_layout.proofs.OwnerLemmas.{AreCuts, are_cuts, axes_three}
 use Rattle.grid_layout.proofs.PartLemmas.{blocks_are_below, blocks_length, has_each, has_owner_for, near_of, owner_for_below, parts_by_owner}
 use Rattle.grid_layout.proofs.SoundLemmas.{block_past, blocks_are, cut_past, needed_has_bounds, needed_length}
 use Rattle.grid_layout.proofs.HeldLemmas.{held_in_storage, region_of_held}
-use Rattle.grid_meaning.specs.Local.{processors}
-use Rattle.grid_meaning.specs.Place.{moved_by, own_part}
-use Rattle.grid_meaning.specs.State.{IsSlot}
-use Rattle.grid_meaning.specs.Stored.{arrangement_of, box_number, box_of, stored, width_above, width_below}
-use Rattle.grid_meaning.proofs.BoxLemmas.{box_is}
+use Rattle.plan_meaning.specs.of_grid_meaning.Local.{processors}
+use Rattle.plan_meaning.specs.of_grid_meaning.Place.{moved_by, own_part}
+use Rattle.plan_meaning.specs.of_grid_meaning.State.{IsSlot}
+use Rattle.plan_meaning.specs.of_grid_meaning.Stored.{arrangement_of, box_number, box_of, stored, width_above, width_below}
+use Rattle.plan_meaning.proofs.of_grid_meaning.BoxLemmas.{box_is}
 use Rattle.node_form.specs.declared.arrays.ArrayDim.{ArrayDim}
 use Rattle.node_form.specs.declared.arrays.ArrayDim.TheVariants.{Range, Star}
 use Rattle.node_form.specs.declared.arrays.ArrayRow.{ArrayRow}
 use Rattle.node_form.specs.declared.tables.Tables.{Tables}
 use Rattle.node_form.specs.Fits.{FitsArray, IsUnused, storage_dim, storage_of}
-use Rattle.flat_form.specs.Right.{each_covers}
-use Rattle.flat_form.specs.Static.{is_in_fringe}
+use Rattle.plan_meaning.specs.of_flat_form.Right.{each_covers}
+use Rattle.plan_meaning.specs.of_flat_form.Static.{is_in_fringe}
 use Rattle.needs_runs.specs.Agree.{HasLayout}
 use Rattle.needs_runs.specs.Holds.{lies_in_own}
 use Rattle.needs_runs.proofs.NeedLemmas.{InBlocks, held_dims, needs_are_held, place_of, reads_are_needed}

@@ -26,11 +26,11 @@ use Rattle.node_form.specs.declared.arrays.ArrayDim.TheVariants.{Range, Star}
 use Rattle.node_form.specs.declared.arrays.ArrayRow.{ArrayRow}
 use Rattle.node_form.specs.declared.tables.Tables.{Tables}
 use Rattle.node_form.specs.Fits.{storage_dim}
-use Rattle.grid_meaning.specs.Place.{held_value, own_part, where_held}
-use Rattle.grid_meaning.specs.Room.{each_room, room_of}
-use Rattle.grid_meaning.specs.State.{IsSlot}
-use Rattle.grid_meaning.specs.Stored.{arrangement_of}
-use Rattle.flat_form.specs.Right.{each_matches, matches}
+use Rattle.plan_meaning.specs.of_grid_meaning.Place.{held_value, own_part, where_held}
+use Rattle.plan_meaning.specs.of_grid_meaning.Room.{each_room, room_of}
+use Rattle.plan_meaning.specs.of_grid_meaning.State.{IsSlot}
+use Rattle.plan_meaning.specs.of_grid_meaning.Stored.{arrangement_of}
+use Rattle.plan_meaning.specs.of_flat_form.Right.{each_matches, matches}
 use Rattle.needs_runs.specs.Holds.{lies_in_own}
 use Rattle.needs_runs.proofs.HoldsLemmas.{both_parts, both_true}
 

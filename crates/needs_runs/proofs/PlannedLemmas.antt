@@ -26,17 +26,17 @@ use Rattle.row_runs.specs.Segments.{Keeps}
 use Rattle.row_runs.specs.Straight.{Every, Flow, IsRewriting, IsStep, IsStraight, OnTo, Stepping, Tied, TiedHalt, TiedOn, TiedWrong, flow_step, rewritten, through}
 use Rattle.row_runs.specs.Cut.{passed}
 use Rattle.row_runs.proofs.StraightLemmas.{rewritten_ties}
-use Rattle.flat_form.specs.Act.{act}
-use Rattle.flat_form.specs.Flat.{IsFlatRow}
-use Rattle.flat_form.specs.Row.{inlined}
-use Rattle.flat_form.specs.Whole.{Whole}
-use Rattle.flat_passes.specs.Kept as kept
-use Rattle.flat_passes.specs.Kept.{EndsAlike, GoalsWithin, goal_of}
-use Rattle.flat_passes.specs.Rewritten.{has_goal, stretches_of, with_moved_goal}
-use Rattle.flat_passes.proofs.FlatRowLemmas.{does, ends_alike, straight}
+use Rattle.plan_meaning.specs.of_flat_form.Act.{act}
+use Rattle.plan_meaning.specs.of_flat_form.Flat.{IsFlatRow}
+use Rattle.plan_meaning.specs.of_flat_form.Row.{inlined}
+use Rattle.plan_meaning.specs.of_flat_form.Whole.{Whole}
+use Rattle.comm_needs.specs.of_flat_passes.Kept as kept
+use Rattle.comm_needs.specs.of_flat_passes.Kept.{EndsAlike, GoalsWithin, goal_of}
+use Rattle.comm_needs.specs.of_flat_passes.Rewritten.{has_goal, stretches_of, with_moved_goal}
+use Rattle.comm_needs.proofs.of_flat_passes.FlatRowLemmas.{does, ends_alike, straight}
 use Rattle.normal_runs.proofs.PassLemmas.{AreControlled, KeepsFronts, pass_keeps_runs}
-use Rattle.plan_form.specs.Rewrite.{ended_by, rows_by}
-use Rattle.plan_form.specs.Units.{PlanRow, StartOf, FinishOf, Other, PlanUnit, Single, unit_of, unit_rows, units_of}
+use Rattle.comm_needs.specs.of_plan_form.Rewrite.{ended_by, rows_by}
+use Rattle.comm_needs.specs.of_plan_form.Units.{PlanRow, StartOf, FinishOf, Other, PlanUnit, Single, unit_of, unit_rows, units_of}
 use Rattle.comm_needs.specs.Needs.{is_voted_on, loop_with_needs, needed_alone, needs_of, row_with_needs, vote_if, with_needs}
 use Rattle.plan_meaning.specs.Abreast.{Abreast}
 use Rattle.plan_meaning.specs.Act as plan

@@ -17,21 +17,21 @@ use Rattle.node_form.specs.declared.instructions.Instr.TheVariants as instr
 use Rattle.node_form.specs.declared.tables.Tables.{Tables}
 use Rattle.node_form.specs.Fits.{FitsArray}
 use Rattle.row_runs.specs.Run.{Goes, Does}
-use Rattle.grid_meaning.specs.Local.{processors}
-use Rattle.grid_meaning.specs.Place.{held_value, own_part}
-use Rattle.grid_meaning.specs.Room.{cleared, room_of, roomed, zeros_at}
-use Rattle.grid_meaning.specs.State.{ArePlaces, IsSlot, IsStore}
-use Rattle.grid_meaning.specs.Stored.{no_places}
-use Rattle.grid_meaning.proofs.RegionLemmas.{no_steps}
-use Rattle.grid_meaning.proofs.RoomLemmas.{is_room, room_steps}
-use Rattle.flat_form.specs.Moves.{provided, found}
-use Rattle.flat_form.specs.Right.{matches}
-use Rattle.flat_form.specs.States.{IsStoreOf}
-use Rattle.flat_form.specs.Whole.{Whole, with_store}
+use Rattle.plan_meaning.specs.of_grid_meaning.Local.{processors}
+use Rattle.plan_meaning.specs.of_grid_meaning.Place.{held_value, own_part}
+use Rattle.plan_meaning.specs.of_grid_meaning.Room.{cleared, room_of, roomed, zeros_at}
+use Rattle.plan_meaning.specs.of_grid_meaning.State.{ArePlaces, IsSlot, IsStore}
+use Rattle.plan_meaning.specs.of_grid_meaning.Stored.{no_places}
+use Rattle.plan_meaning.proofs.of_grid_meaning.RegionLemmas.{no_steps}
+use Rattle.plan_meaning.proofs.of_grid_meaning.RoomLemmas.{is_room, room_steps}
+use Rattle.plan_meaning.specs.of_flat_form.Moves.{provided, found}
+use Rattle.plan_meaning.specs.of_flat_form.Right.{matches}
+use Rattle.plan_meaning.specs.of_flat_form.States.{IsStoreOf}
+use Rattle.plan_meaning.specs.of_flat_form.Whole.{Whole, with_store}
 use Rattle.plan_meaning.specs.Abreast.{Abreast, every, go_where, locals_of, share_of, standing}
 use Rattle.plan_meaning.specs.Act.{action_of, alone}
 use Rattle.plan_meaning.specs.Messages.{leaves_row, next_or, shown_of}
-use Rattle.grid_meaning.specs.Action.{goes_on, moves}
+use Rattle.plan_meaning.specs.of_grid_meaning.Action.{goes_on, moves}
 use Rattle.needs_runs.specs.Holds.{HasFloodsOf, HasPart, Holds}
 use Rattle.row_runs.specs.Rows.{AreEffects, BothGo, OldWrong}
 use Rattle.needs_runs.specs.Agree.{HasLayout, FitRowAgrees}

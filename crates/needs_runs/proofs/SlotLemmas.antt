@@ -23,10 +23,10 @@ use Rattle.node_form.specs.Control.{Registers, part_dim, part_dims, region_of, r
 use Rattle.node_form.specs.Control.{formed_by}
 use Rattle.node_form.specs.Fits.{IsRank}
 use Rattle.node_form.specs.Value.{Computed, Gives, Divides, Lacks, and_then, mapped, read}
-use Rattle.grid_meaning.specs.State.{IsSlot}
-use Rattle.grid_meaning.proofs.RegionLemmas.{HasStep-outside, HasStep-inside, HasStep-moved}
-use Rattle.grid_meaning.proofs.RegionLemmas.{HasStep-strided, steps-each, padded-each, padded-behind}
-use Rattle.grid_meaning.proofs.RegionLemmas.{length-each}
+use Rattle.plan_meaning.specs.of_grid_meaning.State.{IsSlot}
+use Rattle.plan_meaning.proofs.of_grid_meaning.RegionLemmas.{HasStep-outside, HasStep-inside, HasStep-moved}
+use Rattle.plan_meaning.proofs.of_grid_meaning.RegionLemmas.{HasStep-strided, steps-each, padded-each, padded-behind}
+use Rattle.plan_meaning.proofs.of_grid_meaning.RegionLemmas.{length-each}
 
 -- ---- lists side by side
 module _ {A B : Type 0} (R : A → B → Type 0) where

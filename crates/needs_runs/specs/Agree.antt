@@ -13,9 +13,9 @@ use Rattle.node_form.specs.declared.tables.Tables.{Tables}
 use Rattle.node_form.specs.Fits.{FitsArray, FitsInstr, IsRank}
 use Rattle.node_form.specs.Grid.{IsGrid}
 use Rattle.row_runs.specs.Rows.{AreEffects}
-use Rattle.flat_form.specs.Act.{act}
-use Rattle.flat_form.specs.Row.{inlined}
-use Rattle.flat_form.specs.Whole.{Whole}
+use Rattle.plan_meaning.specs.of_flat_form.Act.{act}
+use Rattle.plan_meaning.specs.of_flat_form.Row.{inlined}
+use Rattle.plan_meaning.specs.of_flat_form.Whole.{Whole}
 use Rattle.plan_meaning.specs.Abreast.{Abreast}
 use Rattle.plan_meaning.specs.Act.{row_does}
 use Rattle.needs_runs.specs.Holds.{Holds}

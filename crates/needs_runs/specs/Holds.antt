@@ -14,15 +14,15 @@ use Rattle.grid_layout.specs.Layout.{laid_out, own_first, own_last}
 use Rattle.node_form.specs.declared.arrays.ArrayRow.{ArrayRow}
 use Rattle.node_form.specs.declared.tables.Tables.{Tables}
 use Rattle.node_form.specs.Fits.{storage_of}
-use Rattle.grid_meaning.specs.Collective.{scalar_at}
-use Rattle.grid_meaning.specs.Local.{processors}
-use Rattle.grid_meaning.specs.Place.{held_value}
-use Rattle.grid_meaning.specs.State.{HasParts, IsSlot}
-use Rattle.grid_meaning.specs.Stored.{arrangement_of, no_places}
-use Rattle.row_orders.specs.Agreement.{joined_over}
-use Rattle.flat_form.specs.Right.{is_settled, matches}
-use Rattle.flat_form.specs.States.{IsWhole}
-use Rattle.flat_form.specs.Whole.{Whole}
+use Rattle.plan_meaning.specs.of_grid_meaning.Collective.{scalar_at}
+use Rattle.plan_meaning.specs.of_grid_meaning.Local.{processors}
+use Rattle.plan_meaning.specs.of_grid_meaning.Place.{held_value}
+use Rattle.plan_meaning.specs.of_grid_meaning.State.{HasParts, IsSlot}
+use Rattle.plan_meaning.specs.of_grid_meaning.Stored.{arrangement_of, no_places}
+use Rattle.plan_meaning.specs.of_row_orders.Agreement.{joined_over}
+use Rattle.plan_meaning.specs.of_flat_form.Right.{is_settled, matches}
+use Rattle.plan_meaning.specs.of_flat_form.States.{IsWhole}
+use Rattle.plan_meaning.specs.of_flat_form.Whole.{Whole}
 use Rattle.plan_meaning.specs.Abreast.{Abreast, Share, locals_of, standing}
 
 -- in the dimensions in which the array has a range

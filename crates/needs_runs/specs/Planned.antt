@@ -13,11 +13,11 @@ use Rattle.node_form.specs.declared.tables.Tables.{Tables}
 use Rattle.node_form.specs.Fits.{FitsInstr}
 use Rattle.row_runs.specs.Run.{Effect, Does}
 use Rattle.row_runs.specs.Straight.{OnTo, Tied, flow_step, through}
-use Rattle.grid_meaning.specs.Exchange as exchange
-use Rattle.flat_form.specs.Act.{act}
-use Rattle.flat_form.specs.Row.{inlined}
-use Rattle.flat_form.specs.Whole.{Whole}
-use Rattle.plan_form.specs.Units.{PlanRow, StartOf, FinishOf, Other, unit_rows}
+use Rattle.plan_meaning.specs.of_grid_meaning.Exchange as exchange
+use Rattle.plan_meaning.specs.of_flat_form.Act.{act}
+use Rattle.plan_meaning.specs.of_flat_form.Row.{inlined}
+use Rattle.plan_meaning.specs.of_flat_form.Whole.{Whole}
+use Rattle.comm_needs.specs.of_plan_form.Units.{PlanRow, StartOf, FinishOf, Other, unit_rows}
 use Rattle.plan_meaning.specs.Abreast.{Abreast}
 use Rattle.plan_meaning.specs.Act.{loop_does, row_does}
 use Rattle.plan_meaning.specs.Messages.{finished, started}

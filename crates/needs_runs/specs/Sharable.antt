@@ -13,9 +13,9 @@ use Rattle.node_form.specs.Grid.{IsGrid}
 use Rattle.code_parts.specs.Early.{is_roomy}
 use Rattle.code_parts.specs.Uses.{put_arrays, share, shifted_arrays}
 use Rattle.row_runs.specs.Segments.{Keeps}
-use Rattle.flat_form.specs.Act.{flat_run}
-use Rattle.flat_form.specs.Flat.{IsFlatRow}
-use Rattle.flat_form.specs.Static.{HasFringes, HasOneUnitALoop, KeepsCells}
+use Rattle.plan_meaning.specs.of_flat_form.Act.{flat_run}
+use Rattle.plan_meaning.specs.of_flat_form.Flat.{IsFlatRow}
+use Rattle.plan_meaning.specs.of_flat_form.Static.{HasFringes, HasOneUnitALoop, KeepsCells}
 use Rattle.plan_meaning.specs.Act.{plan_run}
 use Rattle.comm_needs.specs.Needs.{planned}
 use Rattle.stored_shifts.specs.Stored.{ShiftsAreStored}

@@ -1,7 +1,7 @@
 -- Small groups over one number.
 use Rattle.std.proofs.Common.{◌≡◌, ℕ, List, [], ◌∷◌, Some, None, ℤ, pos, refl}
 use Rattle.std.specs.Int.{int_wrap}
-use Rattle.zpl_nums.specs.declared.operators.Op.TheVariants as op
+use Rattle.node_form.specs.of_zpl_nums.declared.operators.Op.TheVariants as op
 use Rattle.node_form.specs.declared.members.Member.{Member}
 use Rattle.node_form.specs.declared.members.Member.TheVariants.{Put, Cell, OpenIf, Otherwise}
 use Rattle.node_form.specs.declared.members.Member.TheVariants.{CloseIf}

@@ -1,7 +1,7 @@
 -- Greater bounds on loops.
 use Rattle.std.proofs.Common.{ℕ, zero, suc, ◌≤◌, Bool, true, false, Option, Some, None, ℤ, arith}
 use Rattle.std.specs.Prelude.{if◌then◌else◌}
-use Rattle.zpl_nums.specs.Integer.{is_true}
+use Rattle.node_form.specs.of_zpl_nums.Integer.{is_true}
 use Rattle.node_form.specs.Nest.{Nothing, Putting, Keeping, Joining, Choosing, ChoosingElse}
 use Rattle.node_form.specs.Nest.{Looping, Repeating}
 use Rattle.node_form.specs.Value.{Computed, Gives, Divides, Lacks}

@@ -2,7 +2,7 @@
 use Rattle.std.proofs.Common.{◌≡◌, refl, sym, ap, ◌∙◌, ℕ, Bool, true, false, List}
 use Rattle.std.proofs.Common.{◌∷◌, ◌++◌, append_assoc, arith, ℤ, Option, Some, None}
 use Rattle.std.specs.Prelude.{if◌then◌else◌}
-use Rattle.zpl_nums.specs.Integer.{is_true}
+use Rattle.node_form.specs.of_zpl_nums.Integer.{is_true}
 use Rattle.node_form.specs.declared.members.Member.{Member}
 use Rattle.node_form.specs.declared.members.Member.TheVariants.{Put, Cell, Acc, OpenIf, Otherwise}
 use Rattle.node_form.specs.declared.members.Member.TheVariants.{CloseIf}

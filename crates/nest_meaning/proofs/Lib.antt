@@ -8,3 +8,4 @@ pub mod ComeLemmas
 pub mod PartLemmas
 mod Examples
 pub mod JoinLemmas
+pub use Rattle.row_runs.proofs as of_row_runs

@@ -6,9 +6,9 @@ use Rattle.std.proofs.Math.Nat.{one-le-mul, le-mul_of_pos_right, mul_comm}
 use Rattle.std.specs.Prelude.{Option, Some, None, if◌then◌else◌, slice_get, slice_set}
 use Rattle.std.specs.Prelude.{unwrap_or}
 use Rattle.std.specs.Option.{option_map}
-use Rattle.zpl_nums.specs.Integer.{is_true}
-use Rattle.zpl_nums.specs.Fold.{joined}
-use Rattle.zpl_nums.specs.declared.folds.Fold.{Fold}
+use Rattle.node_form.specs.of_zpl_nums.Integer.{is_true}
+use Rattle.node_form.specs.of_zpl_nums.Fold.{joined}
+use Rattle.node_form.specs.of_zpl_nums.declared.folds.Fold.{Fold}
 use Rattle.node_form.specs.declared.members.Member.{Member}
 use Rattle.node_form.specs.declared.members.Member.TheVariants.{Put, Cell, Acc, OpenIf, Otherwise}
 use Rattle.node_form.specs.declared.members.Member.TheVariants.{CloseIf}

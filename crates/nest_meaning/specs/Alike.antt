@@ -1,7 +1,7 @@
 -- Two trees that do alike, each by its own ways, from like states to like ones.
 use Rattle.std.specs.Prelude.{◌≡◌, ℕ, ℤ, Option, Some, None, List, [], ◌∷◌, ⊤}
 use Rattle.std.specs.Option.{IfSome}
-use Rattle.zpl_nums.specs.declared.folds.Fold.{Fold}
+use Rattle.node_form.specs.of_zpl_nums.declared.folds.Fold.{Fold}
 use Rattle.node_form.specs.Nest.{Nest, Nothing, Putting, Keeping, Joining, Choosing, ChoosingElse}
 use Rattle.node_form.specs.Nest.{Looping, Repeating}
 use Rattle.nest_meaning.specs.Nested.{Ways, Told, Fine, Zero, Wants, Lost}

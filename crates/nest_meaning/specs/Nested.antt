@@ -3,9 +3,9 @@
 use Rattle.std.specs.Prelude.{ℕ, zero, suc, if◌then◌else◌, ℤ}
 use Rattle.std.specs.Prelude.{Option, Some, None, slice_get, slice_set}
 use Rattle.std.specs.Option.{option_map}
-use Rattle.zpl_nums.specs.declared.folds.Fold.{Fold}
-use Rattle.zpl_nums.specs.Integer.{is_true}
-use Rattle.zpl_nums.specs.Fold.{joined}
+use Rattle.node_form.specs.of_zpl_nums.declared.folds.Fold.{Fold}
+use Rattle.node_form.specs.of_zpl_nums.Integer.{is_true}
+use Rattle.node_form.specs.of_zpl_nums.Fold.{joined}
 use Rattle.node_form.specs.declared.tables.Tables.{Tables}
 use Rattle.node_form.specs.Group.{Access, Point, value_at}
 use Rattle.node_form.specs.Nest.{Nest, Nothing, Putting, Keeping, Joining, Choosing, ChoosingElse}

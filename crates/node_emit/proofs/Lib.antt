@@ -1,1 +1,2 @@
 pub mod TreeLemmas
+pub use Rattle.flat_passes.proofs as of_flat_passes

@@ -8,24 +8,24 @@ use Rattle.std.specs.Option.{option_map}
 use Rattle.std.proofs.lemmas.List.{length-map}
 use Rattle.std.proofs.lemmas.List.Elements.{All-map}
 use Rattle.zpl_nums.specs.declared.folds.Fold.{Fold}
-use Rattle.node_form.specs.declared.arrays.Item.{Item}
-use Rattle.node_form.specs.declared.instructions.Instr.{Instr}
-use Rattle.node_form.specs.declared.instructions.Instr.TheVariants as instr
-use Rattle.node_form.specs.declared.tables.Tables.{Tables}
-use Rattle.code_parts.specs.Counts.{GoesByTrees, code_size, count_of, is_counted, is_loop, is_star}
-use Rattle.code_parts.specs.Counts.{is_vote}
-use Rattle.code_parts.specs.Early.{IsEarly, Passed, crosses_last, is_in_time, may_cross}
-use Rattle.code_parts.specs.Early.{none_passed}
-use Rattle.code_parts.specs.Early.{open_behind, passed_by}
-use Rattle.code_parts.specs.Exchanged.{HasNoRepeats, IsMerged, fresh_behind}
-use Rattle.code_parts.specs.Exchanged.{is_apart, is_behind_finish, starts_new}
-use Rattle.code_parts.specs.Fused.{IsFused, begins_anew, last_loop}
-use Rattle.code_parts.specs.Stretch.{ends_stretch, is_goal, leads_to}
-use Rattle.code_parts.specs.Stretch.{right_from}
-use Rattle.code_parts.proofs.EarlyLemmas.{early_either_way}
-use Rattle.code_parts.proofs.FusedLemmas.{fused_either_way}
-use Rattle.code_parts.proofs.MergedLemmas.{merged_either_way}
-use Rattle.code_parts.proofs.RepeatLemmas.{repeats_either_way}
+use Rattle.flat_passes.specs.of_node_form.declared.arrays.Item.{Item}
+use Rattle.flat_passes.specs.of_node_form.declared.instructions.Instr.{Instr}
+use Rattle.flat_passes.specs.of_node_form.declared.instructions.Instr.TheVariants as instr
+use Rattle.flat_passes.specs.of_node_form.declared.tables.Tables.{Tables}
+use Rattle.flat_passes.specs.of_code_parts.Counts.{GoesByTrees, code_size, count_of, is_counted, is_loop, is_star}
+use Rattle.flat_passes.specs.of_code_parts.Counts.{is_vote}
+use Rattle.flat_passes.specs.of_code_parts.Early.{IsEarly, Passed, crosses_last, is_in_time, may_cross}
+use Rattle.flat_passes.specs.of_code_parts.Early.{none_passed}
+use Rattle.flat_passes.specs.of_code_parts.Early.{open_behind, passed_by}
+use Rattle.flat_passes.specs.of_code_parts.Exchanged.{HasNoRepeats, IsMerged, fresh_behind}
+use Rattle.flat_passes.specs.of_code_parts.Exchanged.{is_apart, is_behind_finish, starts_new}
+use Rattle.flat_passes.specs.of_code_parts.Fused.{IsFused, begins_anew, last_loop}
+use Rattle.flat_passes.specs.of_code_parts.Stretch.{ends_stretch, is_goal, leads_to}
+use Rattle.flat_passes.specs.of_code_parts.Stretch.{right_from}
+use Rattle.flat_passes.proofs.of_code_parts.EarlyLemmas.{early_either_way}
+use Rattle.flat_passes.proofs.of_code_parts.FusedLemmas.{fused_either_way}
+use Rattle.flat_passes.proofs.of_code_parts.MergedLemmas.{merged_either_way}
+use Rattle.flat_passes.proofs.of_code_parts.RepeatLemmas.{repeats_either_way}
 use Rattle.node_emit.specs.Emit.{along_tree, emitted}
 
 -- ---- a row is a vote, a fold, or stays

@@ -1,9 +1,9 @@
 -- Plans as node code: the rows stay, for a grid; and agreements go along the tree, if that is asked
 -- for.
 use Rattle.std.specs.Prelude.{ℕ, Bool, true, false, List, map}
-use Rattle.node_form.specs.declared.instructions.Instr.{Instr}
-use Rattle.node_form.specs.declared.instructions.Instr.TheVariants as instr
-use Rattle.node_form.specs.declared.tables.Tables.{Tables}
+use Rattle.flat_passes.specs.of_node_form.declared.instructions.Instr.{Instr}
+use Rattle.flat_passes.specs.of_node_form.declared.instructions.Instr.TheVariants as instr
+use Rattle.flat_passes.specs.of_node_form.declared.tables.Tables.{Tables}
 
 -- a vote and a fold, along the tree of processors
 abbrev pub along_tree : Instr → Instr

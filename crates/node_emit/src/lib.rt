@@ -4,12 +4,12 @@
 mod rows;
 
 ghost use Rattle.std.specs.Prelude.{◌≡◌, ℕ, true, Bool, List, Option};
-ghost use Rattle.node_form.specs.declared.tables.Tables.{Tables as Code};
-ghost use Rattle.code_parts.specs.Counts.{GoesByTrees, code_size, count_of, is_counted, is_loop};
-ghost use Rattle.code_parts.specs.Counts.{is_vote};
-ghost use Rattle.code_parts.specs.Early.{IsEarly};
-ghost use Rattle.code_parts.specs.Exchanged.{HasNoRepeats, IsMerged};
-ghost use Rattle.code_parts.specs.Fused.{IsFused};
+ghost use Rattle.flat_passes.specs.of_node_form.declared.tables.Tables.{Tables as Code};
+ghost use Rattle.flat_passes.specs.of_code_parts.Counts.{GoesByTrees, code_size, count_of, is_counted, is_loop};
+ghost use Rattle.flat_passes.specs.of_code_parts.Counts.{is_vote};
+ghost use Rattle.flat_passes.specs.of_code_parts.Early.{IsEarly};
+ghost use Rattle.flat_passes.specs.of_code_parts.Exchanged.{HasNoRepeats, IsMerged};
+ghost use Rattle.flat_passes.specs.of_code_parts.Fused.{IsFused};
 ghost use Rattle.node_emit.specs.Emit.{emitted};
 
 pub use rows::emit;

@@ -2,7 +2,7 @@
 ghost use Rattle.std.specs.Prelude.{◌≡◌, map};
 ghost use Rattle.node_emit.specs.Emit.{along_tree, emitted};
 
-use node_form::{Code, Grid3, Instr, Tables};
+use flat_passes::node_form::{Code, Grid3, Instr, Tables};
 
 /// The node code of a plan, for a grid: its rows, and with `tree` those of agreements along the
 /// tree of processors. It takes no memory.

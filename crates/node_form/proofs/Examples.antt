@@ -3,13 +3,13 @@ use Rattle.std.proofs.Common.{◌≡◌, List, [], ◌∷◌, true, cond, get_or
 use Rattle.std.specs.Prelude.{Some, None}
 use Rattle.std.specs.Int.{int_wrap}
 use Rattle.std.specs.Ordering.{int_eq}
-use Rattle.zpl_nums.specs.declared.ends.End.TheVariants as ending
-use Rattle.zpl_nums.specs.declared.ends.TrapKind.TheVariants.{OutsideStorage, RegionLimit, RegionMismatch}
-use Rattle.zpl_nums.specs.declared.operators.Op.TheVariants as op
-use Rattle.zpl_nums.specs.Integer.{least}
-use Rattle.zpl_region.specs.declared.dims.Dim.TheVariants as dim
-use Rattle.zpl_region.specs.declared.regions.Region.{Region}
-use Rattle.zpl_region.specs.Region.{padding}
+use Rattle.zpl_arrays.specs.of_zpl_nums.declared.ends.End.TheVariants as ending
+use Rattle.zpl_arrays.specs.of_zpl_nums.declared.ends.TrapKind.TheVariants.{OutsideStorage, RegionLimit, RegionMismatch}
+use Rattle.zpl_arrays.specs.of_zpl_nums.declared.operators.Op.TheVariants as op
+use Rattle.zpl_arrays.specs.of_zpl_nums.Integer.{least}
+use Rattle.zpl_arrays.specs.of_zpl_region.declared.dims.Dim.TheVariants as dim
+use Rattle.zpl_arrays.specs.of_zpl_region.declared.regions.Region.{Region}
+use Rattle.zpl_arrays.specs.of_zpl_region.Region.{padding}
 use Rattle.node_form.specs.declared.arrays.ArrayDim.TheVariants as axis
 use Rattle.node_form.specs.declared.arrays.ArrayRow.{ArrayRow}
 use Rattle.node_form.specs.declared.instructions.DimRow.TheVariants.{Span, Star, Copied}

@@ -8,3 +8,4 @@ pub mod RankLemmas
 pub mod ShapeLemmas
 pub mod TouchLemmas
 pub mod ValueLemmas
+pub use Rattle.zpl_arrays.proofs as of_zpl_arrays

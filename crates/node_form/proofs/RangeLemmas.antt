@@ -2,9 +2,9 @@
 use Rattle.std.proofs.Common.{◌≡◌, ℕ, zero, suc, ◌-◌, List, [], ◌∷◌, inl, inr, refl, sym, subst, ℤ, arith}
 use Rattle.std.specs.Prelude.{Option, Some, None, IfSome, slice_get, All}
 use Rattle.std.proofs.lemmas.List.Elements.{All-nil, All-head, All-tail, All-cons}
-use Rattle.zpl_nums.specs.declared.operators.Op.{Op}
-use Rattle.zpl_nums.specs.Integer.{negated, absolute, denied, IsInteger, IsTruth}
-use Rattle.zpl_nums.specs.Op.{applied}
+use Rattle.zpl_arrays.specs.of_zpl_nums.declared.operators.Op.{Op}
+use Rattle.zpl_arrays.specs.of_zpl_nums.Integer.{negated, absolute, denied, IsInteger, IsTruth}
+use Rattle.zpl_arrays.specs.of_zpl_nums.Op.{applied}
 use Rattle.node_form.specs.declared.words.ExprOp.{ExprOp}
 use Rattle.node_form.specs.declared.words.ExprOp.TheVariants.{Const, Scalar, Here, Shifted, Cell, Coord, Pair, Neg, Not, Abs}
 use Rattle.node_form.specs.Value.{Computed, Gives, Divides, Lacks, and_then, read, divided, Operands, unmoved, pushed, stepped, evaluated, only_value, value_of, HasInteger, HasIntegers}

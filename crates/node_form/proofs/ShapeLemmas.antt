@@ -2,9 +2,9 @@
 use Rattle.std.proofs.Common.{◌≡◌, ℕ, zero, suc, ◌-◌, ◌≤◌, List, [], ◌∷◌, length, length-drop, drop, get_or, refl, sym, ap, ◌∙◌, subst, arith}
 use Rattle.std.specs.Prelude.{All, map, replicate}
 use Rattle.std.proofs.lemmas.List.Elements.{All-head, All-tail}
-use Rattle.zpl_region.specs.declared.dims.Dim.{Dim}
-use Rattle.zpl_region.specs.declared.dims.Dim.TheVariants as dim
-use Rattle.zpl_region.specs.Region.{IsPadded, padding}
+use Rattle.zpl_arrays.specs.of_zpl_region.declared.dims.Dim.{Dim}
+use Rattle.zpl_arrays.specs.of_zpl_region.declared.dims.Dim.TheVariants as dim
+use Rattle.zpl_arrays.specs.of_zpl_region.Region.{IsPadded, padding}
 use Rattle.node_form.specs.declared.arrays.ArrayDim.{ArrayDim}
 use Rattle.node_form.specs.declared.arrays.ArrayDim.TheVariants.{Range, Star}
 use Rattle.node_form.specs.Fits.{IsUnused, storage_dim}

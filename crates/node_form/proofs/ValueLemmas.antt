@@ -5,10 +5,10 @@ use Rattle.std.specs.Ordering.{int_eq}
 use Rattle.std.proofs.lemmas.Bool.Decides.{Decides-int_eq}
 use Rattle.std.proofs.lemmas.List.Elements.{All-head, All-tail}
 use Rattle.std.proofs.lemmas.Option.{slice_get-get_or}
-use Rattle.zpl_nums.specs.declared.operators.Op.{Op}
-use Rattle.zpl_nums.specs.declared.operators.Op.TheVariants.{Add, Sub, Mul, Div, Rem, Eq, Ne, Lt, Le, Gt, Ge, And, Or, Max, Min}
-use Rattle.zpl_nums.specs.Integer.{negated, absolute, denied}
-use Rattle.zpl_nums.specs.Op.{applied, Divides as IsDivision}
+use Rattle.zpl_arrays.specs.of_zpl_nums.declared.operators.Op.{Op}
+use Rattle.zpl_arrays.specs.of_zpl_nums.declared.operators.Op.TheVariants.{Add, Sub, Mul, Div, Rem, Eq, Ne, Lt, Le, Gt, Ge, And, Or, Max, Min}
+use Rattle.zpl_arrays.specs.of_zpl_nums.Integer.{negated, absolute, denied}
+use Rattle.zpl_arrays.specs.of_zpl_nums.Op.{applied, Divides as IsDivision}
 use Rattle.node_form.specs.declared.words.ExprOp.{ExprOp}
 use Rattle.node_form.specs.declared.words.ExprOp.TheVariants.{Const, Scalar, Here, Shifted, Cell, Coord, Pair, Neg, Not, Abs}
 use Rattle.node_form.specs.declared.tables.Tables.{Tables}

@@ -1,16 +1,16 @@
 -- Rows that need scalars and slots alone.
 use Rattle.std.specs.Prelude.{ℕ, zero, suc, ◌-◌, Bool, true, false, ℤ, pos, Option, Some, None, List, [], ◌∷◌, ◌++◌, take, length, replicate, slice_get, slice_set, option_and_then}
 use Rattle.std.specs.Option.{option_map}
-use Rattle.zpl_nums.specs.declared.ends.End.{End}
-use Rattle.zpl_nums.specs.declared.ends.End.TheVariants.{Done, Trap}
-use Rattle.zpl_nums.specs.declared.ends.TrapKind.{TrapKind}
-use Rattle.zpl_nums.specs.declared.ends.TrapKind.TheVariants.{DivideByZero, OutsideStorage, RegionLimit, RegionMismatch}
-use Rattle.zpl_nums.specs.Integer.{is_true}
-use Rattle.zpl_region.specs.declared.dims.Dim.{Dim}
-use Rattle.zpl_region.specs.declared.dims.Dim.TheVariants as dim
-use Rattle.zpl_region.specs.declared.regions.Region.{Region}
-use Rattle.zpl_region.specs.Region.{padding, outside_of, inside_of, moved, strided}
-use Rattle.zpl_region.specs.Tests.{is_within_limit}
+use Rattle.zpl_arrays.specs.of_zpl_nums.declared.ends.End.{End}
+use Rattle.zpl_arrays.specs.of_zpl_nums.declared.ends.End.TheVariants.{Done, Trap}
+use Rattle.zpl_arrays.specs.of_zpl_nums.declared.ends.TrapKind.{TrapKind}
+use Rattle.zpl_arrays.specs.of_zpl_nums.declared.ends.TrapKind.TheVariants.{DivideByZero, OutsideStorage, RegionLimit, RegionMismatch}
+use Rattle.zpl_arrays.specs.of_zpl_nums.Integer.{is_true}
+use Rattle.zpl_arrays.specs.of_zpl_region.declared.dims.Dim.{Dim}
+use Rattle.zpl_arrays.specs.of_zpl_region.declared.dims.Dim.TheVariants as dim
+use Rattle.zpl_arrays.specs.of_zpl_region.declared.regions.Region.{Region}
+use Rattle.zpl_arrays.specs.of_zpl_region.Region.{padding, outside_of, inside_of, moved, strided}
+use Rattle.zpl_arrays.specs.of_zpl_region.Tests.{is_within_limit}
 use Rattle.zpl_arrays.specs.Border.{border_conforms}
 use Rattle.zpl_arrays.specs.Conformity.{reduction_conforms, flood_conforms}
 use Rattle.zpl_arrays.specs.Reference.{is_reference}

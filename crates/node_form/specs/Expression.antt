@@ -1,6 +1,6 @@
 -- Expressions in postfix.
 use Rattle.std.specs.Prelude.{◌≡◌, ℕ, ◌+◌, ◌-◌, nat_lt, if◌then◌else◌, ℤ, Option, Some, None, List, [], ◌∷◌, ◌++◌}
-use Rattle.zpl_nums.specs.declared.operators.Op.{Op}
+use Rattle.zpl_arrays.specs.of_zpl_nums.declared.operators.Op.{Op}
 use Rattle.node_form.specs.declared.words.ExprOp.{ExprOp}
 use Rattle.node_form.specs.declared.words.ExprOp.TheVariants.{Const, Scalar, Here, Shifted, Cell, Coord, Pair, Neg, Not, Abs}
 

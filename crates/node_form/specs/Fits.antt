@@ -1,11 +1,11 @@
 -- When the tables of a program fit: one name for each rule.
 use Rattle.std.specs.Prelude.{◌≡◌, ℕ, ◌^◌, ◌<◌, ◌≤◌, Bool, true, false, ℤ, pos, ◌≤ℤ◌, List, length, map, take, drop, slice_get, Option, Some, All}
 use Rattle.std.specs.Option.{IfSome, IsSomeAnd, IsNone}
-use Rattle.zpl_region.specs.declared.dims.Dim.{Dim}
-use Rattle.zpl_region.specs.declared.dims.Dim.TheVariants as dim
-use Rattle.zpl_region.specs.declared.regions.Region.{Region}
-use Rattle.zpl_region.specs.Dim.{IsUpTo, HasStep}
-use Rattle.zpl_region.specs.Region.{IsPadded, IsWithinLimit}
+use Rattle.zpl_arrays.specs.of_zpl_region.declared.dims.Dim.{Dim}
+use Rattle.zpl_arrays.specs.of_zpl_region.declared.dims.Dim.TheVariants as dim
+use Rattle.zpl_arrays.specs.of_zpl_region.declared.regions.Region.{Region}
+use Rattle.zpl_arrays.specs.of_zpl_region.Dim.{IsUpTo, HasStep}
+use Rattle.zpl_arrays.specs.of_zpl_region.Region.{IsPadded, IsWithinLimit}
 use Rattle.node_form.specs.declared.words.ExprOp.{ExprOp}
 use Rattle.node_form.specs.declared.words.ExprOp.TheVariants as word
 use Rattle.node_form.specs.declared.arrays.ArrayDim.{ArrayDim}

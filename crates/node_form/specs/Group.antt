@@ -1,7 +1,7 @@
 -- What the members of a group do at one index.
 use Rattle.std.specs.Prelude.{ℕ, zero, suc, ◌+◌, ◌-◌, Bool, true, false, ℤ, Option, Some, None, List, [], ◌∷◌, ◌++◌, take, drop, slice_get, slice_set, unwrap_or, if◌then◌else◌}
-use Rattle.zpl_nums.specs.Integer.{is_true}
-use Rattle.zpl_nums.specs.Fold.{joined}
+use Rattle.zpl_arrays.specs.of_zpl_nums.Integer.{is_true}
+use Rattle.zpl_arrays.specs.of_zpl_nums.Fold.{joined}
 use Rattle.node_form.specs.declared.members.Member.{Member}
 use Rattle.node_form.specs.declared.members.Member.TheVariants.{Put, Cell, Acc, OpenIf, Otherwise, CloseIf, OpenWhile, CloseWhile, OpenRepeat, Until}
 use Rattle.node_form.specs.declared.tables.Tables.{Tables}

@@ -1,8 +1,8 @@
 -- The value of an expression.
 use Rattle.std.specs.Prelude.{◌≡◌, ℕ, ◌-◌, ◌<◌, ◌≤◌, ℤ, pos, Option, Some, None, List, [], ◌∷◌, ◌++◌, length, slice_get, All}
-use Rattle.zpl_nums.specs.declared.operators.Op.{Op}
-use Rattle.zpl_nums.specs.Integer.{negated, absolute, denied, IsInteger}
-use Rattle.zpl_nums.specs.Op.{applied, Divides as IsDivision}
+use Rattle.zpl_arrays.specs.of_zpl_nums.declared.operators.Op.{Op}
+use Rattle.zpl_arrays.specs.of_zpl_nums.Integer.{negated, absolute, denied, IsInteger}
+use Rattle.zpl_arrays.specs.of_zpl_nums.Op.{applied, Divides as IsDivision}
 use Rattle.node_form.specs.declared.tables.Tables.{Tables}
 use Rattle.node_form.specs.declared.words.ExprOp.{ExprOp}
 use Rattle.node_form.specs.declared.words.ExprOp.TheVariants.{Const, Scalar, Here, Shifted, Cell, Coord, Pair, Neg, Not, Abs}

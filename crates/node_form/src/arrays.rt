@@ -1,6 +1,6 @@
 //! Arrays, and exchanges of their places.
 use crate::rows::Row;
-use zpl_region::Vec3;
+use zpl_arrays::zpl_region::Vec3;
 
 /// The items of an exchange: places of arrays that processors send each other in one message.
 pub type ExchangeRow = Row<Item>;

@@ -1,6 +1,6 @@
 //! Instructions.
-use zpl_nums::{Border, Fold, TrapKind};
-use zpl_region::{Region, Vec3};
+use zpl_arrays::zpl_nums::{Border, Fold, TrapKind};
+use zpl_arrays::zpl_region::{Region, Vec3};
 
 /// How a region is made of another one and a vector: `V of U`, `V in U`, `U at V` or `U by V`.
 #[derive(Clone, Copy, Debug)]

@@ -3,7 +3,7 @@
 //! Each law is the contract of a function that does nothing: a call brings the law into a proof.
 ghost use Rattle.std.specs.Prelude.{◌≡◌, ℕ, ◌+◌, ◌≤◌, ◌↔◌, ℤ, List, [], ◌∷◌, ◌++◌, length};
 ghost use Rattle.std.specs.Prelude.{slice_get, All};
-ghost use Rattle.zpl_nums.specs.Integer.{IsInteger};
+ghost use Rattle.zpl_arrays.specs.of_zpl_nums.Integer.{IsInteger};
 ghost use Rattle.node_form.specs.declared.arrays.ArrayRow.{ArrayRow};
 ghost use Rattle.node_form.specs.declared.arrays.Item.{Item};
 ghost use Rattle.node_form.specs.declared.instructions.Instr.{Instr};
@@ -42,7 +42,7 @@ ghost use Rattle.node_form.specs.Value.{
   ReadsUnheld,
 };
 
-use zpl_nums::operators_stay_in_range;
+use zpl_arrays::zpl_nums::operators_stay_in_range;
 
 /// Words are those of an expression exactly where each operator finds its operands on the stack,
 /// which is empty before, and one value is left on it.

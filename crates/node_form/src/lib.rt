@@ -33,3 +33,5 @@ pub use shapes::{fits_array, is_rank, storage_dim};
 pub use tables::{Arrays, Code, Exchanges, Exprs, Grid3, Groups, Slots, Tables, Texts};
 pub use touches::{Thing, Touch};
 pub use words::{ExprOp, ExprRow, TextRow};
+pub use zpl_arrays;
+pub use zpl_arrays::{zpl_nums, zpl_region};

@@ -1,6 +1,6 @@
 //! Groups: what a loop does at each of its indices.
 use crate::rows::Row;
-use zpl_nums::Fold;
+use zpl_arrays::zpl_nums::Fold;
 
 /// The members of a group, in the order in which they are run. Members that enclose others open and
 /// close as brackets do.

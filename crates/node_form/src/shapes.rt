@@ -1,7 +1,7 @@
 //! Ranks, vectors, regions and arrays that may stand in a row.
 ghost use Rattle.std.specs.Prelude.{◌≡◌, ◌↔◌, IsTrue, All, drop};
-ghost use Rattle.zpl_region.specs.Dim.{HasStep, IsUpTo};
-ghost use Rattle.zpl_region.specs.Region.{IsWithinLimit, padding};
+ghost use Rattle.zpl_arrays.specs.of_zpl_region.Dim.{HasStep, IsUpTo};
+ghost use Rattle.zpl_arrays.specs.of_zpl_region.Region.{IsWithinLimit, padding};
 ghost use Rattle.node_form.specs.Fits.{
   FitsArray,
   FitsRegion,
@@ -16,7 +16,7 @@ ghost use Rattle.node_form.specs.Fits.{
 };
 
 use crate::arrays::{ArrayDim, ArrayRow};
-use zpl_region::{Dim, Region, Vec3};
+use zpl_arrays::zpl_region::{Dim, Region, Vec3};
 
 /// The greatest size of a vector's component and of a fringe width.
 const MAX_SIZE: i64 = 2_147_483_648;

@@ -1,7 +1,7 @@
 //! Texts and expressions.
 use crate::rows::Row;
-use zpl_nums::Op;
-use zpl_region::Vec3;
+use zpl_arrays::zpl_nums::Op;
+use zpl_arrays::zpl_region::Vec3;
 
 /// The bytes of a text that a program prints.
 pub type TextRow = Row<u8>;

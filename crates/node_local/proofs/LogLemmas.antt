@@ -1,8 +1,8 @@
 -- Changes that are logged give back what was there.
 use Rattle.std.proofs.Common.{◌≡◌, ℕ, zero, suc, ◌<◌, List, [], ◌∷◌, ◌++◌, length, take, drop, get_or, replicate, set, refl, sym, ap, ◌∙◌, ℤ, pos, arith}
 use Rattle.std.proofs.lemmas.List.{append-nil, drop_all, set-get_or, set-set, take_all}
-use Rattle.zpl_arrays.specs.Array.{Array}
-use Rattle.node_form.specs.Group.{Point}
+use Rattle.grid_meaning.specs.of_zpl_arrays.Array.{Array}
+use Rattle.grid_meaning.specs.of_node_form.Group.{Point}
 use Rattle.node_local.specs.declared.changes.Change.{Change}
 use Rattle.node_local.specs.declared.changes.Change.TheVariants.{Scalar, Cell, Place}
 use Rattle.node_local.specs.Undo.{taken_back, undone}

@@ -4,11 +4,11 @@ use Rattle.std.proofs.Common.{pos, refl, sym, ap, ◌∙◌, arith, add-one}
 use Rattle.std.proofs.Math.Seq.{drop-cons}
 use Rattle.std.proofs.lemmas.List.{length-drop}
 use Rattle.std.specs.Prelude.{Some}
-use Rattle.zpl_nums.specs.declared.operators.Op.{Op}
-use Rattle.zpl_nums.specs.Op.{applied}
-use Rattle.node_form.specs.declared.words.ExprOp.{ExprOp}
-use Rattle.node_form.specs.declared.words.ExprOp.TheVariants.{Pair}
-use Rattle.node_form.specs.Value.{Gives, Lacks, Operands, divided, pushed, stepped, only_value}
+use Rattle.grid_meaning.specs.of_zpl_nums.declared.operators.Op.{Op}
+use Rattle.grid_meaning.specs.of_zpl_nums.Op.{applied}
+use Rattle.grid_meaning.specs.of_node_form.declared.words.ExprOp.{ExprOp}
+use Rattle.grid_meaning.specs.of_node_form.declared.words.ExprOp.TheVariants.{Pair}
+use Rattle.grid_meaning.specs.of_node_form.Value.{Gives, Lacks, Operands, divided, pushed, stepped, only_value}
 
 -- the two values on top
 two_on_top : (stack : List ℤ) (top : ℕ) → top + 1 < length stack

@@ -7,13 +7,13 @@ use Rattle.std.proofs.lemmas.Bool.{lt-ltb, le-ltb}
 use Rattle.std.proofs.lemmas.List.{length-map}
 use Rattle.std.proofs.lemmas.List.Elements.{All-head, All-tail}
 use Rattle.std.proofs.lemmas.Option.{slice_get_within, get_or_from_slice_get}
-use Rattle.node_form.specs.declared.arrays.ArrayDim.{ArrayDim}
-use Rattle.node_form.specs.declared.arrays.ArrayRow.{ArrayRow}
-use Rattle.grid_layout.specs.declared.boxes.ArrayBox.{ArrayBox}
+use Rattle.grid_meaning.specs.of_node_form.declared.arrays.ArrayDim.{ArrayDim}
+use Rattle.grid_meaning.specs.of_node_form.declared.arrays.ArrayRow.{ArrayRow}
+use Rattle.grid_meaning.specs.of_grid_layout.declared.boxes.ArrayBox.{ArrayBox}
 use Rattle.grid_meaning.specs.Collective.{kept_with}
 use Rattle.grid_meaning.specs.Stored.{box_of, stored, width_above, width_below}
-use Rattle.node_form.specs.Fits.{storage_dim}
-use Rattle.zpl_region.specs.declared.dims.Dim.{Dim}
+use Rattle.grid_meaning.specs.of_node_form.Fits.{storage_dim}
+use Rattle.grid_meaning.specs.of_zpl_region.declared.dims.Dim.{Dim}
 use Rattle.node_local.specs.declared.standings.Kept.{Kept}
 use Rattle.node_local.specs.Standing.{entry_of}
 

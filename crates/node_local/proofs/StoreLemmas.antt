@@ -6,33 +6,33 @@ use Rattle.std.proofs.lemmas.Int.{ints, clamps}
 use Rattle.std.proofs.Math.Bool.{and-true}
 use Rattle.std.proofs.Math.Nat.{mul-le-mul_left, mul-le-mul_right}
 use Rattle.std.proofs.lemmas.List.Elements.{recursion_from_All}
-use Rattle.zpl_region.specs.declared.dims.Dim.{Dim}
-use Rattle.zpl_region.specs.declared.dims.Dim.TheVariants.{Range, Flood}
-use Rattle.zpl_region.specs.Dim.{HasStep, IsDim, IsUpTo, is_multiple}
+use Rattle.grid_meaning.specs.of_zpl_region.declared.dims.Dim.{Dim}
+use Rattle.grid_meaning.specs.of_zpl_region.declared.dims.Dim.TheVariants.{Range, Flood}
+use Rattle.grid_meaning.specs.of_zpl_region.Dim.{HasStep, IsDim, IsUpTo, is_multiple}
 use Rattle.std.specs.Int.{int_wrap, saturate_signed}
 use mir.Syntax.{w64}
 use mir.Val.{to_z, of_z}
 use Rattle.std.specs.Prelude.{FitsSigned}
 use Rattle.std.proofs.lemmas.Int.{to_z-of_z, int_wrap_fits, int_wrap-add_left}
-use Rattle.grid_layout.specs.Layout.{HasWideBounds}
-use Rattle.zpl_region.specs.Ends.{coordinate_count, first_of, tuple_count}
-use Rattle.zpl_region.specs.Hull.{IsBoxed, all_from}
-use Rattle.zpl_region.specs.Tests.{is_coordinate, are_coordinates}
-use Rattle.zpl_region.proofs.DimLemmas.{multiple_passes, pos-extent}
-use Rattle.zpl_region.proofs.HullLemmas.{first-all_from, count-all_from}
-use Rattle.zpl_region.proofs.ProgressionLemmas.{between-true, true-between}
-use Rattle.zpl_region.specs.declared.regions.Region.{Region}
-use Rattle.zpl_arrays.specs.Array.{Array, array_of, element, each_has_place, has_place, place_along, place_among}
+use Rattle.grid_meaning.specs.of_grid_layout.Layout.{HasWideBounds}
+use Rattle.grid_meaning.specs.of_zpl_region.Ends.{coordinate_count, first_of, tuple_count}
+use Rattle.grid_meaning.specs.of_zpl_region.Hull.{IsBoxed, all_from}
+use Rattle.grid_meaning.specs.of_zpl_region.Tests.{is_coordinate, are_coordinates}
+use Rattle.grid_meaning.proofs.of_zpl_region.DimLemmas.{multiple_passes, pos-extent}
+use Rattle.grid_meaning.proofs.of_zpl_region.HullLemmas.{first-all_from, count-all_from}
+use Rattle.grid_meaning.proofs.of_zpl_region.ProgressionLemmas.{between-true, true-between}
+use Rattle.grid_meaning.specs.of_zpl_region.declared.regions.Region.{Region}
+use Rattle.grid_meaning.specs.of_zpl_arrays.Array.{Array, array_of, element, each_has_place, has_place, place_along, place_among}
 use Rattle.std.specs.Option.{option_map}
 use Rattle.std.specs.Prelude.{slice_get}
 use Rattle.std.proofs.Math.ListN.{set, length-set}
 use Rattle.std.proofs.lemmas.Option.{slice_get_within, slice_get-get_or, get_or_from_slice_get}
 use Rattle.std.proofs.lemmas.List.{get_or-set_same, set-set, set-get_or}
 use Rattle.node_local.specs.Undo.{with_place}
-use Rattle.zpl_region.specs.Region.{members}
+use Rattle.grid_meaning.specs.of_zpl_region.Region.{members}
 use Rattle.node_local.specs.Store.{StandsFor, place_in}
 use Rattle.grid_meaning.specs.Place.{held_value, moved_by, where_held}
-use Rattle.node_form.specs.Value.{unmoved}
+use Rattle.grid_meaning.specs.of_node_form.Value.{unmoved}
 use Rattle.node_local.specs.Reading.{boxed_value, is_flat, is_flat_coordinate}
 use Rattle.std.specs.Ordering.{int_eq}
 

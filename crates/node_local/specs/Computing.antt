@@ -1,11 +1,11 @@
 -- What the code for expressions reads, and what it answers.
 use Rattle.std.specs.Prelude.{ℕ, ℤ, List, [], ◌∷◌, drop, Result, Ok, Err}
-use Rattle.zpl_nums.specs.declared.operators.UnaryOp.{UnaryOp}
-use Rattle.zpl_nums.specs.UnaryOp.{applied_unary}
-use Rattle.node_form.specs.declared.words.ExprOp.{ExprOp}
-use Rattle.zpl_arrays.specs.Array.{Array}
-use Rattle.node_form.specs.Group.{Point, operands_at}
-use Rattle.node_form.specs.Value.{Computed, Gives, Divides, Lacks, Operands, value_of}
+use Rattle.grid_meaning.specs.of_zpl_nums.declared.operators.UnaryOp.{UnaryOp}
+use Rattle.grid_meaning.specs.of_zpl_nums.UnaryOp.{applied_unary}
+use Rattle.grid_meaning.specs.of_node_form.declared.words.ExprOp.{ExprOp}
+use Rattle.grid_meaning.specs.of_zpl_arrays.Array.{Array}
+use Rattle.grid_meaning.specs.of_node_form.Group.{Point, operands_at}
+use Rattle.grid_meaning.specs.of_node_form.Value.{Computed, Gives, Divides, Lacks, Operands, value_of}
 use Rattle.grid_meaning.specs.Local.{Local}
 use Rattle.grid_meaning.specs.Loop.{access_at, point_of}
 use Rattle.node_local.specs.declared.memories.Memory.{Memory}

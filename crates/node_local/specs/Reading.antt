@@ -1,10 +1,10 @@
 -- What is read of a store by the tuples of its box.
 use Rattle.std.specs.Prelude.{Bool, true, ◌&&◌, ℤ, pos, List, [], ◌∷◌, Option}
 use Rattle.std.specs.Ordering.{int_eq}
-use Rattle.zpl_region.specs.declared.dims.Dim.{Dim}
-use Rattle.zpl_region.specs.declared.dims.Dim.TheVariants.{Range, Flood}
-use Rattle.zpl_region.specs.Tests.{is_member}
-use Rattle.zpl_arrays.specs.Array.{Array, element}
+use Rattle.grid_meaning.specs.of_zpl_region.declared.dims.Dim.{Dim}
+use Rattle.grid_meaning.specs.of_zpl_region.declared.dims.Dim.TheVariants.{Range, Flood}
+use Rattle.grid_meaning.specs.of_zpl_region.Tests.{is_member}
+use Rattle.grid_meaning.specs.of_zpl_arrays.Array.{Array, element}
 use Rattle.grid_meaning.specs.Place.{where_held}
 
 -- the value at a tuple of the box

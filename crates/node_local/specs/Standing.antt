@@ -1,6 +1,6 @@
 -- The state of a processor that was told part by part.
 use Rattle.std.specs.Prelude.{ℕ, ℤ, List, map}
-use Rattle.zpl_arrays.specs.Array.{Array}
+use Rattle.grid_meaning.specs.of_zpl_arrays.Array.{Array}
 use Rattle.grid_meaning.specs.Local.{Local}
 use Rattle.node_local.specs.declared.standings.Kept.{Kept}
 use Rattle.node_local.specs.declared.standings.Standing.{Standing}

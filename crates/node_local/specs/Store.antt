@@ -5,12 +5,12 @@
 --   place_in   where the value of a tuple stands, if the tuple has a place
 --   StandsFor  a number is another one as far as the bounds tell that a box may have
 use Rattle.std.specs.Prelude.{◌≡◌, ℕ, ℤ, List, [], ◌∷◌, drop, length, map, Option, All}
-use Rattle.zpl_region.specs.declared.regions.Region.{Region}
-use Rattle.zpl_region.specs.Dim.{IsUpTo}
-use Rattle.zpl_region.specs.Ends.{coordinate_count, tuple_count}
-use Rattle.zpl_region.specs.Hull.{IsBoxed}
-use Rattle.zpl_arrays.specs.Array.{has_place, place_among}
-use Rattle.grid_layout.specs.Layout.{HasWideBounds}
+use Rattle.grid_meaning.specs.of_zpl_region.declared.regions.Region.{Region}
+use Rattle.grid_meaning.specs.of_zpl_region.Dim.{IsUpTo}
+use Rattle.grid_meaning.specs.of_zpl_region.Ends.{coordinate_count, tuple_count}
+use Rattle.grid_meaning.specs.of_zpl_region.Hull.{IsBoxed}
+use Rattle.grid_meaning.specs.of_zpl_arrays.Array.{has_place, place_among}
+use Rattle.grid_meaning.specs.of_grid_layout.Layout.{HasWideBounds}
 use Rattle.grid_meaning.specs.Place.{where_held}
 
 pub record IsFlat (storage : Region) (rows columns : ℕ) (values : List ℤ) : Type 0 where

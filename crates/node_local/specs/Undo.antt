@@ -1,7 +1,7 @@
 -- Changes that are taken back: scalars, cells and places of arrays get their old values again.
 use Rattle.std.specs.Prelude.{ℕ, ℤ, List, [], ◌∷◌, Option, Some, None, slice_get, slice_set}
-use Rattle.zpl_arrays.specs.Array.{Array}
-use Rattle.node_form.specs.Group.{Point}
+use Rattle.grid_meaning.specs.of_zpl_arrays.Array.{Array}
+use Rattle.grid_meaning.specs.of_node_form.Group.{Point}
 use Rattle.node_local.specs.declared.changes.Change.{Change}
 use Rattle.node_local.specs.declared.changes.Change.TheVariants.{Scalar, Cell, Place}
 

@@ -5,7 +5,7 @@
 --   HasRoom        there is room for each expression and each group of the code
 --   IsReady        the state is one that can be, with room, and nothing is logged
 use Rattle.std.specs.Prelude.{◌≡◌, ℕ, ◌≤◌, List, [], length, All}
-use Rattle.node_form.specs.declared.tables.Tables.{Tables}
+use Rattle.grid_meaning.specs.of_node_form.declared.tables.Tables.{Tables}
 use Rattle.grid_meaning.specs.Local.{Local}
 use Rattle.grid_meaning.specs.State.{IsLocal}
 use Rattle.node_local.specs.declared.changes.Change.{Change}

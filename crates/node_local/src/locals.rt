@@ -10,13 +10,13 @@ use crate::changes::Change;
 use crate::memories::Memory;
 use crate::standings::{Kept, Standing};
 use crate::starts::{longest_expression, longest_group, start_slots, start_stores, told_stores};
-use grid_layout::Layout;
+use grid_meaning::grid_layout::Layout;
+use grid_meaning::node_form::NodeProgram;
 use grid_meaning::states_are_kept;
-use node_form::NodeProgram;
+use grid_meaning::zpl_nums::End;
+use grid_meaning::zpl_region::Region;
 use std::alloc::{AllocError, Global};
 use std::marker::Model;
-use zpl_nums::End;
-use zpl_region::Region;
 
 /// The state of one processor between its turns.
 ///

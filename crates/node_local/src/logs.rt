@@ -9,7 +9,7 @@ ghost use Rattle.node_local.specs.Undo.{undone};
 use crate::changes::Change;
 use crate::locals::Local;
 use crate::memories::Memory;
-use zpl_region::Vec3;
+use grid_meaning::zpl_region::Vec3;
 
 /// The log with a change in front; its changes stand from `logged` on. Answers where they begin
 /// then.

@@ -5,7 +5,7 @@ ghost use Rattle.grid_meaning.specs.Place.{moved_by, value_at, with_value};
 
 use crate::changes::Change;
 use crate::stores::{FlatStore, put_back};
-use zpl_region::Vec3;
+use grid_meaning::zpl_region::Vec3;
 
 /// What expressions read and members write.
 #[derive(Debug, Drop)]

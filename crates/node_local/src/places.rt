@@ -1,14 +1,14 @@
 //! Rows that change all places of an array.
 ghost use Rattle.std.specs.Prelude.{◌≡◌, ◌<◌, length, All, OnErr, OnOk, Some, slice_get};
-ghost use Rattle.zpl_region.specs.Hull.{IsBoxed};
-ghost use Rattle.zpl_arrays.specs.Array.{Array};
-ghost use Rattle.grid_layout.specs.Layout.{HasWideBounds};
+ghost use Rattle.grid_meaning.specs.of_zpl_region.Hull.{IsBoxed};
+ghost use Rattle.grid_meaning.specs.of_zpl_arrays.Array.{Array};
+ghost use Rattle.grid_meaning.specs.of_grid_layout.Layout.{HasWideBounds};
 ghost use Rattle.grid_meaning.specs.Room.{with_store, zeros_at};
 
 use crate::locals::Local;
 use crate::stores::FlatStore;
+use grid_meaning::zpl_region::Region;
 use std::alloc::{AllocError, Global};
-use zpl_region::Region;
 
 impl Local {
     /// Gives an array other places, with 0 at each. For want of memory nothing changes.

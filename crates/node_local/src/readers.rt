@@ -4,9 +4,9 @@ ghost use Rattle.std.specs.Option.{option_copied, option_map};
 ghost use Rattle.node_local.specs.Reading.{boxed_value};
 
 use crate::locals::Local;
-use grid_links::Words;
-use zpl_nums::End;
-use zpl_region::{Region, Vec3};
+use grid_meaning::grid_links::Words;
+use grid_meaning::zpl_nums::End;
+use grid_meaning::zpl_region::{Region, Vec3};
 
 impl Local {
     /// The number of the next instruction; behind the last one that of instructions.

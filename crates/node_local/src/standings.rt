@@ -1,10 +1,10 @@
 //! The parts of a processor's state, told one by one.
 ghost use Rattle.std.specs.Prelude.{◌≡◌};
 
-use grid_links::Words;
+use grid_meaning::grid_links::Words;
+use grid_meaning::zpl_nums::End;
+use grid_meaning::zpl_region::Region;
 use std::marker::Model;
-use zpl_nums::End;
-use zpl_region::Region;
 
 /// The state of a processor. Outside a loop `index` and `member` are 0, and inside one `made` is 0.
 #[derive(Drop)]
@@ -51,7 +51,7 @@ pub struct Slots {
 
 impl Model for Slots {
     ghost use Rattle.std.specs.Prelude.{List};
-    ghost use Rattle.zpl_region.specs.declared.regions.Region.{Region};
+    ghost use Rattle.grid_meaning.specs.of_zpl_region.declared.regions.Region.{Region};
 
     ghost Value = { List Region };
 

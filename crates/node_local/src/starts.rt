@@ -1,21 +1,21 @@
 //! What a processor has before its first turn.
 ghost use Rattle.std.specs.Prelude.{◌≡◌, ◌<◌, ◌≤◌, length, map, All, IfOk, true, pos};
-ghost use Rattle.zpl_region.specs.Hull.{IsBoxed, all_from};
-ghost use Rattle.zpl_arrays.specs.Array.{array_of};
-ghost use Rattle.grid_layout.specs.Grid.{processors_of};
-ghost use Rattle.grid_layout.specs.Layout.{HasWideBounds, IsArrayBox, laid_out};
+ghost use Rattle.grid_meaning.specs.of_zpl_region.Hull.{IsBoxed, all_from};
+ghost use Rattle.grid_meaning.specs.of_zpl_arrays.Array.{array_of};
+ghost use Rattle.grid_meaning.specs.of_grid_layout.Grid.{processors_of};
+ghost use Rattle.grid_meaning.specs.of_grid_layout.Layout.{HasWideBounds, IsArrayBox, laid_out};
 ghost use Rattle.grid_meaning.specs.Local.{processors, start_places};
 ghost use Rattle.grid_meaning.specs.Stored.{arrangement_of, box_of, no_places};
-ghost use Rattle.node_form.specs.Fits.{Fits};
+ghost use Rattle.grid_meaning.specs.of_node_form.Fits.{Fits};
 ghost use Rattle.grid_meaning.specs.Stored.{width_above, width_below};
 ghost use Rattle.node_local.specs.Standing.{array_in};
 
 use crate::standings::Store;
 use crate::stores::FlatStore;
-use grid_layout::{ArrayBox, Layout};
-use node_form::{ArrayDim, ArrayRow, Tables, rows_fit, storage_dim};
+use grid_meaning::grid_layout::{ArrayBox, Layout};
+use grid_meaning::node_form::{ArrayDim, ArrayRow, Tables, rows_fit, storage_dim};
+use grid_meaning::zpl_region::{Dim, Region};
 use std::alloc::{AllocError, Global};
-use zpl_region::{Dim, Region};
 
 /// A number of words that no expression exceeds: that of the longest one.
 pub(crate) fn longest_expression(code: &Tables) -> usize

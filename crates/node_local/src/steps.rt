@@ -11,11 +11,11 @@ ghost use Rattle.node_local.specs.Standing.{entry_of};
 use crate::locals::Local;
 use crate::standings::Kept;
 use crate::values::{NoValue, evaluate};
-use grid_links::Words;
-use node_form::ExprOp;
+use grid_meaning::grid_links::Words;
+use grid_meaning::node_form::ExprOp;
+use grid_meaning::zpl_nums::End;
+use grid_meaning::zpl_region::{Region, Vec3};
 use std::alloc::{AllocError, Global};
-use zpl_nums::End;
-use zpl_region::{Region, Vec3};
 
 /// The place of a sender's words among those that are kept.
 fn place_for(kept: &[Kept], from: u32) -> usize

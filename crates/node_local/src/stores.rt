@@ -2,19 +2,19 @@
 ghost use Rattle.std.specs.Prelude.{◌≡◌, ◌<◌, ◌*◌, ◌+◌, ◌+ℤ◌, ◌^◌, length, All, IfOk, IfSome};
 ghost use Rattle.std.specs.Prelude.{[], ◌∷◌, drop, map, pos, replicate, slice_get, slice_set, true};
 ghost use Rattle.std.specs.Prelude.{IsTrue};
-ghost use Rattle.zpl_region.specs.Ends.{coordinate_count, tuple_count};
-ghost use Rattle.zpl_region.specs.Hull.{IsBoxed};
-ghost use Rattle.zpl_arrays.specs.Array.{each_has_place, place_along, place_among};
-ghost use Rattle.grid_layout.specs.Layout.{HasWideBounds};
+ghost use Rattle.grid_meaning.specs.of_zpl_region.Ends.{coordinate_count, tuple_count};
+ghost use Rattle.grid_meaning.specs.of_zpl_region.Hull.{IsBoxed};
+ghost use Rattle.grid_meaning.specs.of_zpl_arrays.Array.{each_has_place, place_along, place_among};
+ghost use Rattle.grid_meaning.specs.of_grid_layout.Layout.{HasWideBounds};
 ghost use Rattle.grid_meaning.specs.Place.{moved_by, where_held, held_value};
 ghost use Rattle.grid_meaning.specs.Room.{zeros_at};
 ghost use Rattle.node_local.specs.Reading.{boxed_value, is_flat, is_flat_coordinate};
 ghost use Rattle.node_local.specs.Store.{IsFlat, StandsFor, place_in};
 
-use grid_layout::size;
+use grid_meaning::grid_layout::size;
+use grid_meaning::zpl_region::{Dim, Region, Vec3};
 use std::alloc::{AllocError, Global};
 use std::marker::Model;
-use zpl_region::{Dim, Region, Vec3};
 
 /// The greatest bound that a box may have, and the least one with the sign turned.
 const FARTHEST: i64 = 1 << 41;
@@ -35,7 +35,7 @@ pub(crate) struct FlatStore {
 }
 
 impl Model for FlatStore {
-    ghost use Rattle.zpl_arrays.specs.Array.{Array};
+    ghost use Rattle.grid_meaning.specs.of_zpl_arrays.Array.{Array};
 
     ghost Value = { Array };
 

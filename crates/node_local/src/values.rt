@@ -1,13 +1,13 @@
 //! The value of an expression at an index, on a stack that is made beforehand.
 ghost use Rattle.std.specs.Prelude.{◌≡◌, ◌+◌, ◌-◌, ◌≤◌, ◌∷◌, length, drop, slice_get, IfOk};
-ghost use Rattle.node_form.specs.Value.{pushed, read, stepped, value_of};
+ghost use Rattle.grid_meaning.specs.of_node_form.Value.{pushed, read, stepped, value_of};
 ghost use Rattle.node_local.specs.Computing.{computed_by, operands_in, stack_from};
 ghost use Rattle.node_local.specs.Computing.{with_unary};
 
 use crate::memories::Memory;
-use node_form::ExprOp;
-use zpl_nums::{UnaryOp, apply, apply_unary};
-use zpl_region::Vec3;
+use grid_meaning::node_form::ExprOp;
+use grid_meaning::zpl_nums::{UnaryOp, apply, apply_unary};
+use grid_meaning::zpl_region::Vec3;
 
 /// Why an expression has no value.
 #[derive(Clone, Copy, Debug, PartialEq, Eq)]

@@ -2,3 +2,4 @@ pub mod Bracket
 pub mod Line
 pub mod LocalTurn
 pub mod Step
+pub use Rattle.node_stages.specs as of_node_stages

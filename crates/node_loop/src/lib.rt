@@ -13,5 +13,6 @@ mod rooms;
 mod turns;
 
 pub use loops::loop_turn;
+pub use node_stages;
 pub use rooms::{clear, room};
 pub use turns::LocalTurn;

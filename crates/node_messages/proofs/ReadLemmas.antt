@@ -7,9 +7,9 @@ use Rattle.zpl_region.specs.declared.regions.Region.{Region}
 use Rattle.zpl_region.specs.Dim.{HasStep}
 use Rattle.zpl_region.specs.Region.{is_before, members}
 use Rattle.zpl_region.proofs.LawLemmas.{next_member}
-use Rattle.zpl_arrays.specs.Array.{Array, place_among}
-use Rattle.zpl_arrays.proofs.ArrayLemmas.{only_place}
-use Rattle.grid_meaning.specs.Place.{value_at, values_at}
+use Rattle.node_stages.specs.of_zpl_arrays.Array.{Array, place_among}
+use Rattle.node_stages.proofs.of_zpl_arrays.ArrayLemmas.{only_place}
+use Rattle.node_stages.specs.of_grid_meaning.Place.{value_at, values_at}
 use Rattle.node_messages.specs.Reading.{IsAppended}
 
 -- what is left of a walk

@@ -2,9 +2,9 @@
 use Rattle.std.specs.Prelude.{ℕ, ◌<◌, ◌^◌, ℤ, length, ⊤}
 use Rattle.std.specs.Option.{IfSome}
 use Rattle.zpl_nums.specs.Fold.{joined}
-use Rattle.node_form.specs.declared.tables.Tables.{Tables}
-use Rattle.grid_meaning.specs.Collective.{Collective, Kin, flag_word, folded, least_flag, scalar_at, voted}
-use Rattle.grid_meaning.specs.Local.{Local}
+use Rattle.node_stages.specs.of_node_form.declared.tables.Tables.{Tables}
+use Rattle.node_stages.specs.of_grid_meaning.Collective.{Collective, Kin, flag_word, folded, least_flag, scalar_at, voted}
+use Rattle.node_stages.specs.of_grid_meaning.Local.{Local}
 use Rattle.node_messages.specs.declared.agreements.Agreement.{Agreement}
 use Rattle.node_messages.specs.declared.agreements.Agreement.TheVariants.{Value, Flag}
 

@@ -1,18 +1,18 @@
 //! Rows in which all processors come to one value: `vote`, `fold` and their forms over a tree.
 ghost use Rattle.std.specs.Prelude.{◌≡◌, ◌+◌, ◌<◌, ◌≤◌, ◌^◌, ℕ, IfOk, IfSome, Some, [], ◌∷◌};
 ghost use Rattle.std.specs.Prelude.{length, slice_get};
-ghost use Rattle.grid_meaning.specs.Action.{moves};
-ghost use Rattle.grid_meaning.specs.Collective.{decided, first_word, group_line, joined_values};
-ghost use Rattle.grid_meaning.specs.Collective.{least_flag};
-ghost use Rattle.grid_meaning.specs.Collective.{flag_word, value_for, value_of_all, word_flag};
-ghost use Rattle.grid_meaning.specs.Collective.{word_from, word_or_zero};
+ghost use Rattle.node_stages.specs.of_grid_meaning.Action.{moves};
+ghost use Rattle.node_stages.specs.of_grid_meaning.Collective.{decided, first_word, group_line, joined_values};
+ghost use Rattle.node_stages.specs.of_grid_meaning.Collective.{least_flag};
+ghost use Rattle.node_stages.specs.of_grid_meaning.Collective.{flag_word, value_for, value_of_all, word_flag};
+ghost use Rattle.node_stages.specs.of_grid_meaning.Collective.{word_from, word_or_zero};
 ghost use Rattle.node_messages.specs.Agreement.{agreement_row, join_of, own_of};
 ghost use Rattle.node_messages.specs.Agreement.{HasScalar, HasSmallFlag};
 
-use grid_links::Words;
-use node_form::{Member, NodeProgram};
 use node_local::Local;
 use node_stages::Kin;
+use node_stages::grid_links::Words;
+use node_stages::node_form::{Member, NodeProgram};
 use std::alloc::{AllocError, Global};
 use zpl_nums::{End, Fold, TrapKind, join};
 

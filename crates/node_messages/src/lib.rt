@@ -6,4 +6,7 @@ mod agreements;
 mod places;
 
 pub use agreements::Agreement;
+pub use node_local;
+pub use node_stages;
+pub use node_stages::{node_form, region_places};
 pub use places::push_values;

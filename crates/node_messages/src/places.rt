@@ -1,11 +1,11 @@
 //! Values at the places of an array, in row-major order.
 ghost use Rattle.std.specs.Prelude.{◌≡◌, IfOk};
 ghost use Rattle.zpl_region.specs.Region.{IsRegion, members};
-ghost use Rattle.grid_meaning.specs.Place.{values_at};
+ghost use Rattle.node_stages.specs.of_grid_meaning.Place.{values_at};
 ghost use Rattle.node_messages.specs.Reading.{IsRead};
 
 use node_local::Local;
-use region_places::{least, next_after};
+use node_stages::region_places::{least, next_after};
 use std::alloc::AllocError;
 use zpl_region::Region;
 

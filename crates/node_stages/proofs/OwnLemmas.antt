@@ -3,23 +3,23 @@ use Rattle.std.proofs.Common.{◌≡◌, ℕ, zero, suc, ◌-◌, ◌<◌, ◌�
 use Rattle.std.specs.Int.{int_max, int_min}
 use Rattle.std.specs.Prelude.{◌+ℤ◌, ◌-ℤ◌, filter, int_le}
 use Rattle.std.proofs.lemmas.Int.{int_max_is, ints}
-use Rattle.zpl_region.specs.declared.dims.Dim.{Dim}
-use Rattle.zpl_region.specs.declared.dims.Dim.TheVariants.{Range, Flood}
-use Rattle.zpl_region.specs.declared.regions.Region.{Region}
-use Rattle.zpl_region.specs.Dim.{coordinates, dim_met, extent, is_multiple}
-use Rattle.zpl_region.specs.Progression.{progression}
-use Rattle.zpl_region.specs.Region.{IsPadded, components, each_met, members, outside_of, padding, tuples}
-use Rattle.grid_layout.specs.declared.axes.Axis.{Axis}
-use Rattle.grid_layout.specs.declared.blocks.Blocks.{Blocks}
-use Rattle.grid_layout.specs.Block.{block_first, block_last}
-use Rattle.grid_layout.specs.Grid.{cuts, blocks_at, processors_of}
-use Rattle.grid_layout.specs.Layout.{AreBlocks, axes_at, each_bound, laid_out, own_first, own_last}
-use Rattle.grid_layout.specs.Piece.{each_owned, nothing, owned_dim, owned_part, part, range_or_nothing}
-use Rattle.grid_layout.proofs.OwnerLemmas.{AreCuts, are_cuts, axes_three}
-use Rattle.grid_layout.proofs.ThreeLemmas.{by_three, three_same}
-use Rattle.grid_layout.proofs.PartLemmas.{blocks_length}
-use Rattle.grid_layout.proofs.SoundLemmas.{block_past, cut_past}
-use Rattle.node_form.specs.declared.tables.Tables.{Tables}
+use Rattle.reduce_plan.specs.of_zpl_region.declared.dims.Dim.{Dim}
+use Rattle.reduce_plan.specs.of_zpl_region.declared.dims.Dim.TheVariants.{Range, Flood}
+use Rattle.reduce_plan.specs.of_zpl_region.declared.regions.Region.{Region}
+use Rattle.reduce_plan.specs.of_zpl_region.Dim.{coordinates, dim_met, extent, is_multiple}
+use Rattle.reduce_plan.specs.of_zpl_region.Progression.{progression}
+use Rattle.reduce_plan.specs.of_zpl_region.Region.{IsPadded, components, each_met, members, outside_of, padding, tuples}
+use Rattle.grid_meaning.specs.of_grid_layout.declared.axes.Axis.{Axis}
+use Rattle.grid_meaning.specs.of_grid_layout.declared.blocks.Blocks.{Blocks}
+use Rattle.grid_meaning.specs.of_grid_layout.Block.{block_first, block_last}
+use Rattle.grid_meaning.specs.of_grid_layout.Grid.{cuts, blocks_at, processors_of}
+use Rattle.grid_meaning.specs.of_grid_layout.Layout.{AreBlocks, axes_at, each_bound, laid_out, own_first, own_last}
+use Rattle.grid_meaning.specs.of_grid_layout.Piece.{each_owned, nothing, owned_dim, owned_part, part, range_or_nothing}
+use Rattle.grid_meaning.proofs.of_grid_layout.OwnerLemmas.{AreCuts, are_cuts, axes_three}
+use Rattle.grid_meaning.proofs.of_grid_layout.ThreeLemmas.{by_three, three_same}
+use Rattle.grid_meaning.proofs.of_grid_layout.PartLemmas.{blocks_length}
+use Rattle.grid_meaning.proofs.of_grid_layout.SoundLemmas.{block_past, cut_past}
+use Rattle.grid_meaning.specs.of_node_form.declared.tables.Tables.{Tables}
 use Rattle.grid_meaning.specs.Local.{processors}
 use Rattle.grid_meaning.specs.Owner.{tuples_of}
 use Rattle.grid_meaning.specs.State.{IsSlot}

@@ -9,20 +9,20 @@ use Rattle.std.specs.Option.{IsSomeAnd}
 use Rattle.std.proofs.lemmas.Int.{ints}
 use Rattle.std.proofs.lemmas.List.Elements.{All-nil, All-cons, All-head, All-tail}
 use Rattle.std.proofs.lemmas.Option.{slice_get_within, get_or_from_slice_get}
-use Rattle.zpl_region.specs.declared.dims.Dim.{Dim}
-use Rattle.zpl_region.specs.declared.dims.Dim.TheVariants.{Range, Flood}
-use Rattle.zpl_region.specs.declared.regions.Region.{Region}
-use Rattle.zpl_region.specs.Dim.{HasAlign, IsDimWithinLimit, IsUpTo, dim_moved}
-use Rattle.zpl_region.specs.Region.{IsRegion, components, each, members, moved}
-use Rattle.zpl_region.proofs.RegionLemmas.{within_is_dim}
-use Rattle.grid_layout.specs.Grid as layout
-use Rattle.grid_layout.specs.declared.boxes.ArrayBox.{ArrayBox}
-use Rattle.grid_layout.specs.Layout.{Arrangement, box_at, no_box}
-use Rattle.grid_layout.specs.Piece.{piece_of}
-use Rattle.node_form.specs.declared.arrays.ArrayRow.{ArrayRow}
-use Rattle.node_form.specs.declared.arrays.Item.{Item}
-use Rattle.node_form.specs.declared.tables.Tables.{Tables}
-use Rattle.node_form.specs.Fits.{FitsItem}
+use Rattle.reduce_plan.specs.of_zpl_region.declared.dims.Dim.{Dim}
+use Rattle.reduce_plan.specs.of_zpl_region.declared.dims.Dim.TheVariants.{Range, Flood}
+use Rattle.reduce_plan.specs.of_zpl_region.declared.regions.Region.{Region}
+use Rattle.reduce_plan.specs.of_zpl_region.Dim.{HasAlign, IsDimWithinLimit, IsUpTo, dim_moved}
+use Rattle.reduce_plan.specs.of_zpl_region.Region.{IsRegion, components, each, members, moved}
+use Rattle.reduce_plan.proofs.of_zpl_region.RegionLemmas.{within_is_dim}
+use Rattle.grid_meaning.specs.of_grid_layout.Grid as layout
+use Rattle.grid_meaning.specs.of_grid_layout.declared.boxes.ArrayBox.{ArrayBox}
+use Rattle.grid_meaning.specs.of_grid_layout.Layout.{Arrangement, box_at, no_box}
+use Rattle.grid_meaning.specs.of_grid_layout.Piece.{piece_of}
+use Rattle.grid_meaning.specs.of_node_form.declared.arrays.ArrayRow.{ArrayRow}
+use Rattle.grid_meaning.specs.of_node_form.declared.arrays.Item.{Item}
+use Rattle.grid_meaning.specs.of_node_form.declared.tables.Tables.{Tables}
+use Rattle.grid_meaning.specs.of_node_form.Fits.{FitsItem}
 use Rattle.grid_meaning.specs.Exchange.{places_in, places_of}
 use Rattle.grid_meaning.specs.Local.{processors}
 use Rattle.grid_meaning.proofs.WorldLemmas.{processors_alike}

@@ -5,9 +5,9 @@ use Rattle.std.specs.List.{range_with_len}
 use Rattle.std.specs.Option.{IfSome}
 use Rattle.std.proofs.lemmas.List.Sums.{sum_by-cons}
 use Rattle.std.proofs.lemmas.List.Elements.{All-head, All-tail}
-use Rattle.zpl_region.specs.declared.regions.Region.{Region}
-use Rattle.node_form.specs.declared.arrays.Item.{Item}
-use Rattle.node_form.specs.declared.tables.Tables.{Tables}
+use Rattle.reduce_plan.specs.of_zpl_region.declared.regions.Region.{Region}
+use Rattle.grid_meaning.specs.of_node_form.declared.arrays.Item.{Item}
+use Rattle.grid_meaning.specs.of_node_form.declared.tables.Tables.{Tables}
 use Rattle.grid_meaning.specs.Collective.{others, others_where}
 use Rattle.grid_meaning.specs.Exchange.{places_in, places_of, word_count}
 use Rattle.node_stages.specs.Known.{AreRoutes, IsRecalled, IsRoute, IsRouteFor, Known, Route}

@@ -10,9 +10,9 @@
 --   AreRoutes       all routes are such ones
 use Rattle.std.specs.Prelude.{◌≡◌, ℕ, List, All, Option, Some, None, slice_get}
 use Rattle.std.specs.Option.{IfSome}
-use Rattle.zpl_region.specs.declared.regions.Region.{Region}
-use Rattle.node_form.specs.declared.arrays.Item.{Item}
-use Rattle.node_form.specs.declared.tables.Tables.{Tables}
+use Rattle.reduce_plan.specs.of_zpl_region.declared.regions.Region.{Region}
+use Rattle.grid_meaning.specs.of_node_form.declared.arrays.Item.{Item}
+use Rattle.grid_meaning.specs.of_node_form.declared.tables.Tables.{Tables}
 use Rattle.node_stages.specs.Partners.{receivers_from, senders_to}
 
 pub record Route : Type 0 where

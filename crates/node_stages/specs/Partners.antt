@@ -8,9 +8,9 @@
 --   exchanging         a message to each of some, one from each of others, and the last turn
 use Rattle.std.specs.Prelude.{ℕ, Bool, false, List, [], ◌∷◌, ◌++◌, filter, map, slice_index_or}
 use Rattle.std.specs.List.{range_with_len}
-use Rattle.zpl_region.specs.declared.regions.Region.{Region}
-use Rattle.node_form.specs.declared.arrays.Item.{Item}
-use Rattle.node_form.specs.declared.tables.Tables.{Tables}
+use Rattle.reduce_plan.specs.of_zpl_region.declared.regions.Region.{Region}
+use Rattle.grid_meaning.specs.of_node_form.declared.arrays.Item.{Item}
+use Rattle.grid_meaning.specs.of_node_form.declared.tables.Tables.{Tables}
 use Rattle.grid_meaning.specs.Collective.{Stage, Sends, TakesFrom, Last, others_where}
 use Rattle.grid_meaning.specs.Exchange.{word_count}
 use Rattle.node_stages.specs.Slots.{at_slots}

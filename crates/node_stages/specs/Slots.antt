@@ -1,6 +1,6 @@
 -- A state of which only the regions in its slots are looked at.
 use Rattle.std.specs.Prelude.{List, [], None}
-use Rattle.zpl_region.specs.declared.regions.Region.{Region}
+use Rattle.reduce_plan.specs.of_zpl_region.declared.regions.Region.{Region}
 use Rattle.grid_meaning.specs.Local.{Local}
 
 -- the state with these slots, at its first instruction: what a row's turns are depends on slots

@@ -2,7 +2,7 @@
 ghost use Rattle.std.specs.Prelude.{◌≡◌};
 ghost use Rattle.grid_meaning.specs.Stored.{box_number};
 
-use node_form::NodeProgram;
+use grid_meaning::node_form::NodeProgram;
 
 /// The number of a stored array among the stored arrays of a program, which a layout has alone.
 #[inline(always)]

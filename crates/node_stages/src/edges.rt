@@ -10,17 +10,17 @@ ghost use Rattle.node_stages.specs.Place.{IsNth};
 ghost use Rattle.reach_plan.specs.Reach.{IsReach, LiesInReach};
 ghost use Rattle.node_stages.specs.Slots.{at_slots};
 ghost use Rattle.node_stages.specs.Stage.{staged};
-ghost use Rattle.zpl_region.specs.Dim.{IsUpTo};
-ghost use Rattle.zpl_region.specs.Region.{IsRegion, members};
+ghost use Rattle.reduce_plan.specs.of_zpl_region.Dim.{IsUpTo};
+ghost use Rattle.reduce_plan.specs.of_zpl_region.Region.{IsRegion, members};
 
 use crate::partners::Place;
 use crate::stages::Stage;
-use grid_layout::Layout;
-use move_plan::{border_piece, border_pieces_go_by_sources};
-use node_form::NodeProgram;
+use grid_meaning::grid_layout::Layout;
+use grid_meaning::node_form::NodeProgram;
+use reach_plan::move_plan::{border_piece, border_pieces_go_by_sources};
 use reach_plan::{Reach, sources_for, targets_of};
-use zpl_nums::Border;
-use zpl_region::{Region, Vec3};
+use reduce_plan::zpl_nums::Border;
+use reduce_plan::zpl_region::{Region, Vec3};
 
 /// The tuples of `shift of R` in the own block of `to` whose sources `from` owns.
 pub fn edge_piece(

@@ -1,8 +1,8 @@
 //! The stages of exchanges.
 ghost use Rattle.std.specs.Prelude.{◌≡◌, ◌<◌, ℕ, length, nat_lt, slice_get, All, IfSome, Some};
 ghost use Rattle.std.specs.List.{AllZip};
-ghost use Rattle.zpl_region.specs.Region.{IsRegion, members};
-ghost use Rattle.node_form.specs.Fits.{FitsItem};
+ghost use Rattle.reduce_plan.specs.of_zpl_region.Region.{IsRegion, members};
+ghost use Rattle.grid_meaning.specs.of_node_form.Fits.{FitsItem};
 ghost use Rattle.grid_meaning.specs.Exchange.{finished, places_of, started, word_count};
 ghost use Rattle.grid_meaning.specs.Local.{processors};
 ghost use Rattle.grid_meaning.specs.State.{IsSlot};
@@ -18,10 +18,10 @@ use crate::found::Found;
 use crate::known::{Partners, Route};
 use crate::partners::Place;
 use crate::stages::Stage;
-use grid_layout::Layout;
-use node_form::{Item, NodeProgram};
+use grid_meaning::grid_layout::Layout;
+use grid_meaning::node_form::{Item, NodeProgram};
 use reach_plan::{Reach, needers_of, owners_for};
-use zpl_region::Region;
+use reduce_plan::zpl_region::Region;
 
 /// The places of an item that one processor owns and another needs, where these regions are in the
 /// receiver's slots.

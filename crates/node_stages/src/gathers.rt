@@ -8,13 +8,13 @@ ghost use Rattle.grid_meaning.specs.State.{IsSlot};
 ghost use Rattle.grid_meaning.specs.Stored.{arrangement_of};
 ghost use Rattle.node_stages.specs.Partners.{flagged};
 ghost use Rattle.node_stages.specs.Stage.{staged};
-ghost use Rattle.zpl_region.specs.Region.{IsRegion, members};
+ghost use Rattle.reduce_plan.specs.of_zpl_region.Region.{IsRegion, members};
 
 use crate::partners::{MOST, taking_stage};
 use crate::stages::Stage;
-use grid_layout::{Layout, part};
-use node_form::NodeProgram;
-use zpl_region::Region;
+use grid_meaning::grid_layout::{Layout, part};
+use grid_meaning::node_form::NodeProgram;
+use reduce_plan::zpl_region::Region;
 
 /// The tuples of a region within a processor's own block.
 #[inline(always)]

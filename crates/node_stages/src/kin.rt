@@ -2,7 +2,7 @@
 ghost use Rattle.std.specs.Prelude.{◌≡◌, ◌<◌, ◌≤◌, ℕ, length, slice_get, Some};
 ghost use Rattle.grid_meaning.specs.Collective.{agreeing_stages, star, tree};
 ghost use Rattle.grid_meaning.specs.Local.{processors};
-ghost use Rattle.node_form.specs.declared.tables.Tables.{Tables as Code};
+ghost use Rattle.grid_meaning.specs.of_node_form.declared.tables.Tables.{Tables as Code};
 ghost use Rattle.node_stages.specs.Kin.{stages_behind, telling_stages};
 ghost use Rattle.node_stages.specs.Stage.{staged};
 

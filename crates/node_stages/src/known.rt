@@ -9,9 +9,9 @@ ghost use Rattle.std.specs.Option.{option_map};
 ghost use Rattle.node_stages.specs.Known.{IsRecalled, IsRouteFor, nothing_known};
 
 use crate::found::Found;
-use node_form::Item;
+use grid_meaning::node_form::Item;
+use reduce_plan::zpl_region::{Dim, Region};
 use std::marker::Model;
-use zpl_region::{Dim, Region};
 
 /// Whether two dimensions are the same, bounds, step and alignment.
 fn is_same_dim(one: Dim, other: Dim) -> bool

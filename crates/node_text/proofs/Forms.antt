@@ -35,25 +35,25 @@ use Rattle.node_form.specs.declared.words.ExprOp.TheVariants as word
 use Rattle.node_form.specs.Expression.{IsExpression, depth_from}
 use Rattle.node_form.specs.Fits.{IsRank, FitsArray, FitsAt, FitsItem, FitsWord}
 use Rattle.node_form.proofs.Depth.{IsExpression-depth}
-use Rattle.listing_lines.specs.declared.fields.Field.{Field}
-use Rattle.listing_lines.specs.declared.fields.Field.TheVariants as field
-use Rattle.listing_lines.specs.declared.fields.Mark.TheVariants as mark
-use Rattle.listing_lines.specs.declared.forms.Kind.{Kind}
-use Rattle.listing_lines.specs.declared.forms.Kind.TheVariants as kind
-use Rattle.listing_lines.specs.declared.forms.Slot.{Slot}
-use Rattle.listing_lines.specs.declared.forms.Slot.TheVariants as slot
-use Rattle.listing_lines.specs.declared.keywords.Keyword.{Keyword}
-use Rattle.listing_lines.specs.declared.keywords.Keyword.TheVariants as key
-use Rattle.listing_lines.specs.declared.lines.Line.{Line}
-use Rattle.listing_lines.specs.declared.names.Name.{Name}
-use Rattle.listing_lines.specs.Field.{IsField}
-use Rattle.listing_lines.specs.Form.{allows_name, allows_numbers, fits_slots, go_on, has_form, is_array, is_kind, may_end, wanted_behind}
-use Rattle.listing_lines.specs.FormTable.{form_of, hidden_form}
-use Rattle.listing_lines.specs.Line.{IsLine, is_text}
-use Rattle.listing_rows.specs.declared.fields.Said.{Said}
-use Rattle.listing_rows.specs.declared.fields.Said.TheVariants.{Number, Mask, Vector, Called, Bounds, Made, Stored, Hidden, Word}
-use Rattle.listing_rows.specs.Fields.{added, field_of, fields_of, fold_name, operator_name, number_field, mask_field, bounds_field, made_field, stored_field, hidden_field, word_field}
-use Rattle.listing_rows.specs.Rows.{line_of, slot_rank, array_rank, array_said, array_line, text_line, word_rank, expr_line, member_line, item_line, form_keyword, edge_keyword, same_name, shown_name, trap_number, present, instr_line}
+use Rattle.listing_rules.specs.of_listing_lines.declared.fields.Field.{Field}
+use Rattle.listing_rules.specs.of_listing_lines.declared.fields.Field.TheVariants as field
+use Rattle.listing_rules.specs.of_listing_lines.declared.fields.Mark.TheVariants as mark
+use Rattle.listing_rules.specs.of_listing_lines.declared.forms.Kind.{Kind}
+use Rattle.listing_rules.specs.of_listing_lines.declared.forms.Kind.TheVariants as kind
+use Rattle.listing_rules.specs.of_listing_lines.declared.forms.Slot.{Slot}
+use Rattle.listing_rules.specs.of_listing_lines.declared.forms.Slot.TheVariants as slot
+use Rattle.listing_rules.specs.of_listing_lines.declared.keywords.Keyword.{Keyword}
+use Rattle.listing_rules.specs.of_listing_lines.declared.keywords.Keyword.TheVariants as key
+use Rattle.listing_rules.specs.of_listing_lines.declared.lines.Line.{Line}
+use Rattle.listing_rules.specs.of_listing_lines.declared.names.Name.{Name}
+use Rattle.listing_rules.specs.of_listing_lines.Field.{IsField}
+use Rattle.listing_rules.specs.of_listing_lines.Form.{allows_name, allows_numbers, fits_slots, go_on, has_form, is_array, is_kind, may_end, wanted_behind}
+use Rattle.listing_rules.specs.of_listing_lines.FormTable.{form_of, hidden_form}
+use Rattle.listing_rules.specs.of_listing_lines.Line.{IsLine, is_text}
+use Rattle.listing_rules.specs.of_listing_rows.declared.fields.Said.{Said}
+use Rattle.listing_rules.specs.of_listing_rows.declared.fields.Said.TheVariants.{Number, Mask, Vector, Called, Bounds, Made, Stored, Hidden, Word}
+use Rattle.listing_rules.specs.of_listing_rows.Fields.{added, field_of, fields_of, fold_name, operator_name, number_field, mask_field, bounds_field, made_field, stored_field, hidden_field, word_field}
+use Rattle.listing_rules.specs.of_listing_rows.Rows.{line_of, slot_rank, array_rank, array_said, array_line, text_line, word_rank, expr_line, member_line, item_line, form_keyword, edge_keyword, same_name, shown_name, trap_number, present, instr_line}
 use Rattle.node_text.specs.Typed.{IsU32, IsMask, IsShift, TypedDim, TypedAxis, TypedMade, TypedArray, TypedWord, TypedMember, TypedItem, TypedInstr}
 use Rattle.node_text.proofs.Ranks.{integer, Rank, One, Two, Three, rank_is, Of3, Of, three_are, some_kept}
 use Rattle.node_text.proofs.Found.{Given, OneGiven, TwoGiven, ThreeGiven, remap_given, slot_at, slot_is, array_at}

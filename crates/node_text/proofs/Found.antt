@@ -32,10 +32,10 @@ use Rattle.node_form.specs.declared.words.ExprOp.{ExprOp}
 use Rattle.node_form.specs.declared.words.ExprOp.TheVariants as word
 use Rattle.node_form.specs.Fits.{IsRank, HasSlot, HasArray, IsUnused, IsUnusedOrStar, IsStar, IsIndexArray, FitsArray, FitsAt, FitsItem, FitsRemap, FitsWord}
 use Rattle.node_form.specs.Grid.{IsGrid, factors_of}
-use Rattle.listing_lines.specs.declared.keywords.Keyword.TheVariants as key
-use Rattle.listing_rows.specs.declared.fields.Said.TheVariants.{Number, Vector, Bounds, Made}
-use Rattle.listing_rows.specs.Fields.{fields_of, fold_name, operator_name, mask_field, bounds_field, made_field, stored_field, hidden_field, word_field}
-use Rattle.listing_rows.specs.Rows.{slot_rank, array_rank, array_said, array_line, word_rank, expr_line, member_line, item_line, form_keyword, edge_keyword, same_name, shown_name, trap_number, present, instr_line}
+use Rattle.listing_rules.specs.of_listing_lines.declared.keywords.Keyword.TheVariants as key
+use Rattle.listing_rules.specs.of_listing_rows.declared.fields.Said.TheVariants.{Number, Vector, Bounds, Made}
+use Rattle.listing_rules.specs.of_listing_rows.Fields.{fields_of, fold_name, operator_name, mask_field, bounds_field, made_field, stored_field, hidden_field, word_field}
+use Rattle.listing_rules.specs.of_listing_rows.Rows.{slot_rank, array_rank, array_said, array_line, word_rank, expr_line, member_line, item_line, form_keyword, edge_keyword, same_name, shown_name, trap_number, present, instr_line}
 use Rattle.listing_rules.specs.Found.{u32_of, vector_of, mask_in, fold_of, same_of, is_truth, trap_of, bounds_in, axis_in, made_in, is_stored, array_in, operator_in, word_in, words_in, grid_in, ranks_in, item_in, member_in, instr_in}
 use Rattle.node_text.specs.Typed.{IsU32, IsMask, IsShift, HasThree, TypedMade, TypedArray, TypedWord, TypedMember, TypedItem, TypedInstr}
 use Rattle.node_text.proofs.Ranks.{by2, by3, by4, by5, by6, kept, kept_small, Rank, One, Two, Three, rank_is, read_rank, Of3, Of, three_are, vector_kept}

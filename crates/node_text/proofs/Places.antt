@@ -14,17 +14,17 @@ use Rattle.node_form.specs.declared.nests.Opening as Nests
 use Rattle.node_form.specs.declared.tables.Tables.{Tables}
 use Rattle.node_form.specs.Nest as Nest
 use Rattle.zpl_nums.specs.declared.ends.Border.TheVariants as border
-use Rattle.listing_lines.specs.declared.lines.Line.{Line}
-use Rattle.listing_lines.specs.declared.places.Opening.{Opening}
-use Rattle.listing_lines.specs.declared.places.Opening.TheVariants.{If, Else, While, Repeat}
-use Rattle.listing_lines.specs.declared.places.Part.{Part}
-use Rattle.listing_lines.specs.declared.places.Part.TheVariants as part
-use Rattle.listing_lines.specs.declared.places.Role.TheVariants as role
-use Rattle.listing_lines.specs.Form.{has_form}
-use Rattle.listing_lines.specs.Line.{IsLine}
-use Rattle.listing_lines.specs.Listing.{Lead}
-use Rattle.listing_lines.specs.Place.{Place, formed_behind, open_behind, part_behind, place_after, place_behind, role_of, with_part}
-use Rattle.listing_rows.specs.Rows.{member_line, instr_line}
+use Rattle.listing_rules.specs.of_listing_lines.declared.lines.Line.{Line}
+use Rattle.listing_rules.specs.of_listing_lines.declared.places.Opening.{Opening}
+use Rattle.listing_rules.specs.of_listing_lines.declared.places.Opening.TheVariants.{If, Else, While, Repeat}
+use Rattle.listing_rules.specs.of_listing_lines.declared.places.Part.{Part}
+use Rattle.listing_rules.specs.of_listing_lines.declared.places.Part.TheVariants as part
+use Rattle.listing_rules.specs.of_listing_lines.declared.places.Role.TheVariants as role
+use Rattle.listing_rules.specs.of_listing_lines.Form.{has_form}
+use Rattle.listing_rules.specs.of_listing_lines.Line.{IsLine}
+use Rattle.listing_rules.specs.of_listing_lines.Listing.{Lead}
+use Rattle.listing_rules.specs.of_listing_lines.Place.{Place, formed_behind, open_behind, part_behind, place_after, place_behind, role_of, with_part}
+use Rattle.listing_rules.specs.of_listing_rows.Rows.{member_line, instr_line}
 use Rattle.node_text.specs.Typed.{TypedMember}
 use Rattle.node_text.proofs.Forms.{Stands, member_stands}
 

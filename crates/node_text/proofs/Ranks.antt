@@ -7,7 +7,7 @@ use Rattle.std.proofs.lemmas.Bool.{lt-ltb}
 use Rattle.std.proofs.lemmas.List.Elements.{All-head, All-tail}
 use Rattle.zpl_nums.specs.Integer.{IsInteger}
 use Rattle.node_form.specs.Fits.{IsRank}
-use Rattle.listing_lines.specs.Field.{are_some}
+use Rattle.listing_rules.specs.of_listing_lines.Field.{are_some}
 use Rattle.listing_rules.specs.Found.{u32_of, vector_of}
 use Rattle.node_text.specs.Typed.{IsU32, IsShift, HasThree}
 

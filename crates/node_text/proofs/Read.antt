@@ -2,10 +2,10 @@
 use Rattle.std.proofs.Common.{◌≡◌, ℕ, List, sym, ◌∙◌, ap, subst}
 use Rattle.std.specs.Prelude.{Result, Ok, Err, IfErr, IsErrAnd}
 use Rattle.node_form.specs.declared.tables.Tables.{Tables}
-use Rattle.listing_lines.specs.declared.lines.Line.{Line}
-use Rattle.listing_lines.specs.Line.{lines_text}
-use Rattle.listing_lines.specs.Listing.{AreLines}
-use Rattle.listing_rows.specs.Listing.{listing_of}
+use Rattle.listing_rules.specs.of_listing_lines.declared.lines.Line.{Line}
+use Rattle.listing_rules.specs.of_listing_lines.Line.{lines_text}
+use Rattle.listing_rules.specs.of_listing_lines.Listing.{AreLines}
+use Rattle.listing_rules.specs.of_listing_rows.Listing.{listing_of}
 use Rattle.listing_rules.specs.declared.faults.ListFault.{ListFault}
 use Rattle.listing_rules.specs.declared.faults.ListFault.TheVariants.{BadLine, BadTable, NoMemory}
 use Rattle.listing_rules.specs.Reads.{FaultAt}

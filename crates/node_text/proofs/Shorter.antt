@@ -1,8 +1,8 @@
 -- There are fewer lines than bytes.
 use Rattle.std.proofs.Common.{◌*◌, ◌≤◌, List, [], ◌∷◌, length, arith}
-use Rattle.listing_lines.specs.declared.lines.Line.{Line}
-use Rattle.listing_lines.specs.Line.{line_text, lines_text}
-use Rattle.listing_lines.proofs.Steps.{length_more}
+use Rattle.listing_rules.specs.of_listing_lines.declared.lines.Line.{Line}
+use Rattle.listing_rules.specs.of_listing_lines.Line.{line_text, lines_text}
+use Rattle.listing_rules.proofs.of_listing_lines.Steps.{length_more}
 use Rattle.std.proofs.lemmas.List.{append_assoc}
 
 pub lines_shorter : (lines : List Line) → 2 * length lines ≤ length (lines_text lines)

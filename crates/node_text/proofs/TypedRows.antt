@@ -8,15 +8,15 @@ use Rattle.zpl_nums.specs.Integer.{IsInteger}
 use Rattle.node_form.specs.declared.instructions.DimRow.TheVariants as made
 use Rattle.node_form.specs.declared.instructions.Instr.{Instr}
 use Rattle.node_form.specs.declared.members.Member.{Member}
-use Rattle.listing_lines.specs.declared.fields.Field.{Field}
-use Rattle.listing_lines.specs.declared.fields.Field.TheVariants as field
-use Rattle.listing_lines.specs.declared.fields.Mark.{Mark}
-use Rattle.listing_lines.specs.declared.fields.Mark.TheVariants as mark
-use Rattle.listing_lines.specs.declared.keywords.Keyword.{Keyword}
-use Rattle.listing_lines.specs.declared.keywords.Keyword.TheVariants as key
-use Rattle.listing_lines.specs.declared.names.Name.{Name}
-use Rattle.listing_lines.specs.declared.names.Name.TheVariants as name
-use Rattle.listing_lines.specs.Field.{IsField}
+use Rattle.listing_rules.specs.of_listing_lines.declared.fields.Field.{Field}
+use Rattle.listing_rules.specs.of_listing_lines.declared.fields.Field.TheVariants as field
+use Rattle.listing_rules.specs.of_listing_lines.declared.fields.Mark.{Mark}
+use Rattle.listing_rules.specs.of_listing_lines.declared.fields.Mark.TheVariants as mark
+use Rattle.listing_rules.specs.of_listing_lines.declared.keywords.Keyword.{Keyword}
+use Rattle.listing_rules.specs.of_listing_lines.declared.keywords.Keyword.TheVariants as key
+use Rattle.listing_rules.specs.of_listing_lines.declared.names.Name.{Name}
+use Rattle.listing_rules.specs.of_listing_lines.declared.names.Name.TheVariants as name
+use Rattle.listing_rules.specs.of_listing_lines.Field.{IsField}
 use Rattle.listing_rules.specs.Found.{u32_of, component, numbers_in, number_at, vector_at, mask_in, mask_at, bounds_in, axis_named, axis_in, made_by, made_in, made_at, operator_in, operand_in, word_in, words_in, array_in, grid_in, item_in, member_in, instr_in}
 use Rattle.node_text.specs.Typed.{IsU32, IsMask, IsShift, HasThree, TypedDim, TypedAxis, TypedMade, TypedArray, TypedWord, TypedMember, TypedItem, TypedInstr}
 

@@ -9,14 +9,14 @@ use Rattle.node_form.specs.declared.instructions.Instr.{Instr}
 use Rattle.node_form.specs.declared.members.Member.{Member}
 use Rattle.node_form.specs.declared.tables.Tables.{Tables}
 use Rattle.node_form.specs.declared.words.ExprOp.{ExprOp}
-use Rattle.listing_lines.specs.declared.fields.Field.{Field}
-use Rattle.listing_lines.specs.declared.fields.Field.TheVariants as field
-use Rattle.listing_lines.specs.declared.keywords.Keyword.{Keyword}
-use Rattle.listing_lines.specs.declared.keywords.Keyword.TheVariants as key
-use Rattle.listing_lines.specs.declared.lines.Line.{Line}
-use Rattle.listing_lines.specs.Field.{IsField}
-use Rattle.listing_lines.specs.Line.{IsLine, is_text}
-use Rattle.listing_rows.specs.Rows.{array_line, expr_line, item_line}
+use Rattle.listing_rules.specs.of_listing_lines.declared.fields.Field.{Field}
+use Rattle.listing_rules.specs.of_listing_lines.declared.fields.Field.TheVariants as field
+use Rattle.listing_rules.specs.of_listing_lines.declared.keywords.Keyword.{Keyword}
+use Rattle.listing_rules.specs.of_listing_lines.declared.keywords.Keyword.TheVariants as key
+use Rattle.listing_rules.specs.of_listing_lines.declared.lines.Line.{Line}
+use Rattle.listing_rules.specs.of_listing_lines.Field.{IsField}
+use Rattle.listing_rules.specs.of_listing_lines.Line.{IsLine, is_text}
+use Rattle.listing_rules.specs.of_listing_rows.Rows.{array_line, expr_line, item_line}
 use Rattle.listing_rules.specs.Blocks.{Blocks, Ended, Another}
 use Rattle.listing_rules.specs.Found.{number_at, numbers_in, component, instr_in}
 use Rattle.listing_rules.specs.Reads.{First, Reads, Over, More}

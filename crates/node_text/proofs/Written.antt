@@ -19,18 +19,18 @@ use Rattle.node_form.specs.Grid.{IsGrid, factors_of}
 use Rattle.node_form.specs.Nest.{opened}
 use Rattle.node_form.proofs.GrowthLemmas.{Keeps-same, FitsInstr-grows}
 use Rattle.node_form.proofs.NestLemmas.{IsNest-opened, opened-append}
-use Rattle.listing_lines.specs.declared.forms.Kind.TheVariants as kind
-use Rattle.listing_lines.specs.declared.keywords.Keyword.{Keyword}
-use Rattle.listing_lines.specs.declared.keywords.Keyword.TheVariants as key
-use Rattle.listing_lines.specs.declared.lines.Line.{Line}
-use Rattle.listing_lines.specs.declared.places.Part.{Part}
-use Rattle.listing_lines.specs.declared.places.Part.TheVariants as part
-use Rattle.listing_lines.specs.declared.places.Role.TheVariants as role
-use Rattle.listing_lines.specs.Listing.{AreLines, Lead}
-use Rattle.listing_lines.specs.Place.{Place, open_behind, part_behind, role_of, start}
-use Rattle.listing_rows.specs.declared.fields.Said.TheVariants.{Number}
-use Rattle.listing_rows.specs.Listing.{head_lines, code_lines, lines_of, listing_of}
-use Rattle.listing_rows.specs.Rows.{line_of, array_line, text_line, expr_line, member_line, group_lines, item_line, exchange_lines, instr_line}
+use Rattle.listing_rules.specs.of_listing_lines.declared.forms.Kind.TheVariants as kind
+use Rattle.listing_rules.specs.of_listing_lines.declared.keywords.Keyword.{Keyword}
+use Rattle.listing_rules.specs.of_listing_lines.declared.keywords.Keyword.TheVariants as key
+use Rattle.listing_rules.specs.of_listing_lines.declared.lines.Line.{Line}
+use Rattle.listing_rules.specs.of_listing_lines.declared.places.Part.{Part}
+use Rattle.listing_rules.specs.of_listing_lines.declared.places.Part.TheVariants as part
+use Rattle.listing_rules.specs.of_listing_lines.declared.places.Role.TheVariants as role
+use Rattle.listing_rules.specs.of_listing_lines.Listing.{AreLines, Lead}
+use Rattle.listing_rules.specs.of_listing_lines.Place.{Place, open_behind, part_behind, role_of, start}
+use Rattle.listing_rules.specs.of_listing_rows.declared.fields.Said.TheVariants.{Number}
+use Rattle.listing_rules.specs.of_listing_rows.Listing.{head_lines, code_lines, lines_of, listing_of}
+use Rattle.listing_rules.specs.of_listing_rows.Rows.{line_of, array_line, text_line, expr_line, member_line, group_lines, item_line, exchange_lines, instr_line}
 use Rattle.listing_rules.specs.declared.parts.Part.TheVariants as rows
 use Rattle.listing_rules.specs.Blocks.{Blocks, Ended, Another}
 use Rattle.listing_rules.specs.Reads.{begins, Reads, Over, More}

@@ -1,2 +1,3 @@
 pub mod Listing
 pub mod Typed
+pub use Rattle.listing_rules.specs as of_listing_rules

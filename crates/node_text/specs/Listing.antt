@@ -2,9 +2,9 @@
 use Rattle.std.specs.Prelude.{◌≡◌, ℕ, List}
 use Rattle.node_form.specs.declared.tables.Tables.{Tables}
 use Rattle.node_form.specs.Fits.{Fits}
-use Rattle.listing_lines.specs.declared.lines.Line.{Line}
-use Rattle.listing_lines.specs.Listing.{AreLines, IsBadLine}
-use Rattle.listing_rows.specs.Listing.{listing_of}
+use Rattle.listing_rules.specs.of_listing_lines.declared.lines.Line.{Line}
+use Rattle.listing_rules.specs.of_listing_lines.Listing.{AreLines, IsBadLine}
+use Rattle.listing_rules.specs.of_listing_rows.Listing.{listing_of}
 use Rattle.listing_rules.specs.declared.faults.ListFault.{ListFault}
 use Rattle.listing_rules.specs.declared.faults.ListFault.TheVariants.{BadLine, BadTable, NoMemory}
 use Rattle.listing_rules.specs.Reads.{IsNumber}

@@ -4,8 +4,8 @@
 ghost use Rattle.std.specs.Prelude.{◌≡◌, ℕ, List};
 ghost use Rattle.node_form.specs.declared.tables.Tables.{Tables};
 ghost use Rattle.node_form.specs.Fits.{Fits};
-ghost use Rattle.listing_lines.specs.Listing.{IsBadLine};
-ghost use Rattle.listing_rows.specs.Listing.{listing_of};
+ghost use Rattle.listing_rules.specs.of_listing_lines.Listing.{IsBadLine};
+ghost use Rattle.listing_rules.specs.of_listing_rows.Listing.{listing_of};
 ghost use Rattle.listing_rules.specs.Room.{HasRoom};
 ghost use Rattle.node_text.specs.Listing.{IsBadTable, IsListing};
 ghost use Rattle.node_text.specs.Typed.{IsTyped};

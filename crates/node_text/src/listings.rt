@@ -1,9 +1,9 @@
 //! Reading listings.
 ghost use Rattle.std.specs.Prelude.{◌≡◌, ◌+◌, ◌^◌, ◌<◌, IfErr, IfOk, length};
-ghost use Rattle.listing_lines.specs.Listing.{AreLines};
+ghost use Rattle.listing_rules.specs.of_listing_lines.Listing.{AreLines};
 ghost use Rattle.node_text.specs.Listing.{Explains, IsListing};
 
-use listing_lines::{Line, LinesFault, read_lines};
+use listing_rules::listing_lines::{Line, LinesFault, read_lines};
 use listing_rules::{ListFault, read_tables};
 use node_form::NodeProgram;
 use std::alloc::Global;

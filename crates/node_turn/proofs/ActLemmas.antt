@@ -20,10 +20,10 @@ use Rattle.grid_meaning.specs.Gather.{gathered}
 use Rattle.grid_meaning.specs.Local.{Local}
 use Rattle.grid_meaning.specs.Rows.{collective}
 use Rattle.grid_meaning.specs.Turn.{act, act_at, act_in, act_together, controlled, fed, fed_at, fed_by, fed_in, fed_together, registers_of, sends, steps_on, unless_ended}
-use Rattle.node_control.specs.Running.{IsControlRow}
+use Rattle.row_turn.specs.of_node_control.Running.{IsControlRow}
 use Rattle.node_local.specs.Workplace.{Workplace}
 use Rattle.grid_meaning.specs.State.{HasThree, NextHasThree}
-use Rattle.node_control.specs.Moving.{MovesOn}
+use Rattle.row_turn.specs.of_node_control.Moving.{MovesOn}
 use Rattle.node_turn.specs.Turned.{IsPrinting}
 use Rattle.row_turn.specs.declared.answers.OwnTurn.{OwnTurn}
 use Rattle.row_turn.specs.Own.{IsOwn, message_of}

@@ -2,3 +2,4 @@ mod ActLemmas
 mod OwnLemmas
 mod QuietLemmas
 mod TurnLemmas
+pub use Rattle.row_turn.proofs as of_row_turn

@@ -13,7 +13,7 @@ use Rattle.grid_meaning.specs.Action.{Action, StuckKind, Unheld, goes_on, moves}
 use Rattle.grid_meaning.specs.Local.{Local, processors}
 use Rattle.grid_meaning.specs.State.{IsLocal}
 use Rattle.grid_meaning.specs.Turn.{Turn, act, fed}
-use Rattle.node_control.specs.Moving.{MovesOn}
+use Rattle.row_turn.specs.of_node_control.Moving.{MovesOn}
 use Rattle.node_local.specs.Workplace.{HasRoom, IsReady, Workplace}
 use Rattle.node_turn.specs.declared.steps.Traffic.TheVariants as traffic
 use Rattle.node_turn.specs.Turned.{IsAnswered, IsMade, IsPrinting, printing, turn_over}

@@ -1,1 +1,3 @@
 pub mod Turned
+pub use Rattle.node_loop.specs.of_node_stages as of_node_stages
+pub use Rattle.row_turn.specs as of_row_turn

@@ -13,9 +13,10 @@ mod turns;
 
 pub use moves::moves_alone;
 pub use node_local::{Kept, KeptWords, Local, Slots, Standing, Store, Stores};
-pub use node_stages::Partners;
+pub use node_loop::node_stages::Partners;
 pub use prints::printed;
 pub use resting::rests;
+pub use row_turn;
 pub use row_turn::leave_partners;
 pub use steps::{Step, StuckKind, Traffic};
 pub use turns::turn_of;

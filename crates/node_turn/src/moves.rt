@@ -4,8 +4,8 @@ ghost use Rattle.grid_links.specs.Network.{Network};
 ghost use Rattle.grid_meaning.specs.Local.{processors};
 ghost use Rattle.grid_meaning.specs.Stored.{arrangement_of};
 ghost use Rattle.grid_meaning.specs.Turn.{act_at};
-ghost use Rattle.node_control.specs.Moving.{MovesOn};
-ghost use Rattle.node_control.specs.Running.{IsControlRow};
+ghost use Rattle.row_turn.specs.of_node_control.Moving.{MovesOn};
+ghost use Rattle.row_turn.specs.of_node_control.Running.{IsControlRow};
 ghost use Rattle.node_local.specs.Workplace.{IsReady};
 ghost use Rattle.node_turn.specs.Turned.{IsMade, turn_over};
 ghost use Rattle.node_turn.specs.declared.steps.Traffic.TheVariants.{Quiet};
@@ -14,10 +14,10 @@ ghost use Rattle.row_turn.specs.Placed.{IsAtRow};
 use crate::silent::see_three;
 use grid_layout::Layout;
 use grid_meaning::states_are_kept;
-use node_control::run_control;
 use node_form::{Instr, NodeProgram, rows_fit};
 use node_local::Local;
 use node_loop::{LocalTurn, loop_turn};
+use row_turn::node_control::run_control;
 
 /// Makes the move of a row that needs scalars and slots alone.
 #[inline(always)]

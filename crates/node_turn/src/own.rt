@@ -2,17 +2,17 @@
 ghost use Rattle.std.specs.Prelude.{◌≡◌, IfOk, OnErr, Some};
 ghost use Rattle.grid_meaning.specs.Stored.{arrangement_of};
 ghost use Rattle.grid_meaning.specs.Turn.{act_at};
-ghost use Rattle.node_control.specs.Running.{IsControlRow, IsPrintRow};
+ghost use Rattle.row_turn.specs.of_node_control.Running.{IsControlRow, IsPrintRow};
 ghost use Rattle.row_turn.specs.Own.{IsOwn};
 ghost use Rattle.row_turn.specs.Placed.{IsAtRow};
 ghost use Rattle.row_turn.specs.Together.{IsAlone};
 
 use grid_layout::Layout;
-use node_control::{run_control, run_print};
 use node_form::{Instr, NodeProgram};
 use node_local::Local;
 use node_loop::{LocalTurn, clear, loop_turn, room};
 use row_turn::OwnTurn;
+use row_turn::node_control::{run_control, run_print};
 use std::alloc::{AllocError, Global};
 
 /// A turn of `loop`.

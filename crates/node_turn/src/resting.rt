@@ -13,7 +13,7 @@ use grid_layout::Layout;
 use grid_links::Links;
 use node_form::{Instr, NodeProgram, rows_fit};
 use node_local::Local;
-use node_stages::{Partners, Stage};
+use node_loop::node_stages::{Partners, Stage};
 use row_turn::{has_words, is_together, row_stage};
 
 /// Whether a processor waits that has a message to send: the link is full, and the message's words

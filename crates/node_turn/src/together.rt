@@ -15,7 +15,7 @@ use grid_links::Links;
 use grid_meaning::states_are_kept;
 use node_form::{Instr, NodeProgram};
 use node_local::Local;
-use node_stages::{Partners, Stage};
+use node_loop::node_stages::{Partners, Stage};
 use row_turn::{Receipt, learn_partners, leave_partners, message_for, row_stage, take_message};
 use std::alloc::{AllocError, Global};
 

@@ -13,7 +13,7 @@ use grid_layout::Layout;
 use grid_links::Links;
 use node_form::{NodeProgram, rows_fit};
 use node_local::Local;
-use node_stages::Partners;
+use node_loop::node_stages::Partners;
 use row_turn::{is_together, leave_partners};
 use std::alloc::{AllocError, Global};
 

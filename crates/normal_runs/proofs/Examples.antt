@@ -10,14 +10,14 @@ use Rattle.zpl_nums.specs.declared.operators.Op.TheVariants as op
 use Rattle.zpl_region.specs.declared.regions.Region.{Region}
 use Rattle.zpl_region.specs.Hull.{all_from}
 use Rattle.zpl_region.specs.Region.{padding}
-use Rattle.node_form.specs.declared.arrays.ArrayDim.TheVariants.{Range}
-use Rattle.node_form.specs.declared.instructions.Instr.TheVariants as instr
-use Rattle.node_form.specs.declared.tables.Tables.{Tables}
-use Rattle.node_form.specs.declared.words.ExprOp.TheVariants.{Const, Coord, Pair, Scalar}
-use Rattle.node_form.specs.declared.words.ExprOp.TheVariants.{Shifted}
-use Rattle.row_runs.specs.Run.{Ends, Result, Stop, Wrong}
-use Rattle.flat_form.specs.Act.{flat_run}
-use Rattle.flat_form.specs.Row.{Loop, Plain, Put, Row, Set, Unless, Words, with_rows}
+use Rattle.temp_norm.specs.of_node_form.declared.arrays.ArrayDim.TheVariants.{Range}
+use Rattle.temp_norm.specs.of_node_form.declared.instructions.Instr.TheVariants as instr
+use Rattle.temp_norm.specs.of_node_form.declared.tables.Tables.{Tables}
+use Rattle.temp_norm.specs.of_node_form.declared.words.ExprOp.TheVariants.{Const, Coord, Pair, Scalar}
+use Rattle.temp_norm.specs.of_node_form.declared.words.ExprOp.TheVariants.{Shifted}
+use Rattle.temp_norm.specs.of_row_runs.Run.{Ends, Result, Stop, Wrong}
+use Rattle.temp_norm.specs.of_flat_form.Act.{flat_run}
+use Rattle.temp_norm.specs.of_flat_form.Row.{Loop, Plain, Put, Row, Set, Unless, Words, with_rows}
 use Rattle.temp_norm.specs.Normalised.{normalised}
 
 abbrev line : ℤ → ℤ → Region

@@ -7,21 +7,21 @@ use Rattle.std.specs.Prelude.{slice_get, slice_index_or}
 use Rattle.std.specs.Option.{IfSome, IsSomeAnd, option_map}
 use Rattle.std.specs.List.{AllByRecursion}
 use Rattle.std.proofs.lemmas.List.Elements.{All-head, All-tail}
-use Rattle.node_form.specs.declared.arrays.ArrayRow.{ArrayRow}
-use Rattle.node_form.specs.declared.instructions.DimRow.{DimRow}
-use Rattle.node_form.specs.declared.instructions.DimRow.TheVariants as part
-use Rattle.node_form.specs.declared.instructions.Instr.{Instr}
-use Rattle.node_form.specs.declared.instructions.Instr.TheVariants as instr
-use Rattle.node_form.specs.declared.members.Member as number
-use Rattle.node_form.specs.declared.members.Member.TheVariants as member
-use Rattle.node_form.specs.declared.tables.Tables.{Tables}
-use Rattle.node_form.specs.Fits.{FitsAt, FitsMember, FitsPart, HasExpr}
-use Rattle.code_parts.specs.Uses.{rows_or_none}
-use Rattle.flat_form.specs.Row.{Acc, Cell, Dims, Loop, Number, OpenIf, OpenRepeat, OpenWhile}
-use Rattle.flat_form.specs.Row.{Put, Row, Set, Span, Truth, Unless, Until, Words, inlined}
-use Rattle.flat_form.specs.Row.{member_inlined, part_inlined, words_at}
-use Rattle.flat_passes.specs.Grouped as grouped
-use Rattle.flat_passes.specs.Grouped.{Grouped, Runs, all_numbered, group_of, groups_of, numbered}
+use Rattle.temp_norm.specs.of_node_form.declared.arrays.ArrayRow.{ArrayRow}
+use Rattle.temp_norm.specs.of_node_form.declared.instructions.DimRow.{DimRow}
+use Rattle.temp_norm.specs.of_node_form.declared.instructions.DimRow.TheVariants as part
+use Rattle.temp_norm.specs.of_node_form.declared.instructions.Instr.{Instr}
+use Rattle.temp_norm.specs.of_node_form.declared.instructions.Instr.TheVariants as instr
+use Rattle.temp_norm.specs.of_node_form.declared.members.Member as number
+use Rattle.temp_norm.specs.of_node_form.declared.members.Member.TheVariants as member
+use Rattle.temp_norm.specs.of_node_form.declared.tables.Tables.{Tables}
+use Rattle.temp_norm.specs.of_node_form.Fits.{FitsAt, FitsMember, FitsPart, HasExpr}
+use Rattle.temp_norm.specs.of_code_parts.Uses.{rows_or_none}
+use Rattle.temp_norm.specs.of_flat_form.Row.{Acc, Cell, Dims, Loop, Number, OpenIf, OpenRepeat, OpenWhile}
+use Rattle.temp_norm.specs.of_flat_form.Row.{Put, Row, Set, Span, Truth, Unless, Until, Words, inlined}
+use Rattle.temp_norm.specs.of_flat_form.Row.{member_inlined, part_inlined, words_at}
+use Rattle.temp_norm.specs.of_flat_passes.Grouped as grouped
+use Rattle.temp_norm.specs.of_flat_passes.Grouped.{Grouped, Runs, all_numbered, group_of, groups_of, numbered}
 
 -- ---- tables with more arrays and expressions
 pub index_append : {X : Type 0} (P : X → Type 0) (xs ys : List X) (k : ℕ) (d : X)

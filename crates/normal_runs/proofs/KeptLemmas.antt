@@ -7,44 +7,44 @@ use Rattle.std.specs.Prelude.{⊤}
 use Rattle.std.specs.Option.{IsSomeAnd, option_map}
 use Rattle.std.specs.List.{AllByRecursion, list_any, position_or_len}
 use Rattle.std.proofs.lemmas.List.Elements.{All-head, recursion_from_All}
-use Rattle.row_runs.specs.Run.{Effect, Does, Goes, runs}
-use Rattle.row_runs.specs.Segments.{Keeps}
-use Rattle.row_runs.specs.Cut.{Stretch, moved_by}
-use Rattle.row_runs.specs.Straight.{Every, Flow, IsRewriting, IsStep, IsStraight, OnTo}
-use Rattle.row_runs.specs.Straight.{Tied, TiedHalt, TiedOn, TiedWrong, flow_step, rewritten}
-use Rattle.row_runs.specs.Straight.{through}
-use Rattle.row_runs.proofs.StraightLemmas.{rewritten_ties}
-use Rattle.node_form.specs.declared.arrays.ArrayRow.{ArrayRow}
-use Rattle.node_form.specs.declared.instructions.Instr.{Instr}
-use Rattle.node_form.specs.declared.instructions.Instr.TheVariants as instr
-use Rattle.node_form.specs.declared.members.Member as number
-use Rattle.node_form.specs.declared.members.Member.TheVariants as member
-use Rattle.node_form.specs.declared.tables.Tables.{Tables}
-use Rattle.node_form.specs.declared.touches.Thing.{Thing}
-use Rattle.node_form.specs.declared.touches.Thing.TheVariants as thing
-use Rattle.node_form.specs.declared.words.ExprOp.TheVariants as word
-use Rattle.node_form.specs.Fits.{Fits, FitsInstr, FitsMember}
-use Rattle.node_form.specs.Touch.{IsNamed, IsNamedByMember}
-use Rattle.code_parts.specs.Stretch.{ends_stretch, is_goal}
-use Rattle.code_parts.specs.Uses.{members_of, rows_or_none}
-use Rattle.flat_form.specs.Act.{act, flat_run}
-use Rattle.flat_form.specs.Flat.{IsFlatRow}
-use Rattle.flat_form.specs.Row.{Loop, Member, Row, Words, inlined, member_inlined, words_at}
-use Rattle.flat_form.specs.Touches.{BothGo, DoSame}
-use Rattle.flat_form.specs.Touches as same
-use Rattle.flat_form.specs.Whole.{Whole, start_whole}
-use Rattle.flat_form.proofs.AgreeLemmas.{Agree}
-use Rattle.flat_form.proofs.NamedLemmas.{GroupNamed, members_named}
-use Rattle.flat_form.proofs.StepLemmas.{EffectOnly, Respects, act_change, next_state}
-use Rattle.flat_form.proofs.TouchLemmas.{acts_same}
-use Rattle.flat_passes.specs.Kept.{BothLeap, BothPass, BothStop, EndsAlike, OldWrong, goal_of}
-use Rattle.flat_passes.specs.Rewritten.{has_goal, stretches_of, with_moved_goal}
-use Rattle.flat_passes.specs.Grouped.{Grouped, Runs, all_numbered, ended_by, groups_of}
-use Rattle.flat_passes.specs.Grouped.{rewritten_rows}
-use Rattle.flat_passes.specs.Grouped as grouped
-use Rattle.flat_passes.proofs.FlatRowLemmas.{does, ends_alike, steps_in, straight}
-use Rattle.flat_passes.proofs.SeenLemmas.{runs_seen}
-use Rattle.flat_passes.proofs.StretchLemmas.{HoldsOf, IsCut, all_cut, every_append, news_hold}
+use Rattle.temp_norm.specs.of_row_runs.Run.{Effect, Does, Goes, runs}
+use Rattle.temp_norm.specs.of_row_runs.Segments.{Keeps}
+use Rattle.temp_norm.specs.of_row_runs.Cut.{Stretch, moved_by}
+use Rattle.temp_norm.specs.of_row_runs.Straight.{Every, Flow, IsRewriting, IsStep, IsStraight, OnTo}
+use Rattle.temp_norm.specs.of_row_runs.Straight.{Tied, TiedHalt, TiedOn, TiedWrong, flow_step, rewritten}
+use Rattle.temp_norm.specs.of_row_runs.Straight.{through}
+use Rattle.temp_norm.proofs.of_row_runs.StraightLemmas.{rewritten_ties}
+use Rattle.temp_norm.specs.of_node_form.declared.arrays.ArrayRow.{ArrayRow}
+use Rattle.temp_norm.specs.of_node_form.declared.instructions.Instr.{Instr}
+use Rattle.temp_norm.specs.of_node_form.declared.instructions.Instr.TheVariants as instr
+use Rattle.temp_norm.specs.of_node_form.declared.members.Member as number
+use Rattle.temp_norm.specs.of_node_form.declared.members.Member.TheVariants as member
+use Rattle.temp_norm.specs.of_node_form.declared.tables.Tables.{Tables}
+use Rattle.temp_norm.specs.of_node_form.declared.touches.Thing.{Thing}
+use Rattle.temp_norm.specs.of_node_form.declared.touches.Thing.TheVariants as thing
+use Rattle.temp_norm.specs.of_node_form.declared.words.ExprOp.TheVariants as word
+use Rattle.temp_norm.specs.of_node_form.Fits.{Fits, FitsInstr, FitsMember}
+use Rattle.temp_norm.specs.of_node_form.Touch.{IsNamed, IsNamedByMember}
+use Rattle.temp_norm.specs.of_code_parts.Stretch.{ends_stretch, is_goal}
+use Rattle.temp_norm.specs.of_code_parts.Uses.{members_of, rows_or_none}
+use Rattle.temp_norm.specs.of_flat_form.Act.{act, flat_run}
+use Rattle.temp_norm.specs.of_flat_form.Flat.{IsFlatRow}
+use Rattle.temp_norm.specs.of_flat_form.Row.{Loop, Member, Row, Words, inlined, member_inlined, words_at}
+use Rattle.temp_norm.specs.of_flat_form.Touches.{BothGo, DoSame}
+use Rattle.temp_norm.specs.of_flat_form.Touches as same
+use Rattle.temp_norm.specs.of_flat_form.Whole.{Whole, start_whole}
+use Rattle.temp_norm.proofs.of_flat_form.AgreeLemmas.{Agree}
+use Rattle.temp_norm.proofs.of_flat_form.NamedLemmas.{GroupNamed, members_named}
+use Rattle.temp_norm.proofs.of_flat_form.StepLemmas.{EffectOnly, Respects, act_change, next_state}
+use Rattle.temp_norm.proofs.of_flat_form.TouchLemmas.{acts_same}
+use Rattle.temp_norm.specs.of_flat_passes.Kept.{BothLeap, BothPass, BothStop, EndsAlike, OldWrong, goal_of}
+use Rattle.temp_norm.specs.of_flat_passes.Rewritten.{has_goal, stretches_of, with_moved_goal}
+use Rattle.temp_norm.specs.of_flat_passes.Grouped.{Grouped, Runs, all_numbered, ended_by, groups_of}
+use Rattle.temp_norm.specs.of_flat_passes.Grouped.{rewritten_rows}
+use Rattle.temp_norm.specs.of_flat_passes.Grouped as grouped
+use Rattle.temp_norm.proofs.of_flat_passes.FlatRowLemmas.{does, ends_alike, steps_in, straight}
+use Rattle.temp_norm.proofs.of_flat_passes.SeenLemmas.{runs_seen}
+use Rattle.temp_norm.proofs.of_flat_passes.StretchLemmas.{HoldsOf, IsCut, all_cut, every_append, news_hold}
 use Rattle.temp_norm.specs.Normalised.{is_like, normalised, place_among, read_each, row_through}
 use Rattle.temp_norm.specs.Normalised.{temporaries}
 use Rattle.temp_norm.specs.Pieces.{kind_put, kind_through, mask_reads, reads_shifted}

@@ -8,3 +8,4 @@ pub mod PutLemmas
 pub mod SlotLemmas
 pub mod SplitLemmas
 pub mod ThroughLemmas
+pub use Rattle.temp_norm.proofs.of_flat_form as of_flat_form

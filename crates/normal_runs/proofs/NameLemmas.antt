@@ -3,22 +3,22 @@ use Rattle.std.proofs.Common.{◌≡◌, sym, subst, arith, ℕ, zero, suc, ◌<
 use Rattle.std.proofs.Common.{All, Any, Option, Some, None, inl, inr, take}
 use Rattle.std.specs.Prelude.{◌⊎◌, false, slice_get, true}
 use Rattle.std.specs.Option.{IfSome, IsSomeAnd}
-use Rattle.node_form.specs.declared.arrays.ArrayRow.{ArrayRow}
-use Rattle.node_form.specs.declared.instructions.DimRow.{DimRow}
-use Rattle.node_form.specs.declared.instructions.DimRow.TheVariants as part
-use Rattle.node_form.specs.declared.instructions.Instr.{Instr}
-use Rattle.node_form.specs.declared.instructions.Instr.TheVariants as instr
-use Rattle.node_form.specs.declared.members.Member.{Member}
-use Rattle.node_form.specs.declared.members.Member.TheVariants as member
-use Rattle.node_form.specs.declared.tables.Tables.{Tables}
-use Rattle.node_form.specs.declared.touches.Thing.TheVariants as thing
-use Rattle.node_form.specs.declared.words.ExprOp.{ExprOp}
-use Rattle.node_form.specs.declared.words.ExprOp.TheVariants as word
-use Rattle.node_form.specs.Fits.{FitsAt, FitsMember, FitsPart, FitsRemap, FitsWord, HasArray}
-use Rattle.node_form.specs.Fits.{HasExpr, HasScalarExpr, IsIndexArray, IsScalarWord}
-use Rattle.flat_form.specs.Flat.{IsFlatRow}
-use Rattle.node_form.specs.Touch.{IsNamed, IsNamedByExpr, IsNamedByMask, IsNamedByMember}
-use Rattle.node_form.specs.Touch.{IsNamedByPart, IsNamedByWord}
+use Rattle.temp_norm.specs.of_node_form.declared.arrays.ArrayRow.{ArrayRow}
+use Rattle.temp_norm.specs.of_node_form.declared.instructions.DimRow.{DimRow}
+use Rattle.temp_norm.specs.of_node_form.declared.instructions.DimRow.TheVariants as part
+use Rattle.temp_norm.specs.of_node_form.declared.instructions.Instr.{Instr}
+use Rattle.temp_norm.specs.of_node_form.declared.instructions.Instr.TheVariants as instr
+use Rattle.temp_norm.specs.of_node_form.declared.members.Member.{Member}
+use Rattle.temp_norm.specs.of_node_form.declared.members.Member.TheVariants as member
+use Rattle.temp_norm.specs.of_node_form.declared.tables.Tables.{Tables}
+use Rattle.temp_norm.specs.of_node_form.declared.touches.Thing.TheVariants as thing
+use Rattle.temp_norm.specs.of_node_form.declared.words.ExprOp.{ExprOp}
+use Rattle.temp_norm.specs.of_node_form.declared.words.ExprOp.TheVariants as word
+use Rattle.temp_norm.specs.of_node_form.Fits.{FitsAt, FitsMember, FitsPart, FitsRemap, FitsWord, HasArray}
+use Rattle.temp_norm.specs.of_node_form.Fits.{HasExpr, HasScalarExpr, IsIndexArray, IsScalarWord}
+use Rattle.temp_norm.specs.of_flat_form.Flat.{IsFlatRow}
+use Rattle.temp_norm.specs.of_node_form.Touch.{IsNamed, IsNamedByExpr, IsNamedByMask, IsNamedByMember}
+use Rattle.temp_norm.specs.of_node_form.Touch.{IsNamedByPart, IsNamedByWord}
 use Rattle.std.specs.Option.{IsNone}
 use Rattle.std.specs.Prelude.{drop}
 

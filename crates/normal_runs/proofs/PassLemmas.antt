@@ -4,21 +4,21 @@ use Rattle.std.proofs.Common.{List, [], ◌∷◌, ◌++◌, length, true≢fals
 use Rattle.std.proofs.lemmas.Bool.Decides.{nat_tests}
 use Rattle.std.specs.Prelude.{◌||◌, ◌==◌, Option, Some}
 use Rattle.std.specs.List.{AllByRecursion, list_any}
-use Rattle.row_runs.specs.Run.{Effect, runs}
-use Rattle.row_runs.specs.Straight.{Every, IsStraight, Tied, through}
-use Rattle.row_runs.specs.Segments.{IsStart, Keeps}
-use Rattle.row_runs.specs.Cut as cut
-use Rattle.row_runs.specs.Cut.{IsRewritten, LastAlike, Stretch, all_rows, as_list, moved_by, passed}
-use Rattle.row_runs.specs.Cut.{rows_of}
-use Rattle.row_runs.specs.Cut.{segments_of}
-use Rattle.row_runs.proofs.CutLemmas.{cut_rows, goals_are_starts, passes_keep_runs}
-use Rattle.node_form.specs.declared.instructions.Instr.{Instr}
-use Rattle.node_form.specs.declared.instructions.Instr.TheVariants as instr
-use Rattle.code_parts.specs.Stretch.{ends_stretch, is_goal, leads_to}
-use Rattle.flat_passes.specs.Kept.{BothLeap, BothPass, BothStop, EndsAlike}
-use Rattle.flat_passes.specs.Kept.{GoalsWithin, OldWrong, goal_of}
-use Rattle.flat_passes.specs.Rewritten.{has_goal, stretches_of}
-use Rattle.flat_passes.proofs.StretchLemmas.{IsCut, all_cut}
+use Rattle.temp_norm.specs.of_row_runs.Run.{Effect, runs}
+use Rattle.temp_norm.specs.of_row_runs.Straight.{Every, IsStraight, Tied, through}
+use Rattle.temp_norm.specs.of_row_runs.Segments.{IsStart, Keeps}
+use Rattle.temp_norm.specs.of_row_runs.Cut as cut
+use Rattle.temp_norm.specs.of_row_runs.Cut.{IsRewritten, LastAlike, Stretch, all_rows, as_list, moved_by, passed}
+use Rattle.temp_norm.specs.of_row_runs.Cut.{rows_of}
+use Rattle.temp_norm.specs.of_row_runs.Cut.{segments_of}
+use Rattle.temp_norm.proofs.of_row_runs.CutLemmas.{cut_rows, goals_are_starts, passes_keep_runs}
+use Rattle.temp_norm.specs.of_node_form.declared.instructions.Instr.{Instr}
+use Rattle.temp_norm.specs.of_node_form.declared.instructions.Instr.TheVariants as instr
+use Rattle.temp_norm.specs.of_code_parts.Stretch.{ends_stretch, is_goal, leads_to}
+use Rattle.temp_norm.specs.of_flat_passes.Kept.{BothLeap, BothPass, BothStop, EndsAlike}
+use Rattle.temp_norm.specs.of_flat_passes.Kept.{GoalsWithin, OldWrong, goal_of}
+use Rattle.temp_norm.specs.of_flat_passes.Rewritten.{has_goal, stretches_of}
+use Rattle.temp_norm.proofs.of_flat_passes.StretchLemmas.{IsCut, all_cut}
 
 -- ---- rows of stretches are rows of the code
 pub front_holds : {X : Type 0} (P : X → Type 0) (xs ys : List X) → AllByRecursion P (xs ++ ys)

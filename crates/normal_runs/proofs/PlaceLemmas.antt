@@ -14,15 +14,15 @@ use Rattle.zpl_region.proofs.DimLemmas.{Rises-coordinates}
 use Rattle.zpl_region.proofs.LawLemmas.{members_iff}
 use Rattle.zpl_region.proofs.ListLemmas.{Among, Contains-from_among, Rises}
 use Rattle.zpl_region.proofs.TupleLemmas.{AllRise, IsBefore, Rises-tuples}
-use Rattle.zpl_arrays.specs.Array.{Array, IsArray, element, has_place, updated}
-use Rattle.zpl_arrays.proofs.ArrayLemmas.{array_of_is_array, flattened_is, place_of_member}
-use Rattle.zpl_arrays.proofs.ArrayLemmas.{updated_elsewhere, updated_here, updated_is_array}
-use Rattle.zpl_arrays.proofs.FoldLemmas.{not_before_itself}
-use Rattle.node_form.specs.Value.{unmoved}
-use Rattle.row_runs.specs.Straight.{Every}
-use Rattle.grid_meaning.specs.Place.{held_value, held_with, moved_by, value_at, where_held}
-use Rattle.grid_meaning.specs.Place.{with_value}
-use Rattle.grid_meaning.specs.Room.{zeros_at}
+use Rattle.temp_norm.specs.of_zpl_arrays.Array.{Array, IsArray, element, has_place, updated}
+use Rattle.temp_norm.proofs.of_zpl_arrays.ArrayLemmas.{array_of_is_array, flattened_is, place_of_member}
+use Rattle.temp_norm.proofs.of_zpl_arrays.ArrayLemmas.{updated_elsewhere, updated_here, updated_is_array}
+use Rattle.temp_norm.proofs.of_zpl_arrays.FoldLemmas.{not_before_itself}
+use Rattle.temp_norm.specs.of_node_form.Value.{unmoved}
+use Rattle.temp_norm.specs.of_row_runs.Straight.{Every}
+use Rattle.temp_norm.specs.of_grid_meaning.Place.{held_value, held_with, moved_by, value_at, where_held}
+use Rattle.temp_norm.specs.of_grid_meaning.Place.{with_value}
+use Rattle.temp_norm.specs.of_grid_meaning.Room.{zeros_at}
 
 -- ---- the vector that moves nothing
 add_none : (x : ℤ) → x +ℤ pos 0 ≡ x

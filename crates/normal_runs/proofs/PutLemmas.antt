@@ -8,29 +8,29 @@ use Rattle.zpl_nums.specs.declared.ends.TrapKind.TheVariants.{DivideByZero}
 use Rattle.zpl_nums.specs.Integer.{is_true}
 use Rattle.zpl_region.specs.declared.regions.Region.{Region}
 use Rattle.zpl_region.specs.Region.{members}
-use Rattle.row_runs.specs.Run.{Ends, Goes, Step, Stops, Wrong}
-use Rattle.row_runs.specs.Straight.{Every}
-use Rattle.node_form.specs.declared.tables.Tables.{Tables}
-use Rattle.node_form.specs.declared.touches.Thing.{Thing}
-use Rattle.node_form.specs.declared.touches.Thing.TheVariants as thing
-use Rattle.node_form.specs.declared.words.ExprOp.{ExprOp}
-use Rattle.node_form.specs.declared.words.ExprOp.TheVariants as word
-use Rattle.node_form.specs.Nest.{Nest, Nothing, Putting}
-use Rattle.node_form.specs.Value.{Computed, Divides, Gives, Lacks, and_then, mapped}
-use Rattle.node_form.specs.Value.{unmoved, value_of}
-use Rattle.grid_meaning.specs.Place.{held_value, moved_by}
-use Rattle.nest_meaning.specs.Nested.{Fine, Lost, Told, Zero, then_do, with_state, with_value}
-use Rattle.flat_form.specs.Loop.{AllFine, AllTold, Column, Point, Puts, SomeLost, SomeZero}
-use Rattle.flat_form.specs.Loop.{all_awaiting, all_told, all_written, both_told, from_written}
-use Rattle.flat_form.specs.Loop.{logged, loop_stands, looped, operands_at, unit_at}
-use Rattle.flat_form.specs.Loop.{unit_does, units_do, written}
-use Rattle.flat_form.specs.Names.{group_cells, word_cells}
-use Rattle.flat_form.specs.Right.{is_unmoved}
-use Rattle.flat_form.specs.Row.{Member, Put, Words, mask_words, numbered}
-use Rattle.flat_form.specs.Whole.{Whole}
-use Rattle.flat_form.proofs.AgreeLemmas.{Agree, AlikeStates, BothStates, NoState, put_alike}
-use Rattle.flat_form.proofs.NamedLemmas.{ExprNamed, WordNamed}
-use Rattle.flat_form.proofs.WordLemmas.{ReadsSame, every_more, value_same}
+use Rattle.temp_norm.specs.of_row_runs.Run.{Ends, Goes, Step, Stops, Wrong}
+use Rattle.temp_norm.specs.of_row_runs.Straight.{Every}
+use Rattle.temp_norm.specs.of_node_form.declared.tables.Tables.{Tables}
+use Rattle.temp_norm.specs.of_node_form.declared.touches.Thing.{Thing}
+use Rattle.temp_norm.specs.of_node_form.declared.touches.Thing.TheVariants as thing
+use Rattle.temp_norm.specs.of_node_form.declared.words.ExprOp.{ExprOp}
+use Rattle.temp_norm.specs.of_node_form.declared.words.ExprOp.TheVariants as word
+use Rattle.temp_norm.specs.of_node_form.Nest.{Nest, Nothing, Putting}
+use Rattle.temp_norm.specs.of_node_form.Value.{Computed, Divides, Gives, Lacks, and_then, mapped}
+use Rattle.temp_norm.specs.of_node_form.Value.{unmoved, value_of}
+use Rattle.temp_norm.specs.of_grid_meaning.Place.{held_value, moved_by}
+use Rattle.temp_norm.specs.of_nest_meaning.Nested.{Fine, Lost, Told, Zero, then_do, with_state, with_value}
+use Rattle.temp_norm.specs.of_flat_form.Loop.{AllFine, AllTold, Column, Point, Puts, SomeLost, SomeZero}
+use Rattle.temp_norm.specs.of_flat_form.Loop.{all_awaiting, all_told, all_written, both_told, from_written}
+use Rattle.temp_norm.specs.of_flat_form.Loop.{logged, loop_stands, looped, operands_at, unit_at}
+use Rattle.temp_norm.specs.of_flat_form.Loop.{unit_does, units_do, written}
+use Rattle.temp_norm.specs.of_flat_form.Names.{group_cells, word_cells}
+use Rattle.temp_norm.specs.of_flat_form.Right.{is_unmoved}
+use Rattle.temp_norm.specs.of_flat_form.Row.{Member, Put, Words, mask_words, numbered}
+use Rattle.temp_norm.specs.of_flat_form.Whole.{Whole}
+use Rattle.temp_norm.proofs.of_flat_form.AgreeLemmas.{Agree, AlikeStates, BothStates, NoState, put_alike}
+use Rattle.temp_norm.proofs.of_flat_form.NamedLemmas.{ExprNamed, WordNamed}
+use Rattle.temp_norm.proofs.of_flat_form.WordLemmas.{ReadsSame, every_more, value_same}
 
 -- ---- what is put at a tuple: nothing where the mask is 0
 abbrev pub start_point : List ℤ → Point

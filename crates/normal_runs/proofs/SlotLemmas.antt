@@ -14,34 +14,34 @@ use Rattle.zpl_region.specs.declared.regions.Region.{Region}
 use Rattle.zpl_region.specs.Dim.{HasStep, dim_inside_of, dim_moved, dim_outside_of, dim_strided}
 use Rattle.zpl_region.specs.Region.{components, padding}
 use Rattle.zpl_region.specs.Tests.{is_within_limit}
-use Rattle.row_runs.specs.Run.{Effect, Does, Goes, Leaps, Stops, Wrong}
-use Rattle.node_form.specs.declared.arrays.Item.{Item}
-use Rattle.node_form.specs.declared.instructions.DimRow.{DimRow}
-use Rattle.node_form.specs.declared.instructions.DimRow.TheVariants as part
-use Rattle.node_form.specs.declared.instructions.Instr.{Instr}
-use Rattle.node_form.specs.declared.instructions.Instr.TheVariants as instr
-use Rattle.node_form.specs.declared.instructions.RegionForm.{RegionForm}
-use Rattle.node_form.specs.declared.instructions.RegionForm.TheVariants.{At, By, Inside, Of}
-use Rattle.node_form.specs.declared.members.Member.{Member}
-use Rattle.node_form.specs.declared.members.Member.TheVariants as member
-use Rattle.node_form.specs.declared.tables.Tables.{Tables}
-use Rattle.node_form.specs.declared.touches.Thing.TheVariants as thing
-use Rattle.node_form.specs.Control as control
-use Rattle.node_form.specs.Control.{Control, Registers, formed_by, limited, part_dim, part_dims}
-use Rattle.node_form.specs.Control.{region_of, register_value, slot_dim, with_computed, with_row}
-use Rattle.node_form.specs.Control.{with_slot}
-use Rattle.node_form.specs.Fits.{FitsInstr}
-use Rattle.node_form.specs.Touch.{IsWritten, IsWrittenByMember}
-use Rattle.node_form.specs.Value.{Computed, Divides, Gives, Lacks, and_then, mapped, read}
-use Rattle.grid_meaning.specs.Stored.{no_places}
-use Rattle.grid_meaning.proofs.RegionLemmas.{HasStep-inside, HasStep-moved, HasStep-outside}
-use Rattle.grid_meaning.proofs.RegionLemmas.{HasStep-strided, no_steps, steps-each}
-use Rattle.flat_form.specs.Act.{act, control_of, controlled}
-use Rattle.flat_form.specs.Right.{are_settled}
-use Rattle.flat_form.specs.Row.{inlined}
-use Rattle.flat_form.specs.Whole.{Whole, registers_of, start_whole}
-use Rattle.flat_form.proofs.ChangeLemmas.{change_written}
-use Rattle.flat_form.proofs.InlineLemmas.{control_inline}
+use Rattle.temp_norm.specs.of_row_runs.Run.{Effect, Does, Goes, Leaps, Stops, Wrong}
+use Rattle.temp_norm.specs.of_node_form.declared.arrays.Item.{Item}
+use Rattle.temp_norm.specs.of_node_form.declared.instructions.DimRow.{DimRow}
+use Rattle.temp_norm.specs.of_node_form.declared.instructions.DimRow.TheVariants as part
+use Rattle.temp_norm.specs.of_node_form.declared.instructions.Instr.{Instr}
+use Rattle.temp_norm.specs.of_node_form.declared.instructions.Instr.TheVariants as instr
+use Rattle.temp_norm.specs.of_node_form.declared.instructions.RegionForm.{RegionForm}
+use Rattle.temp_norm.specs.of_node_form.declared.instructions.RegionForm.TheVariants.{At, By, Inside, Of}
+use Rattle.temp_norm.specs.of_node_form.declared.members.Member.{Member}
+use Rattle.temp_norm.specs.of_node_form.declared.members.Member.TheVariants as member
+use Rattle.temp_norm.specs.of_node_form.declared.tables.Tables.{Tables}
+use Rattle.temp_norm.specs.of_node_form.declared.touches.Thing.TheVariants as thing
+use Rattle.temp_norm.specs.of_node_form.Control as control
+use Rattle.temp_norm.specs.of_node_form.Control.{Control, Registers, formed_by, limited, part_dim, part_dims}
+use Rattle.temp_norm.specs.of_node_form.Control.{region_of, register_value, slot_dim, with_computed, with_row}
+use Rattle.temp_norm.specs.of_node_form.Control.{with_slot}
+use Rattle.temp_norm.specs.of_node_form.Fits.{FitsInstr}
+use Rattle.temp_norm.specs.of_node_form.Touch.{IsWritten, IsWrittenByMember}
+use Rattle.temp_norm.specs.of_node_form.Value.{Computed, Divides, Gives, Lacks, and_then, mapped, read}
+use Rattle.temp_norm.specs.of_grid_meaning.Stored.{no_places}
+use Rattle.temp_norm.proofs.of_grid_meaning.RegionLemmas.{HasStep-inside, HasStep-moved, HasStep-outside}
+use Rattle.temp_norm.proofs.of_grid_meaning.RegionLemmas.{HasStep-strided, no_steps, steps-each}
+use Rattle.temp_norm.specs.of_flat_form.Act.{act, control_of, controlled}
+use Rattle.temp_norm.specs.of_flat_form.Right.{are_settled}
+use Rattle.temp_norm.specs.of_flat_form.Row.{inlined}
+use Rattle.temp_norm.specs.of_flat_form.Whole.{Whole, registers_of, start_whole}
+use Rattle.temp_norm.proofs.of_flat_form.ChangeLemmas.{change_written}
+use Rattle.temp_norm.proofs.of_flat_form.InlineLemmas.{control_inline}
 
 abbrev pub StepsIn : List Region → Type 0
 StepsIn slots =

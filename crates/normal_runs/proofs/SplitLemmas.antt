@@ -12,20 +12,20 @@ use Rattle.zpl_region.specs.declared.dims.Dim.{Dim}
 use Rattle.zpl_region.specs.declared.regions.Region.{Region}
 use Rattle.zpl_region.specs.Dim.{HasStep}
 use Rattle.zpl_region.specs.Region.{IsMember}
-use Rattle.zpl_arrays.specs.Array.{Array, element}
-use Rattle.row_runs.specs.Straight.{Every}
-use Rattle.node_form.specs.declared.arrays.ArrayDim.{ArrayDim}
-use Rattle.node_form.specs.declared.arrays.ArrayDim.TheVariants as axis
-use Rattle.node_form.specs.declared.arrays.ArrayRow.{ArrayRow}
-use Rattle.node_form.specs.declared.words.ExprOp.TheVariants as word
-use Rattle.node_form.specs.Value.{Computed, Divides, Gives, Lacks, and_then, evaluated, mapped}
-use Rattle.node_form.specs.Value.{only_value, pushed, read, unmoved}
-use Rattle.grid_meaning.specs.Place.{held_with, with_value}
-use Rattle.flat_form.specs.Loop.{operands_at}
-use Rattle.flat_form.specs.Right.{dim_matches, each_matches}
-use Rattle.flat_form.specs.Right.{has_places, matches, writes_well}
-use Rattle.flat_form.specs.Row.{Words}
-use Rattle.flat_form.specs.Whole.{Whole, with_store}
+use Rattle.temp_norm.specs.of_zpl_arrays.Array.{Array, element}
+use Rattle.temp_norm.specs.of_row_runs.Straight.{Every}
+use Rattle.temp_norm.specs.of_node_form.declared.arrays.ArrayDim.{ArrayDim}
+use Rattle.temp_norm.specs.of_node_form.declared.arrays.ArrayDim.TheVariants as axis
+use Rattle.temp_norm.specs.of_node_form.declared.arrays.ArrayRow.{ArrayRow}
+use Rattle.temp_norm.specs.of_node_form.declared.words.ExprOp.TheVariants as word
+use Rattle.temp_norm.specs.of_node_form.Value.{Computed, Divides, Gives, Lacks, and_then, evaluated, mapped}
+use Rattle.temp_norm.specs.of_node_form.Value.{only_value, pushed, read, unmoved}
+use Rattle.temp_norm.specs.of_grid_meaning.Place.{held_with, with_value}
+use Rattle.temp_norm.specs.of_flat_form.Loop.{operands_at}
+use Rattle.temp_norm.specs.of_flat_form.Right.{dim_matches, each_matches}
+use Rattle.temp_norm.specs.of_flat_form.Right.{has_places, matches, writes_well}
+use Rattle.temp_norm.specs.of_flat_form.Row.{Words}
+use Rattle.temp_norm.specs.of_flat_form.Whole.{Whole, with_store}
 use Rattle.temp_norm.specs.Normalised.{is_like, is_same_kind}
 use Rattle.normal_runs.proofs.PlaceLemmas.{AreRead, all_put}
 use Rattle.normal_runs.proofs.PlaceLemmas.{one_put, over, put_held, read_held}

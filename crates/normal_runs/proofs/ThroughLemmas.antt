@@ -9,31 +9,31 @@ use Rattle.std.specs.List.{list_all}
 use Rattle.zpl_region.specs.declared.regions.Region.{Region}
 use Rattle.zpl_region.specs.Dim.{HasStep}
 use Rattle.zpl_region.specs.Region.{IsMember, members}
-use Rattle.zpl_arrays.specs.Array.{Array, has_place}
-use Rattle.row_runs.specs.Run.{Does, Goes, Stops, Wrong}
-use Rattle.row_runs.specs.Straight.{Every, Flow, OnTo, Tied, TiedHalt, TiedOn, TiedWrong}
-use Rattle.row_runs.specs.Straight.{flow_behind, flow_of, flow_step, through}
-use Rattle.node_form.specs.declared.arrays.ArrayRow.{ArrayRow}
-use Rattle.node_form.specs.declared.instructions.Instr.TheVariants as instr
-use Rattle.node_form.specs.declared.tables.Tables.{Tables}
-use Rattle.node_form.specs.declared.touches.Thing.{Thing}
-use Rattle.node_form.specs.declared.touches.Thing.TheVariants as thing
-use Rattle.node_form.specs.declared.words.ExprOp.TheVariants as word
-use Rattle.node_form.specs.Value.{unmoved}
-use Rattle.grid_meaning.specs.Place.{moved_by}
-use Rattle.flat_form.specs.Act.{act}
-use Rattle.flat_form.specs.Loop.{from_written, loop_stands, looped}
-use Rattle.flat_form.specs.Moves.{found, provided, roomed}
-use Rattle.flat_form.specs.Names.{Read, group_cells, group_reads, group_words, row_scalars}
-use Rattle.flat_form.specs.Names.{word_cells, word_reads, word_scalars}
-use Rattle.flat_form.specs.Right.{are_settled, can_read, can_write, each_covers, has_places}
-use Rattle.flat_form.specs.Right.{is_settled, may_read, matches, reads_well, writes_well}
-use Rattle.flat_form.specs.Row.{Loop, Plain, Row, Words, mask_words}
-use Rattle.flat_form.specs.Whole.{Whole, with_store}
-use Rattle.flat_form.proofs.AgreeLemmas.{Agree, AlikeStates, BothStates, NoState, list_all_same}
-use Rattle.flat_form.proofs.LoopLemmas.{read_same, write_same}
-use Rattle.flat_form.proofs.NamedLemmas.{ExprNamed, GroupNamed, reads_named}
-use Rattle.flat_form.proofs.WordLemmas.{every_more}
+use Rattle.temp_norm.specs.of_zpl_arrays.Array.{Array, has_place}
+use Rattle.temp_norm.specs.of_row_runs.Run.{Does, Goes, Stops, Wrong}
+use Rattle.temp_norm.specs.of_row_runs.Straight.{Every, Flow, OnTo, Tied, TiedHalt, TiedOn, TiedWrong}
+use Rattle.temp_norm.specs.of_row_runs.Straight.{flow_behind, flow_of, flow_step, through}
+use Rattle.temp_norm.specs.of_node_form.declared.arrays.ArrayRow.{ArrayRow}
+use Rattle.temp_norm.specs.of_node_form.declared.instructions.Instr.TheVariants as instr
+use Rattle.temp_norm.specs.of_node_form.declared.tables.Tables.{Tables}
+use Rattle.temp_norm.specs.of_node_form.declared.touches.Thing.{Thing}
+use Rattle.temp_norm.specs.of_node_form.declared.touches.Thing.TheVariants as thing
+use Rattle.temp_norm.specs.of_node_form.declared.words.ExprOp.TheVariants as word
+use Rattle.temp_norm.specs.of_node_form.Value.{unmoved}
+use Rattle.temp_norm.specs.of_grid_meaning.Place.{moved_by}
+use Rattle.temp_norm.specs.of_flat_form.Act.{act}
+use Rattle.temp_norm.specs.of_flat_form.Loop.{from_written, loop_stands, looped}
+use Rattle.temp_norm.specs.of_flat_form.Moves.{found, provided, roomed}
+use Rattle.temp_norm.specs.of_flat_form.Names.{Read, group_cells, group_reads, group_words, row_scalars}
+use Rattle.temp_norm.specs.of_flat_form.Names.{word_cells, word_reads, word_scalars}
+use Rattle.temp_norm.specs.of_flat_form.Right.{are_settled, can_read, can_write, each_covers, has_places}
+use Rattle.temp_norm.specs.of_flat_form.Right.{is_settled, may_read, matches, reads_well, writes_well}
+use Rattle.temp_norm.specs.of_flat_form.Row.{Loop, Plain, Row, Words, mask_words}
+use Rattle.temp_norm.specs.of_flat_form.Whole.{Whole, with_store}
+use Rattle.temp_norm.proofs.of_flat_form.AgreeLemmas.{Agree, AlikeStates, BothStates, NoState, list_all_same}
+use Rattle.temp_norm.proofs.of_flat_form.LoopLemmas.{read_same, write_same}
+use Rattle.temp_norm.proofs.of_flat_form.NamedLemmas.{ExprNamed, GroupNamed, reads_named}
+use Rattle.temp_norm.proofs.of_flat_form.WordLemmas.{every_more}
 use Rattle.temp_norm.specs.Normalised.{is_like, with_temporaries}
 use Rattle.normal_runs.proofs.PlaceLemmas.{all_put, all_read, are_members, has, members_apart}
 use Rattle.normal_runs.proofs.PlaceLemmas.{moved_none, over, set_apart, set_length, set_there}

@@ -5,10 +5,10 @@
 #![tactic(auto)]
 
 ghost use Rattle.std.specs.Prelude.{ℕ};
-ghost use Rattle.node_form.specs.declared.tables.Tables.{Tables as Code};
-ghost use Rattle.node_form.specs.Fits.{Fits};
-ghost use Rattle.row_runs.specs.Segments.{Keeps};
-ghost use Rattle.flat_form.specs.Act.{flat_run};
+ghost use Rattle.temp_norm.specs.of_node_form.declared.tables.Tables.{Tables as Code};
+ghost use Rattle.temp_norm.specs.of_node_form.Fits.{Fits};
+ghost use Rattle.temp_norm.specs.of_row_runs.Segments.{Keeps};
+ghost use Rattle.temp_norm.specs.of_flat_form.Act.{flat_run};
 ghost use Rattle.temp_norm.specs.Normalised.{normalised};
 
 /// A flat program whose values go through temporaries shows what it showed without them, for every

@@ -26,25 +26,25 @@ use Rattle.row_runs.specs.Structured.{Course, rows_do}
 use Rattle.flat_form.specs.Names.{word_reads}
 use Rattle.flat_form.specs.Right.{can_read}
 use Rattle.flat_form.specs.Whole.{Whole}
-use Rattle.zpl_lowering.specs.Where.{Stored, Slotted, Where, Next, slotted_at, rank_for}
-use Rattle.zpl_lowering.specs.Reference.{Reference, mask_reference, over_reference, refer_to}
-use Rattle.zpl_lowering.specs.Slate.{Placed, settled}
-use Rattle.zpl_lowering.specs.Lowered.{first_left, phased_with}
-use Rattle.zpl_lowering.specs.Statement.{lowered_array, placed_in, put_row}
-use Rattle.lowering_runs.specs.Seen.{Spot, Sight, seen_currents, seen_place, seen_store}
-use Rattle.lowering_runs.specs.Run.{does, decide, step}
-use Rattle.lowering_runs.specs.Agrees.{Agrees, Trapping}
-use Rattle.lowering_runs.proofs.AgreeLemmas.{led_agrees, weaker_agrees}
-use Rattle.lowering_runs.specs.Stands.{HasRoom, IsLike, Stands}
-use Rattle.array_runs.specs.Floods.{IsReadableMaskAs, IsWritableAs}
-use Rattle.array_runs.specs.Reads.{EachMatches}
-use Rattle.array_runs.specs.Gates.{holds}
-use Rattle.array_runs.specs.Assigned.{IsWritable}
-use Rattle.array_runs.specs.Elementwise.{IsReadable, IsReadableMask}
-use Rattle.array_runs.proofs.CodedLemmas.{CurrentOf, current_of}
-use Rattle.array_runs.proofs.FloodLemmas.{mask_readable, writable}
-use Rattle.array_runs.proofs.TargetLemmas.{covers_matching}
-use Rattle.prefix_runs.proofs.UnderLemmas.{taken_at}
+use Rattle.print_runs.specs.of_zpl_lowering.Where.{Stored, Slotted, Where, Next, slotted_at, rank_for}
+use Rattle.print_runs.specs.of_zpl_lowering.Reference.{Reference, mask_reference, over_reference, refer_to}
+use Rattle.print_runs.specs.of_zpl_lowering.Slate.{Placed, settled}
+use Rattle.print_runs.specs.of_zpl_lowering.Lowered.{first_left, phased_with}
+use Rattle.print_runs.specs.of_zpl_lowering.Statement.{lowered_array, placed_in, put_row}
+use Rattle.print_runs.specs.of_lowering_runs.Seen.{Spot, Sight, seen_currents, seen_place, seen_store}
+use Rattle.print_runs.specs.of_lowering_runs.Run.{does, decide, step}
+use Rattle.print_runs.specs.of_lowering_runs.Agrees.{Agrees, Trapping}
+use Rattle.print_runs.proofs.of_lowering_runs.AgreeLemmas.{led_agrees, weaker_agrees}
+use Rattle.print_runs.specs.of_lowering_runs.Stands.{HasRoom, IsLike, Stands}
+use Rattle.print_runs.specs.of_array_runs.Floods.{IsReadableMaskAs, IsWritableAs}
+use Rattle.print_runs.specs.of_array_runs.Reads.{EachMatches}
+use Rattle.print_runs.specs.of_array_runs.Gates.{holds}
+use Rattle.print_runs.specs.of_array_runs.Assigned.{IsWritable}
+use Rattle.print_runs.specs.of_array_runs.Elementwise.{IsReadable, IsReadableMask}
+use Rattle.print_runs.proofs.of_array_runs.CodedLemmas.{CurrentOf, current_of}
+use Rattle.print_runs.proofs.of_array_runs.FloodLemmas.{mask_readable, writable}
+use Rattle.print_runs.proofs.of_array_runs.TargetLemmas.{covers_matching}
+use Rattle.call_runs.proofs.of_prefix_runs.UnderLemmas.{taken_at}
 use Rattle.operator_runs.specs.Meant.{InSlot, Site, Under}
 use Rattle.operator_runs.specs.Hoists.{IsReadWell, MoreValues, NoValues, Unused, tests_of}
 use Rattle.operator_runs.specs.Phases.{AreTakenBy, Phases, PassTo, OneTraps}

@@ -1,8 +1,8 @@
 -- The region of a slot, as a current one.
 use Rattle.std.proofs.Common.{refl, List}
 use Rattle.zpl_region.specs.declared.regions.Region.{Region}
-use Rattle.zpl_lowering.specs.Where.{Slotted}
-use Rattle.lowering_runs.specs.Stands.{IsCurrent}
+use Rattle.print_runs.specs.of_zpl_lowering.Where.{Slotted}
+use Rattle.print_runs.specs.of_lowering_runs.Stands.{IsCurrent}
 use Rattle.operator_runs.specs.Meant.{InSlot}
 
 -- a slot with a region has it as the current one

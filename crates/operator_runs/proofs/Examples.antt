@@ -23,12 +23,12 @@ use Rattle.node_form.specs.Expression.{Variable}
 use Rattle.row_runs.specs.Structured.{flattened, goes_on}
 use Rattle.flat_form.specs.Row as row
 use Rattle.flat_form.specs.Whole.{Whole}
-use Rattle.zpl_lowering.specs.Where.{Numbers, Slotted}
-use Rattle.zpl_lowering.specs.Slate as slate
-use Rattle.zpl_lowering.specs.Slate.{Slate}
-use Rattle.zpl_lowering.specs.Hoist.{Free, hoisted}
+use Rattle.print_runs.specs.of_zpl_lowering.Where.{Numbers, Slotted}
+use Rattle.print_runs.specs.of_zpl_lowering.Slate as slate
+use Rattle.print_runs.specs.of_zpl_lowering.Slate.{Slate}
+use Rattle.print_runs.specs.of_zpl_lowering.Hoist.{Free, hoisted}
 use Rattle.row_runs.specs.Code.{Straight}
-use Rattle.lowering_runs.specs.Run.{does}
+use Rattle.print_runs.specs.of_lowering_runs.Run.{does}
 use Rattle.operator_runs.specs.Hoists.{tests_of}
 
 abbrev line : Region

@@ -25,11 +25,11 @@ use Rattle.flat_form.specs.Right.{is_settled}
 use Rattle.flat_form.specs.Row as row
 use Rattle.flat_form.specs.Row.{Row, Words}
 use Rattle.flat_form.specs.Whole.{Whole}
-use Rattle.lowering_runs.specs.Run.{decide, step, straight}
-use Rattle.lowering_runs.specs.Seen.{scalar_in}
-use Rattle.lowering_runs.specs.Stands.{IsSound}
-use Rattle.lowering_runs.proofs.NumberLemmas.{get_same, get_other, get_set_same, get_set_other, length_set}
-use Rattle.lowering_runs.proofs.RowLemmas.{set_step, settled_act}
+use Rattle.print_runs.specs.of_lowering_runs.Run.{decide, step, straight}
+use Rattle.print_runs.specs.of_lowering_runs.Seen.{scalar_in}
+use Rattle.print_runs.specs.of_lowering_runs.Stands.{IsSound}
+use Rattle.print_runs.proofs.of_lowering_runs.NumberLemmas.{get_same, get_other, get_set_same, get_set_other, length_set}
+use Rattle.print_runs.proofs.of_lowering_runs.RowLemmas.{set_step, settled_act}
 use Rattle.operator_runs.proofs.JoinLemmas.{acc_group, with_total, IsJoining, totalled, join_totals}
 
 -- ---- the state behind them

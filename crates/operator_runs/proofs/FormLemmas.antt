@@ -15,18 +15,18 @@ use Rattle.zpl_meaning.specs.Outcome.{Outcome}
 use Rattle.zpl_meaning.specs.Statement as mean
 use Rattle.zpl_meaning.specs.Statement.{Context}
 use Rattle.flat_form.specs.Whole.{Whole}
-use Rattle.zpl_lowering.specs.Where.{Slotted, Where, Next, line_of}
-use Rattle.zpl_lowering.specs.Lowered.{Lowered}
-use Rattle.zpl_lowering.specs.Statement as low
-use Rattle.zpl_lowering.specs.Statement.{Lowering}
-use Rattle.lowering_runs.specs.Seen.{Sight, numbered, place_of, seen_place, seen_store, seen_thing}
-use Rattle.lowering_runs.specs.Run.{does}
-use Rattle.lowering_runs.specs.Agrees.{Agrees}
-use Rattle.lowering_runs.specs.Goes.{World, Goes, context, lowering}
-use Rattle.lowering_runs.specs.Stands.{HasRoom, IsLike, Stands}
-use Rattle.lowering_runs.proofs.FitLemmas.{anew_goes}
-use Rattle.lowering_runs.proofs.NumberLemmas.{get_some, number_below}
-use Rattle.lowering_runs.proofs.ValueLemmas.{known_thing, thing_seen}
+use Rattle.print_runs.specs.of_zpl_lowering.Where.{Slotted, Where, Next, line_of}
+use Rattle.print_runs.specs.of_zpl_lowering.Lowered.{Lowered}
+use Rattle.print_runs.specs.of_zpl_lowering.Statement as low
+use Rattle.print_runs.specs.of_zpl_lowering.Statement.{Lowering}
+use Rattle.print_runs.specs.of_lowering_runs.Seen.{Sight, numbered, place_of, seen_place, seen_store, seen_thing}
+use Rattle.print_runs.specs.of_lowering_runs.Run.{does}
+use Rattle.print_runs.specs.of_lowering_runs.Agrees.{Agrees}
+use Rattle.print_runs.specs.of_lowering_runs.Goes.{World, Goes, context, lowering}
+use Rattle.print_runs.specs.of_lowering_runs.Stands.{HasRoom, IsLike, Stands}
+use Rattle.print_runs.proofs.of_lowering_runs.FitLemmas.{anew_goes}
+use Rattle.print_runs.proofs.of_lowering_runs.NumberLemmas.{get_some, number_below}
+use Rattle.print_runs.proofs.of_lowering_runs.ValueLemmas.{known_thing, thing_seen}
 use Rattle.operator_runs.specs.Operated.{IsOperated}
 use Rattle.operator_runs.specs.Served.{IsScalarOperated, IsArrayOperated}
 use Rattle.operator_runs.proofs.NodeLemmas.{assigned_few}

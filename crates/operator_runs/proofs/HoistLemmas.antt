@@ -1,7 +1,7 @@
 -- The rows of a slate's operators compute what its term has in their places, and what is left of it
 -- has the values of the term's field.
 use Rattle.std.proofs.Common.{◌&&◌}
-use Rattle.zpl_lowering.specs.Reference.{mask_reference}
+use Rattle.print_runs.specs.of_zpl_lowering.Reference.{mask_reference}
 use Rattle.zpl_meaning.specs.Context.{Mask}
 use Rattle.std.proofs.Common.{suc, inr}
 use Rattle.std.specs.Prelude.{◌==◌, All, not, option_and_then}
@@ -28,19 +28,19 @@ use Rattle.flat_form.specs.Right.{can_write}
 use Rattle.flat_form.specs.Row as row
 use Rattle.flat_form.specs.States.{IsStoreOf}
 use Rattle.normal_runs.proofs.PlaceLemmas.{set_apart, set_there}
-use Rattle.zpl_lowering.specs.Tables.{temp_row}
-use Rattle.zpl_lowering.specs.Reference.{refer_to}
-use Rattle.zpl_lowering.specs.Hoist.{along_of, kept_rows, masked_scan, number_of, scan_with, scanning}
-use Rattle.lowering_runs.specs.Run.{straight}
-use Rattle.lowering_runs.specs.Stands.{TempsAt}
-use Rattle.lowering_runs.proofs.FitLemmas.{temps_rest}
-use Rattle.lowering_runs.proofs.RowLemmas.{settled_act}
-use Rattle.array_puts.specs.Put.{assigned, put_group, with_array_in}
-use Rattle.array_puts.proofs.PutLemmas.{choice, number_in}
-use Rattle.array_runs.specs.Elementwise.{IsReadable}
-use Rattle.array_runs.proofs.ElementLemmas.{element_part}
-use Rattle.array_runs.proofs.FloodLemmas.{current_floods}
-use Rattle.array_runs.proofs.StoredLemmas.{found_array, zip_at}
+use Rattle.print_runs.specs.of_zpl_lowering.Tables.{temp_row}
+use Rattle.print_runs.specs.of_zpl_lowering.Reference.{refer_to}
+use Rattle.print_runs.specs.of_zpl_lowering.Hoist.{along_of, kept_rows, masked_scan, number_of, scan_with, scanning}
+use Rattle.print_runs.specs.of_lowering_runs.Run.{straight}
+use Rattle.print_runs.specs.of_lowering_runs.Stands.{TempsAt}
+use Rattle.print_runs.proofs.of_lowering_runs.FitLemmas.{temps_rest}
+use Rattle.print_runs.proofs.of_lowering_runs.RowLemmas.{settled_act}
+use Rattle.print_runs.specs.of_array_puts.Put.{assigned, put_group, with_array_in}
+use Rattle.print_runs.proofs.of_array_puts.PutLemmas.{choice, number_in}
+use Rattle.print_runs.specs.of_array_runs.Elementwise.{IsReadable}
+use Rattle.print_runs.proofs.of_array_runs.ElementLemmas.{element_part}
+use Rattle.print_runs.proofs.of_array_runs.FloodLemmas.{current_floods}
+use Rattle.print_runs.proofs.of_array_runs.StoredLemmas.{found_array, zip_at}
 use Rattle.print_runs.proofs.TempLemmas.{room_step}
 use Rattle.operator_runs.specs.Meant.{IsAlong, PartFoldedMeant, ScannedMeant, FloodedMeant}
 use Rattle.operator_runs.proofs.MeantLemmas.{mask_in}
@@ -49,8 +49,8 @@ use Rattle.operator_runs.proofs.StateLemmas as state
 use Rattle.operator_runs.proofs.StateLemmas.{AreApart, HasState, holds_in, mask_held, refer_at, refers_held}
 use Rattle.zpl_region.specs.Hull.{IsBoxed}
 use Rattle.zpl_arrays.specs.Around.{around_source, copy_shift}
-use Rattle.zpl_lowering.specs.Reference.{at_place}
-use Rattle.array_runs.specs.Reads.{EachCovers}
+use Rattle.print_runs.specs.of_zpl_lowering.Reference.{at_place}
+use Rattle.print_runs.specs.of_array_runs.Reads.{EachCovers}
 use Rattle.operator_runs.specs.Meant.{IsAround, WrappedMeant}
 use Rattle.operator_runs.specs.Copies.{AllCopied, AreCopied, IsCopy}
 use Rattle.operator_runs.proofs.WrapPlaceLemmas.{is_copying}
@@ -103,27 +103,27 @@ use Rattle.flat_form.specs.Right.{can_read, no_flood}
 use Rattle.flat_form.specs.Row.{Row, Words, mask_words}
 use Rattle.flat_form.specs.Whole.{Whole}
 use Rattle.flat_form.proofs.WordLemmas.{every_append}
-use Rattle.zpl_lowering.specs.Where.{Stored, Slotted, Where, Next}
-use Rattle.zpl_lowering.specs.Words.{variable_code}
-use Rattle.zpl_lowering.specs.Slate as slate
-use Rattle.zpl_lowering.specs.Slate.{Slate, Slates, NoSlate, ThenSlate}
-use Rattle.zpl_lowering.specs.Reference.{Reference, all_referred, is_unmoved, over_reference, referred, vector_over}
-use Rattle.zpl_lowering.specs.Hoist as hoist
-use Rattle.zpl_lowering.specs.Hoist.{Hoisted, all_hoisted, fold_rows, hoisted, mask_code, neighbour_if, stored_element, unary_code}
-use Rattle.lowering_runs.specs.Run.{decide, does, step}
-use Rattle.lowering_runs.specs.Seen.{Spot, numbered, place_of, seen_store}
-use Rattle.lowering_runs.specs.Scalars.{IsSameValue, BothGive as BothGive_, BothDivide as BothDivide_}
-use Rattle.lowering_runs.specs.Stands.{AreStored, IsSound, Rises, Stands}
-use Rattle.lowering_runs.proofs.AgreeLemmas.{sum_of}
-use Rattle.lowering_runs.proofs.NumberLemmas.{get_same, number_below, rises_on}
-use Rattle.lowering_runs.proofs.ValueLemmas.{place_same}
-use Rattle.array_puts.specs.Put.{IsSame, BothGive, BothDivide, IsMask}
-use Rattle.array_runs.specs.Gates.{holds}
-use Rattle.array_runs.specs.Elementwise.{IsReadableMask}
-use Rattle.array_runs.specs.Integers.{GivesIntegers, HasIntegers}
-use Rattle.array_runs.proofs.IntegerLemmas.{IfGives, array_integers, element_integer, kept_integer, store_integers, unit_integer}
-use Rattle.array_runs.proofs.PartLemmas.{IsPart, all_append, both_true, coordinate_part}
-use Rattle.array_runs.proofs.MaskLemmas.{IsMasking}
+use Rattle.print_runs.specs.of_zpl_lowering.Where.{Stored, Slotted, Where, Next}
+use Rattle.print_runs.specs.of_zpl_lowering.Words.{variable_code}
+use Rattle.print_runs.specs.of_zpl_lowering.Slate as slate
+use Rattle.print_runs.specs.of_zpl_lowering.Slate.{Slate, Slates, NoSlate, ThenSlate}
+use Rattle.print_runs.specs.of_zpl_lowering.Reference.{Reference, all_referred, is_unmoved, over_reference, referred, vector_over}
+use Rattle.print_runs.specs.of_zpl_lowering.Hoist as hoist
+use Rattle.print_runs.specs.of_zpl_lowering.Hoist.{Hoisted, all_hoisted, fold_rows, hoisted, mask_code, neighbour_if, stored_element, unary_code}
+use Rattle.print_runs.specs.of_lowering_runs.Run.{decide, does, step}
+use Rattle.print_runs.specs.of_lowering_runs.Seen.{Spot, numbered, place_of, seen_store}
+use Rattle.print_runs.specs.of_lowering_runs.Scalars.{IsSameValue, BothGive as BothGive_, BothDivide as BothDivide_}
+use Rattle.print_runs.specs.of_lowering_runs.Stands.{AreStored, IsSound, Rises, Stands}
+use Rattle.print_runs.proofs.of_lowering_runs.AgreeLemmas.{sum_of}
+use Rattle.print_runs.proofs.of_lowering_runs.NumberLemmas.{get_same, number_below, rises_on}
+use Rattle.print_runs.proofs.of_lowering_runs.ValueLemmas.{place_same}
+use Rattle.print_runs.specs.of_array_puts.Put.{IsSame, BothGive, BothDivide, IsMask}
+use Rattle.print_runs.specs.of_array_runs.Gates.{holds}
+use Rattle.print_runs.specs.of_array_runs.Elementwise.{IsReadableMask}
+use Rattle.print_runs.specs.of_array_runs.Integers.{GivesIntegers, HasIntegers}
+use Rattle.print_runs.proofs.of_array_runs.IntegerLemmas.{IfGives, array_integers, element_integer, kept_integer, store_integers, unit_integer}
+use Rattle.print_runs.proofs.of_array_runs.PartLemmas.{IsPart, all_append, both_true, coordinate_part}
+use Rattle.print_runs.proofs.of_array_runs.MaskLemmas.{IsMasking}
 use Rattle.operator_runs.specs.Meant.{Site, Alone, Under, InSlot, IsSite, IsMeant}
 use Rattle.operator_runs.specs.Meant.{ConstantMeant, VariableMeant, CoordinateMeant, ElementMeant}
 use Rattle.operator_runs.specs.Meant.{UnaryMeant, BinaryMeant, FoldedMeant, AreMeant, NoneMeant, MoreMeant, AreMeantAt, NoneAt, MoreAt}

@@ -12,12 +12,12 @@ use Rattle.zpl_meaning.specs.Computed.{both_then}
 use Rattle.zpl_meaning.specs.Store.{Store, scalar_at}
 use Rattle.zpl_meaning.specs.Term.{Term, Terms}
 use Rattle.zpl_meaning.specs.Fields.{Field, field_of, fields_of}
-use Rattle.zpl_lowering.specs.Where.{Where}
-use Rattle.zpl_lowering.specs.Slate.{Slate, Slates}
+use Rattle.print_runs.specs.of_zpl_lowering.Where.{Where}
+use Rattle.print_runs.specs.of_zpl_lowering.Slate.{Slate, Slates}
 use Rattle.row_runs.specs.Straight.{Every}
-use Rattle.lowering_runs.specs.Seen.{Spot, place_of}
-use Rattle.array_runs.specs.Integers.{AreIntegers, GivesIntegers, HasIntegers}
-use Rattle.array_runs.proofs.IntegerLemmas.{IfGives, term_integers, unit_integer}
+use Rattle.print_runs.specs.of_lowering_runs.Seen.{Spot, place_of}
+use Rattle.print_runs.specs.of_array_runs.Integers.{AreIntegers, GivesIntegers, HasIntegers}
+use Rattle.print_runs.proofs.of_array_runs.IntegerLemmas.{IfGives, term_integers, unit_integer}
 use Rattle.operator_runs.specs.Meant.{Site, Under, IsMeant, IsSite, AreMeantAt, NoneAt, MoreAt}
 use Rattle.operator_runs.specs.Meant.{ConstantMeant, VariableMeant, CoordinateMeant, ElementMeant, WrappedMeant}
 use Rattle.operator_runs.specs.Meant.{UnaryMeant, BinaryMeant, FoldedMeant, PartFoldedMeant, ScannedMeant, FloodedMeant, RemappedMeant}

@@ -33,10 +33,10 @@ use Rattle.flat_form.specs.Row.{Member, Acc, Words, mask_words, numbered}
 use Rattle.flat_form.specs.Whole.{Whole}
 use Rattle.normal_runs.proofs.PutLemmas.{wanted, value_in, put_if, start_point, Sum, AllGive}
 use Rattle.normal_runs.proofs.PutLemmas.{SomeDivides, SomeLacks, summed, with_one}
-use Rattle.array_puts.specs.Put.{IsSame, IsMask, operands_in}
-use Rattle.array_puts.proofs.PutLemmas.{IsPut, one_put, Sums, AllSummed, OneDivides}
-use Rattle.array_puts.proofs.PutLemmas.{new, sums, value_at}
-use Rattle.array_puts.proofs.WriteLemmas.{every_among, value_put}
+use Rattle.print_runs.specs.of_array_puts.Put.{IsSame, IsMask, operands_in}
+use Rattle.print_runs.proofs.of_array_puts.PutLemmas.{IsPut, one_put, Sums, AllSummed, OneDivides}
+use Rattle.print_runs.proofs.of_array_puts.PutLemmas.{new, sums, value_at}
+use Rattle.print_runs.proofs.of_array_puts.WriteLemmas.{every_among, value_put}
 
 -- ---- one tuple
 

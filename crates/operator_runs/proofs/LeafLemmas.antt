@@ -5,17 +5,17 @@ use Rattle.zpl_tree.specs.Syntax.{Stmt, Form, Assign, Invoke, Block, If, While, 
 use Rattle.zpl_names.specs.Counts.{expr_nodes, item_nodes, own_nodes}
 use Rattle.zpl_meaning.specs.Context.{Setup, Place}
 use Rattle.zpl_meaning.specs.Statement as mean
-use Rattle.zpl_lowering.specs.Where.{Where}
-use Rattle.zpl_lowering.specs.Statement as low
-use Rattle.lowering_runs.specs.Seen.{seen_place}
-use Rattle.lowering_runs.specs.Goes.{World, Goes, TestsGo}
-use Rattle.lowering_runs.specs.Called.{CallsAgree}
-use Rattle.lowering_runs.specs.Suits.{SuitsStmtBy}
-use Rattle.lowering_runs.proofs.ControlLemmas.{scalar_tests}
-use Rattle.lowering_runs.proofs.SuitLemmas.{either_goes, leaf_goes, spare_more, LeafGoes}
-use Rattle.prefix_runs.specs.Plain.{PlainLeaf}
-use Rattle.prefix_runs.specs.Under.{IsUnder}
-use Rattle.prefix_runs.proofs.PlainLemmas.{plain_leaves, suited_agrees_by}
+use Rattle.print_runs.specs.of_zpl_lowering.Where.{Where}
+use Rattle.print_runs.specs.of_zpl_lowering.Statement as low
+use Rattle.print_runs.specs.of_lowering_runs.Seen.{seen_place}
+use Rattle.print_runs.specs.of_lowering_runs.Goes.{World, Goes, TestsGo}
+use Rattle.print_runs.specs.of_lowering_runs.Called.{CallsAgree}
+use Rattle.print_runs.specs.of_lowering_runs.Suits.{SuitsStmtBy}
+use Rattle.print_runs.proofs.of_lowering_runs.ControlLemmas.{scalar_tests}
+use Rattle.print_runs.proofs.of_lowering_runs.SuitLemmas.{either_goes, leaf_goes, spare_more, LeafGoes}
+use Rattle.call_runs.specs.of_prefix_runs.Plain.{PlainLeaf}
+use Rattle.call_runs.specs.of_prefix_runs.Under.{IsUnder}
+use Rattle.call_runs.proofs.of_prefix_runs.PlainLemmas.{plain_leaves, suited_agrees_by}
 use Rattle.operator_runs.specs.Served.{IsScalarOperated, IsArrayOperated, OperatedLeaf, OperatedValue, AnyLeaf, AnyTest}
 use Rattle.operator_runs.proofs.TestLemmas.{tests_go}
 use Rattle.operator_runs.proofs.FormLemmas.{scalar_goes, array_goes}

@@ -38,3 +38,5 @@ pub mod TestLemmas
 pub mod ValueLemmas
 pub mod ReturnLemmas
 mod Examples
+pub use Rattle.border_runs.proofs as of_border_runs
+pub use Rattle.call_runs.proofs as of_call_runs

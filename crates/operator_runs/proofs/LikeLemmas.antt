@@ -8,15 +8,15 @@ use Rattle.zpl_meaning.specs.Store.{Store}
 use Rattle.node_form.specs.declared.tables.Tables.{Tables}
 use Rattle.row_runs.specs.Straight.{Every}
 use Rattle.flat_form.specs.Whole.{Whole}
-use Rattle.zpl_lowering.specs.Where.{Slotted, Stored, Where, Next}
-use Rattle.zpl_lowering.specs.Reference.{Reference}
-use Rattle.lowering_runs.specs.Seen.{Spot, slot_in}
-use Rattle.lowering_runs.specs.Stands.{IsLike, IsSound, Stands}
-use Rattle.lowering_runs.proofs.FitLemmas.{held_on}
-use Rattle.array_runs.specs.Gates.{IsThere, holds, lies}
-use Rattle.array_runs.proofs.LikeLemmas.{index_if, index_is}
-use Rattle.prefix_runs.specs.Filled.{IsFilled}
-use Rattle.prefix_runs.proofs.UnderLemmas.{filled_sound, store_kept}
+use Rattle.print_runs.specs.of_zpl_lowering.Where.{Slotted, Stored, Where, Next}
+use Rattle.print_runs.specs.of_zpl_lowering.Reference.{Reference}
+use Rattle.print_runs.specs.of_lowering_runs.Seen.{Spot, slot_in}
+use Rattle.print_runs.specs.of_lowering_runs.Stands.{IsLike, IsSound, Stands}
+use Rattle.print_runs.proofs.of_lowering_runs.FitLemmas.{held_on}
+use Rattle.print_runs.specs.of_array_runs.Gates.{IsThere, holds, lies}
+use Rattle.print_runs.proofs.of_array_runs.LikeLemmas.{index_if, index_is}
+use Rattle.call_runs.specs.of_prefix_runs.Filled.{IsFilled}
+use Rattle.call_runs.proofs.of_prefix_runs.UnderLemmas.{filled_sound, store_kept}
 use Rattle.operator_runs.specs.Meant.{Site, Alone, Under, InSlot, IsSite}
 use Rattle.operator_runs.specs.Hoists.{Own, Spares, Unused}
 use Rattle.operator_runs.proofs.ReadLemmas.{in_slot_on}

@@ -18,11 +18,11 @@ use Rattle.row_runs.specs.Structured.{Course, by_step, rows_do}
 use Rattle.flat_form.specs.Row.{Row}
 use Rattle.flat_form.specs.Whole.{Whole}
 use Rattle.flat_form.proofs.WordLemmas.{every_append}
-use Rattle.zpl_lowering.specs.Where.{Stored, Slotted, Where}
-use Rattle.zpl_lowering.specs.Slate as slate
-use Rattle.zpl_lowering.specs.Slate.{Slate, Slates}
-use Rattle.zpl_lowering.specs.Reference.{Reference, all_conforming, all_referred, conforming, over_reference, referred, vector_over}
-use Rattle.zpl_lowering.specs.Hoist.{element_code}
+use Rattle.print_runs.specs.of_zpl_lowering.Where.{Stored, Slotted, Where}
+use Rattle.print_runs.specs.of_zpl_lowering.Slate as slate
+use Rattle.print_runs.specs.of_zpl_lowering.Slate.{Slate, Slates}
+use Rattle.print_runs.specs.of_zpl_lowering.Reference.{Reference, all_conforming, all_referred, conforming, over_reference, referred, vector_over}
+use Rattle.print_runs.specs.of_zpl_lowering.Hoist.{element_code}
 use Rattle.zpl_nums.specs.declared.ends.End.TheVariants.{Trap}
 use Rattle.zpl_arrays.specs.Conformity.{flood_conforms, reduction_conforms}
 use Rattle.node_form.specs.Control as control
@@ -34,24 +34,24 @@ use Rattle.row_runs.specs.Run.{Ends, Goes, Step, Stops}
 use Rattle.flat_form.specs.Act.{controlled}
 use Rattle.flat_form.specs.Row as row
 use Rattle.flat_form.specs.Whole.{registers_of}
-use Rattle.lowering_runs.proofs.RowLemmas.{settled_act}
-use Rattle.lowering_runs.specs.Run.{decide, step, straight}
-use Rattle.lowering_runs.specs.Seen.{Spot, seen_store}
-use Rattle.lowering_runs.specs.Stands.{AreStored, IsSound}
-use Rattle.array_runs.specs.Gates.{IsThere, holds}
-use Rattle.array_runs.specs.Elementwise.{IsReadable, IsReadableMask}
-use Rattle.array_runs.proofs.StoredLemmas.{found_array}
-use Rattle.array_runs.proofs.PartLemmas.{IsPart, all_append}
-use Rattle.array_runs.proofs.ElementLemmas.{element_part}
-use Rattle.array_runs.proofs.MaskLemmas.{IsMasking, masking}
+use Rattle.print_runs.proofs.of_lowering_runs.RowLemmas.{settled_act}
+use Rattle.print_runs.specs.of_lowering_runs.Run.{decide, step, straight}
+use Rattle.print_runs.specs.of_lowering_runs.Seen.{Spot, seen_store}
+use Rattle.print_runs.specs.of_lowering_runs.Stands.{AreStored, IsSound}
+use Rattle.print_runs.specs.of_array_runs.Gates.{IsThere, holds}
+use Rattle.print_runs.specs.of_array_runs.Elementwise.{IsReadable, IsReadableMask}
+use Rattle.print_runs.proofs.of_array_runs.StoredLemmas.{found_array}
+use Rattle.print_runs.proofs.of_array_runs.PartLemmas.{IsPart, all_append}
+use Rattle.print_runs.proofs.of_array_runs.ElementLemmas.{element_part}
+use Rattle.print_runs.proofs.of_array_runs.MaskLemmas.{IsMasking, masking}
 use Rattle.operator_runs.specs.Meant.{Site, Under, InSlot, IsSite, IsMeant, AreMeant}
 use Rattle.operator_runs.specs.Meant.{ConstantMeant, VariableMeant, CoordinateMeant, ElementMeant, WrappedMeant}
 use Rattle.operator_runs.specs.Meant.{UnaryMeant, BinaryMeant, FoldedMeant, PartFoldedMeant, ScannedMeant, FloodedMeant, RemappedMeant, NoneMeant, MoreMeant, AreMeantAt, NoneAt, MoreAt}
 use Rattle.operator_runs.specs.Guards.{guard}
 use Rattle.zpl_arrays.specs.Around.{copy_shift}
 use Rattle.zpl_arrays.specs.Reference.{lies_in}
-use Rattle.zpl_lowering.specs.Reference.{at_place}
-use Rattle.array_runs.specs.Reads.{EachCovers}
+use Rattle.print_runs.specs.of_zpl_lowering.Reference.{at_place}
+use Rattle.print_runs.specs.of_array_runs.Reads.{EachCovers}
 use Rattle.operator_runs.specs.Meant.{IsAround}
 use Rattle.operator_runs.specs.Hoists.{Own, copies_of}
 use Rattle.operator_runs.specs.Copies.{AllCopied, AreCopied, IsCopy}

@@ -11,10 +11,10 @@ use Rattle.zpl_names.specs.Sites.{Printed}
 use Rattle.zpl_meaning.specs.Points.{assigned_expr}
 use Rattle.zpl_meaning.specs.Regions.{vector_in}
 use Rattle.zpl_meaning.specs.Store.{Thing, Scalar, ArrayAt, Fixed, thing_of}
-use Rattle.zpl_lowering.specs.Where.{Slotted, Where, Next, slotted_at}
-use Rattle.zpl_lowering.specs.Slate as slate
-use Rattle.zpl_lowering.specs.Slate.{Slates, around_slate, named_slate, of_opened, opened_source, remap_slate, settled, settled_all, settled_each, shifted_slate, source_of, source_rank, under_source}
-use Rattle.zpl_lowering.specs.Statement.{placed_in, printed_exprs}
+use Rattle.print_runs.specs.of_zpl_lowering.Where.{Slotted, Where, Next, slotted_at}
+use Rattle.print_runs.specs.of_zpl_lowering.Slate as slate
+use Rattle.print_runs.specs.of_zpl_lowering.Slate.{Slates, around_slate, named_slate, of_opened, opened_source, remap_slate, settled, settled_all, settled_each, shifted_slate, source_of, source_rank, under_source}
+use Rattle.print_runs.specs.of_zpl_lowering.Statement.{placed_in, printed_exprs}
 use Rattle.operator_runs.specs.Hoists.{tests_of, tests_of_all}
 
 named_still : (over : Slotted) (thing : Option Thing) → tests_of (named_slate over thing) ≡ 0

@@ -27,8 +27,8 @@ use Rattle.row_runs.specs.Straight.{Every}
 use Rattle.flat_form.proofs.WordLemmas.{every_append}
 use Rattle.node_form.specs.Expression.{Element, Expression, Operation, words_of}
 use Rattle.node_form.specs.Value.{Gives, Operands, and_then, tree_value}
-use Rattle.zpl_lowering.specs.Hoist.{any_of, outside_code, past_dims}
-use Rattle.lowering_runs.proofs.StepLemmas.{le_not}
+use Rattle.print_runs.specs.of_zpl_lowering.Hoist.{any_of, outside_code, past_dims}
+use Rattle.print_runs.proofs.of_lowering_runs.StepLemmas.{le_not}
 
 -- ---- tests that are joined
 

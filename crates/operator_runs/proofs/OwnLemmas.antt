@@ -13,26 +13,26 @@ use Rattle.zpl_region.specs.Dim.{HasStep}
 use Rattle.zpl_region.proofs.HullLemmas.{has_steps}
 use Rattle.zpl_region.proofs.TestLemmas.{is_within_limit_iff}
 use Rattle.zpl_arrays.specs.Around.{copy_shift, copy_storage}
-use Rattle.zpl_lowering.specs.Hoist as hoist
-use Rattle.zpl_lowering.specs.Tables.{stored_row}
-use Rattle.lowering_fits.specs.Storages.{IsStorage}
-use Rattle.lowering_fits.proofs.ArrayLemmas.{row_storage, row_three}
-use Rattle.lowering_fits.proofs.StorageLemmas.{copy_is}
+use Rattle.print_runs.specs.of_zpl_lowering.Hoist as hoist
+use Rattle.print_runs.specs.of_zpl_lowering.Tables.{stored_row}
+use Rattle.print_runs.specs.of_lowering_fits.Storages.{IsStorage}
+use Rattle.print_runs.proofs.of_lowering_fits.ArrayLemmas.{row_storage, row_three}
+use Rattle.print_runs.proofs.of_lowering_fits.StorageLemmas.{copy_is}
 use Rattle.zpl_meaning.specs.Store.{Thing, Scalar, ArrayAt, Fixed, thing_of}
 use Rattle.zpl_meaning.specs.Context.{Mask}
 use Rattle.zpl_meaning.specs.Regions.{vector_in}
 use Rattle.zpl_meaning.specs.Term.{Term, Terms}
 use Rattle.node_form.specs.declared.tables.Tables.{Tables}
 use Rattle.row_runs.specs.Straight.{Every}
-use Rattle.zpl_lowering.specs.Where.{Next, Numbers, SlotCurrents, Slotted, Stored, Where, slotted_at, with_slotted}
-use Rattle.zpl_lowering.specs.Reference.{Reference, all_referred, mask_reference, refer_to, referred}
-use Rattle.zpl_lowering.specs.Slate as slate
-use Rattle.zpl_lowering.specs.Slate.{Placed, Settled, Slate, Slates, NoSlate, ThenSlate, around_slate, border_slots, named_slate, of_opened, opened_source, remap_slate, settled, settled_all, settled_each, shifted_slate, source_of, source_rank, under_source}
-use Rattle.lowering_runs.specs.Seen.{Spot}
-use Rattle.lowering_runs.specs.Stands.{CopiesAt, IsStored, IsTaken, Misses, Stands, array_numbers}
-use Rattle.lowering_runs.proofs.FitLemmas.{copies_first, copies_rest}
-use Rattle.lowering_runs.proofs.NumberLemmas.{misses_free}
-use Rattle.array_runs.specs.Gates.{lies}
+use Rattle.print_runs.specs.of_zpl_lowering.Where.{Next, Numbers, SlotCurrents, Slotted, Stored, Where, slotted_at, with_slotted}
+use Rattle.print_runs.specs.of_zpl_lowering.Reference.{Reference, all_referred, mask_reference, refer_to, referred}
+use Rattle.print_runs.specs.of_zpl_lowering.Slate as slate
+use Rattle.print_runs.specs.of_zpl_lowering.Slate.{Placed, Settled, Slate, Slates, NoSlate, ThenSlate, around_slate, border_slots, named_slate, of_opened, opened_source, remap_slate, settled, settled_all, settled_each, shifted_slate, source_of, source_rank, under_source}
+use Rattle.print_runs.specs.of_lowering_runs.Seen.{Spot}
+use Rattle.print_runs.specs.of_lowering_runs.Stands.{CopiesAt, IsStored, IsTaken, Misses, Stands, array_numbers}
+use Rattle.print_runs.proofs.of_lowering_runs.FitLemmas.{copies_first, copies_rest}
+use Rattle.print_runs.proofs.of_lowering_runs.NumberLemmas.{misses_free}
+use Rattle.print_runs.specs.of_array_runs.Gates.{lies}
 use Rattle.operator_runs.specs.Copies.{AllTakeOthers, AreMissed, HasCopies, IsMissed, IsMissedSite, TakesOthers, all_copy_slots, copy_slots, numbers_from}
 use Rattle.operator_runs.specs.Hoists.{Own}
 use Rattle.operator_runs.specs.Phases.{AreOwn, IsTakenSite}

@@ -21,22 +21,22 @@ use Rattle.row_runs.specs.Structured as code
 use Rattle.row_runs.specs.Structured.{Course, rows_do}
 use Rattle.flat_form.specs.Row.{Row}
 use Rattle.flat_form.specs.Whole.{Whole}
-use Rattle.zpl_lowering.specs.Where.{Where, Next}
-use Rattle.zpl_lowering.specs.Slate.{Placed, Settled, Slates, settled_each}
-use Rattle.zpl_lowering.specs.Reference.{Reference, all_conforming, all_referred, needs}
-use Rattle.zpl_lowering.specs.Hoist.{Hoisted, all_hoisted}
-use Rattle.zpl_lowering.specs.Lowered.{Lowered, both, phased_with, phases_of}
-use Rattle.lowering_runs.specs.Run.{decide, does, step}
-use Rattle.lowering_runs.specs.Seen.{Spot, Sight, seen_place, seen_store}
-use Rattle.lowering_runs.specs.Stands.{HasRoom, IsHeld, IsSound, Misses, Stands, TempsAt}
-use Rattle.lowering_runs.proofs.FitLemmas.{room_first}
-use Rattle.lowering_runs.proofs.PrintLemmas.{rows_append}
-use Rattle.array_runs.specs.Gates.{holds, gate}
-use Rattle.array_runs.specs.Integers.{GivesIntegers}
-use Rattle.array_runs.proofs.GateLemmas.{needs_gate}
-use Rattle.array_runs.proofs.PartLemmas.{both_true}
+use Rattle.print_runs.specs.of_zpl_lowering.Where.{Where, Next}
+use Rattle.print_runs.specs.of_zpl_lowering.Slate.{Placed, Settled, Slates, settled_each}
+use Rattle.print_runs.specs.of_zpl_lowering.Reference.{Reference, all_conforming, all_referred, needs}
+use Rattle.print_runs.specs.of_zpl_lowering.Hoist.{Hoisted, all_hoisted}
+use Rattle.print_runs.specs.of_zpl_lowering.Lowered.{Lowered, both, phased_with, phases_of}
+use Rattle.print_runs.specs.of_lowering_runs.Run.{decide, does, step}
+use Rattle.print_runs.specs.of_lowering_runs.Seen.{Spot, Sight, seen_place, seen_store}
+use Rattle.print_runs.specs.of_lowering_runs.Stands.{HasRoom, IsHeld, IsSound, Misses, Stands, TempsAt}
+use Rattle.print_runs.proofs.of_lowering_runs.FitLemmas.{room_first}
+use Rattle.print_runs.proofs.of_lowering_runs.PrintLemmas.{rows_append}
+use Rattle.print_runs.specs.of_array_runs.Gates.{holds, gate}
+use Rattle.print_runs.specs.of_array_runs.Integers.{GivesIntegers}
+use Rattle.print_runs.proofs.of_array_runs.GateLemmas.{needs_gate}
+use Rattle.print_runs.proofs.of_array_runs.PartLemmas.{both_true}
 use Rattle.row_runs.specs.Straight.{Every}
-use Rattle.prefix_runs.specs.Filled.{IsFilled}
+use Rattle.call_runs.specs.of_prefix_runs.Filled.{IsFilled}
 use Rattle.operator_runs.specs.Meant.{Site, AreMeantAt, IsSite}
 use Rattle.operator_runs.specs.Hoists.{HaveValuesAt, HoistAll, AllReach, OneStumbles, Own, Unused, beyond, copies_of_all, free_of, tests_of_all, unused_at}
 use Rattle.operator_runs.specs.Guards.{guard}

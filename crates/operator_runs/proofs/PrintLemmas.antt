@@ -49,31 +49,31 @@ use Rattle.flat_form.specs.Right.{can_read}
 use Rattle.flat_form.specs.States.{IsStoreOf}
 use Rattle.flat_form.specs.Whole.{Whole}
 use Rattle.normal_runs.proofs.PlaceLemmas.{set_apart, set_there}
-use Rattle.zpl_lowering.specs.Statement as low
-use Rattle.zpl_lowering.specs.Where.{Slotted, Where, Next, is_flood, line_of, slotted_at}
-use Rattle.zpl_lowering.specs.Slate.{Placed, settled_each}
-use Rattle.zpl_lowering.specs.Hoist.{all_hoisted, kept_rows}
-use Rattle.zpl_lowering.specs.Lowered.{free_at, phased}
-use Rattle.zpl_lowering.specs.Statement.{Prints, is_truth, shown_at}
-use Rattle.zpl_lowering.specs.Tables.{temp_row}
-use Rattle.lowering_runs.specs.Seen.{Sight, seen_currents, seen_place, seen_store, numbered, scalar_in}
-use Rattle.lowering_runs.specs.Run.{decide, does, step}
-use Rattle.lowering_runs.specs.Agrees.{Agrees, Going, Trapping}
-use Rattle.lowering_runs.specs.Goes.{World, Goes}
-use Rattle.lowering_runs.specs.Stands.{AreStored, HasRoom, IsLike, Stands, TempsAt, Rises}
-use Rattle.lowering_runs.proofs.AgreeLemmas.{led_agrees, weaker_agrees}
-use Rattle.lowering_runs.proofs.FitLemmas.{anew_goes, temps_rest}
-use Rattle.lowering_runs.proofs.PrintLemmas.{end_prints, line_end, printing, rows_append, typed_step}
-use Rattle.lowering_runs.proofs.RowLemmas.{print_step, set_step, set_to}
-use Rattle.lowering_runs.specs.Scalars.{IsSameValue, BothGive, BothDivide}
-use Rattle.lowering_runs.proofs.NumberLemmas.{get_set_other, get_set_same, rises_on}
-use Rattle.array_puts.specs.Put.{assigned, put_group, with_array_in}
-use Rattle.array_runs.specs.Floods.{three_floods}
-use Rattle.array_runs.proofs.CodedLemmas.{current_of, region_of}
-use Rattle.array_runs.proofs.FloodLemmas.{current_floods}
-use Rattle.array_runs.proofs.StoredLemmas.{zip_at}
-use Rattle.array_runs.specs.Integers.{GivesIntegers}
-use Rattle.prefix_runs.proofs.UnderLemmas.{taken_at}
+use Rattle.print_runs.specs.of_zpl_lowering.Statement as low
+use Rattle.print_runs.specs.of_zpl_lowering.Where.{Slotted, Where, Next, is_flood, line_of, slotted_at}
+use Rattle.print_runs.specs.of_zpl_lowering.Slate.{Placed, settled_each}
+use Rattle.print_runs.specs.of_zpl_lowering.Hoist.{all_hoisted, kept_rows}
+use Rattle.print_runs.specs.of_zpl_lowering.Lowered.{free_at, phased}
+use Rattle.print_runs.specs.of_zpl_lowering.Statement.{Prints, is_truth, shown_at}
+use Rattle.print_runs.specs.of_zpl_lowering.Tables.{temp_row}
+use Rattle.print_runs.specs.of_lowering_runs.Seen.{Sight, seen_currents, seen_place, seen_store, numbered, scalar_in}
+use Rattle.print_runs.specs.of_lowering_runs.Run.{decide, does, step}
+use Rattle.print_runs.specs.of_lowering_runs.Agrees.{Agrees, Going, Trapping}
+use Rattle.print_runs.specs.of_lowering_runs.Goes.{World, Goes}
+use Rattle.print_runs.specs.of_lowering_runs.Stands.{AreStored, HasRoom, IsLike, Stands, TempsAt, Rises}
+use Rattle.print_runs.proofs.of_lowering_runs.AgreeLemmas.{led_agrees, weaker_agrees}
+use Rattle.print_runs.proofs.of_lowering_runs.FitLemmas.{anew_goes, temps_rest}
+use Rattle.print_runs.proofs.of_lowering_runs.PrintLemmas.{end_prints, line_end, printing, rows_append, typed_step}
+use Rattle.print_runs.proofs.of_lowering_runs.RowLemmas.{print_step, set_step, set_to}
+use Rattle.print_runs.specs.of_lowering_runs.Scalars.{IsSameValue, BothGive, BothDivide}
+use Rattle.print_runs.proofs.of_lowering_runs.NumberLemmas.{get_set_other, get_set_same, rises_on}
+use Rattle.print_runs.specs.of_array_puts.Put.{assigned, put_group, with_array_in}
+use Rattle.print_runs.specs.of_array_runs.Floods.{three_floods}
+use Rattle.print_runs.proofs.of_array_runs.CodedLemmas.{current_of, region_of}
+use Rattle.print_runs.proofs.of_array_runs.FloodLemmas.{current_floods}
+use Rattle.print_runs.proofs.of_array_runs.StoredLemmas.{zip_at}
+use Rattle.print_runs.specs.of_array_runs.Integers.{GivesIntegers}
+use Rattle.call_runs.proofs.of_prefix_runs.UnderLemmas.{taken_at}
 use Rattle.print_runs.specs.Printed.{HasNoFlood}
 use Rattle.print_runs.proofs.TempLemmas.{all_written, computed_array, gather_step, loop_step, room_step, text_same}
 use Rattle.operator_runs.specs.Meant.{InSlot, Under, Alone, Site, IsSite}

@@ -34,27 +34,27 @@ use Rattle.flat_form.specs.Loop.{loop_stands, looped, operands_at}
 use Rattle.flat_form.specs.Right.{can_read, can_write, has_places, writes_well}
 use Rattle.flat_form.specs.Whole.{Whole}
 use Rattle.normal_runs.proofs.PlaceLemmas.{moved_none}
-use Rattle.zpl_lowering.specs.Where.{Stored, Slotted, Where, Next}
-use Rattle.zpl_lowering.specs.Reference.{mask_reference, refer_to}
-use Rattle.zpl_lowering.specs.Hoist.{mask_code}
-use Rattle.lowering_runs.specs.Seen.{Spot}
-use Rattle.lowering_runs.specs.Run.{decide, step, straight}
-use Rattle.lowering_runs.specs.Agrees.{Agrees, Going, Trapping}
-use Rattle.lowering_runs.specs.Stands.{IsLike}
-use Rattle.lowering_runs.proofs.RowLemmas.{settled_act}
-use Rattle.array_puts.specs.Put.{IsPutting, IsMask, IsSame, assigned, put_group, with_array_in}
-use Rattle.array_puts.proofs.PutLemmas.{put_assigns}
-use Rattle.array_runs.specs.Reads.{EachCovers, EachMatches}
-use Rattle.array_runs.specs.Gates.{holds}
-use Rattle.array_runs.specs.Elementwise.{IsReadableMask}
-use Rattle.array_runs.specs.Integers.{GivesIntegers}
-use Rattle.array_runs.proofs.IntegerLemmas.{array_integers, written_integers}
-use Rattle.array_runs.proofs.StoredLemmas.{IsFound, found_array, index_of_found}
-use Rattle.array_runs.proofs.ElementLemmas.{all_members, holding_is}
-use Rattle.array_runs.proofs.MaskLemmas.{IsMasking}
-use Rattle.array_runs.proofs.AssignLemmas.{all_read}
-use Rattle.array_runs.proofs.TargetLemmas.{covers_matching, matches_row, flat_member}
-use Rattle.array_runs.proofs.LikeLemmas.{like_array}
+use Rattle.print_runs.specs.of_zpl_lowering.Where.{Stored, Slotted, Where, Next}
+use Rattle.print_runs.specs.of_zpl_lowering.Reference.{mask_reference, refer_to}
+use Rattle.print_runs.specs.of_zpl_lowering.Hoist.{mask_code}
+use Rattle.print_runs.specs.of_lowering_runs.Seen.{Spot}
+use Rattle.print_runs.specs.of_lowering_runs.Run.{decide, step, straight}
+use Rattle.print_runs.specs.of_lowering_runs.Agrees.{Agrees, Going, Trapping}
+use Rattle.print_runs.specs.of_lowering_runs.Stands.{IsLike}
+use Rattle.print_runs.proofs.of_lowering_runs.RowLemmas.{settled_act}
+use Rattle.print_runs.specs.of_array_puts.Put.{IsPutting, IsMask, IsSame, assigned, put_group, with_array_in}
+use Rattle.print_runs.proofs.of_array_puts.PutLemmas.{put_assigns}
+use Rattle.print_runs.specs.of_array_runs.Reads.{EachCovers, EachMatches}
+use Rattle.print_runs.specs.of_array_runs.Gates.{holds}
+use Rattle.print_runs.specs.of_array_runs.Elementwise.{IsReadableMask}
+use Rattle.print_runs.specs.of_array_runs.Integers.{GivesIntegers}
+use Rattle.print_runs.proofs.of_array_runs.IntegerLemmas.{array_integers, written_integers}
+use Rattle.print_runs.proofs.of_array_runs.StoredLemmas.{IsFound, found_array, index_of_found}
+use Rattle.print_runs.proofs.of_array_runs.ElementLemmas.{all_members, holding_is}
+use Rattle.print_runs.proofs.of_array_runs.MaskLemmas.{IsMasking}
+use Rattle.print_runs.proofs.of_array_runs.AssignLemmas.{all_read}
+use Rattle.print_runs.proofs.of_array_runs.TargetLemmas.{covers_matching, matches_row, flat_member}
+use Rattle.print_runs.proofs.of_array_runs.LikeLemmas.{like_array}
 use Rattle.operator_runs.specs.Meant.{InSlot}
 use Rattle.operator_runs.proofs.CurrentLemmas.{current_in}
 use Rattle.operator_runs.proofs.MeantLemmas.{mask_at}

@@ -41,13 +41,13 @@ use Rattle.flat_form.proofs.WordLemmas.{every_append}
 use Rattle.normal_runs.proofs.PutLemmas.{wanted, value_in, put_if, start_point, point_put, puts}
 use Rattle.normal_runs.proofs.PutLemmas.{Sum, AllGive, SomeDivides, SomeLacks, summed, with_one}
 use Rattle.normal_runs.proofs.PlaceLemmas.{set_apart}
-use Rattle.zpl_lowering.specs.Hoist.{index_puts}
-use Rattle.array_puts.specs.Put.{IsSame, IsMask, with_array_in}
-use Rattle.array_puts.proofs.PutLemmas.{IsPut, one_put, Sums, AllSummed, OneDivides}
-use Rattle.array_puts.proofs.PutLemmas.{choice, new, number_in, sums, value_at}
-use Rattle.array_puts.proofs.WriteLemmas as write
-use Rattle.array_puts.proofs.WriteLemmas.{every_among, puts_store}
-use Rattle.array_runs.proofs.AssignLemmas.{all_read}
+use Rattle.print_runs.specs.of_zpl_lowering.Hoist.{index_puts}
+use Rattle.print_runs.specs.of_array_puts.Put.{IsSame, IsMask, with_array_in}
+use Rattle.print_runs.proofs.of_array_puts.PutLemmas.{IsPut, one_put, Sums, AllSummed, OneDivides}
+use Rattle.print_runs.proofs.of_array_puts.PutLemmas.{choice, new, number_in, sums, value_at}
+use Rattle.print_runs.proofs.of_array_puts.WriteLemmas as write
+use Rattle.print_runs.proofs.of_array_puts.WriteLemmas.{every_among, puts_store}
+use Rattle.print_runs.proofs.of_array_runs.AssignLemmas.{all_read}
 use Rattle.operator_runs.proofs.TempLemmas.{array_is}
 
 -- ---- lists

@@ -12,13 +12,13 @@ use Rattle.zpl_names.specs.Kinds.{Rank}
 use Rattle.zpl_meaning.specs.Context.{Currents, over_at}
 use Rattle.flat_form.specs.Right.{is_flood}
 use Rattle.flat_form.specs.Whole.{Whole}
-use Rattle.zpl_lowering.specs.Where.{SlotCurrents, Slotted, Where, slotted_at}
-use Rattle.zpl_lowering.specs.Where as low
-use Rattle.lowering_runs.specs.Seen.{seen_currents}
-use Rattle.array_runs.specs.Floods.{three_floods}
-use Rattle.array_runs.proofs.StoredLemmas.{index_of_found}
-use Rattle.array_runs.proofs.CodedLemmas.{CurrentOf}
-use Rattle.prefix_runs.specs.Filled.{IsFilled}
+use Rattle.print_runs.specs.of_zpl_lowering.Where.{SlotCurrents, Slotted, Where, slotted_at}
+use Rattle.print_runs.specs.of_zpl_lowering.Where as low
+use Rattle.print_runs.specs.of_lowering_runs.Seen.{seen_currents}
+use Rattle.print_runs.specs.of_array_runs.Floods.{three_floods}
+use Rattle.print_runs.proofs.of_array_runs.StoredLemmas.{index_of_found}
+use Rattle.print_runs.proofs.of_array_runs.CodedLemmas.{CurrentOf}
+use Rattle.call_runs.specs.of_prefix_runs.Filled.{IsFilled}
 use Rattle.operator_runs.specs.Meant.{InSlot, Site, Under}
 use Rattle.operator_runs.specs.Operated.{HaveNoFlood}
 

@@ -53,27 +53,27 @@ use Rattle.flat_form.specs.States.{IsStoreOf}
 use Rattle.flat_form.specs.Whole.{Whole}
 use Rattle.normal_runs.proofs.PlaceLemmas.{set_apart, set_there}
 use Rattle.normal_runs.proofs.PutLemmas.{start_point}
-use Rattle.zpl_lowering.specs.Where.{Stored, Slotted, Where}
-use Rattle.zpl_lowering.specs.Tables.{temp_row}
-use Rattle.zpl_lowering.specs.Reference.{over_reference}
-use Rattle.zpl_lowering.specs.Hoist.{index_puts, mask_code, outside_code, remap_code, rooms, temps_from, three_of, trap_if}
-use Rattle.lowering_runs.specs.Run.{decide, does, step, straight}
-use Rattle.lowering_runs.specs.Scalars.{IsSameValue, BothGive as BothGive_}
-use Rattle.lowering_runs.specs.Seen.{Spot, numbered}
-use Rattle.lowering_runs.specs.Stands.{AreStored, IsSound, Rises, TempsAt}
-use Rattle.lowering_runs.proofs.AgreeLemmas.{sum_of}
-use Rattle.lowering_runs.proofs.NumberLemmas.{get_same}
-use Rattle.lowering_runs.proofs.RowLemmas.{check_says, settled_act}
-use Rattle.array_puts.specs.Put.{IsMask, IsSame, BothGive, with_array_in}
-use Rattle.array_puts.proofs.PutLemmas.{choice, chosen, number_in}
-use Rattle.array_puts.proofs.WriteLemmas.{every_among}
-use Rattle.array_runs.specs.Elementwise.{IsReadableMask}
-use Rattle.array_runs.specs.Gates.{holds}
-use Rattle.array_runs.proofs.FloodLemmas.{current_floods}
-use Rattle.array_runs.proofs.MaskLemmas.{IsMasking}
-use Rattle.array_runs.proofs.StoredLemmas.{IsFound, found_array, zip_at}
+use Rattle.print_runs.specs.of_zpl_lowering.Where.{Stored, Slotted, Where}
+use Rattle.print_runs.specs.of_zpl_lowering.Tables.{temp_row}
+use Rattle.print_runs.specs.of_zpl_lowering.Reference.{over_reference}
+use Rattle.print_runs.specs.of_zpl_lowering.Hoist.{index_puts, mask_code, outside_code, remap_code, rooms, temps_from, three_of, trap_if}
+use Rattle.print_runs.specs.of_lowering_runs.Run.{decide, does, step, straight}
+use Rattle.print_runs.specs.of_lowering_runs.Scalars.{IsSameValue, BothGive as BothGive_}
+use Rattle.print_runs.specs.of_lowering_runs.Seen.{Spot, numbered}
+use Rattle.print_runs.specs.of_lowering_runs.Stands.{AreStored, IsSound, Rises, TempsAt}
+use Rattle.print_runs.proofs.of_lowering_runs.AgreeLemmas.{sum_of}
+use Rattle.print_runs.proofs.of_lowering_runs.NumberLemmas.{get_same}
+use Rattle.print_runs.proofs.of_lowering_runs.RowLemmas.{check_says, settled_act}
+use Rattle.print_runs.specs.of_array_puts.Put.{IsMask, IsSame, BothGive, with_array_in}
+use Rattle.print_runs.proofs.of_array_puts.PutLemmas.{choice, chosen, number_in}
+use Rattle.print_runs.proofs.of_array_puts.WriteLemmas.{every_among}
+use Rattle.print_runs.specs.of_array_runs.Elementwise.{IsReadableMask}
+use Rattle.print_runs.specs.of_array_runs.Gates.{holds}
+use Rattle.print_runs.proofs.of_array_runs.FloodLemmas.{current_floods}
+use Rattle.print_runs.proofs.of_array_runs.MaskLemmas.{IsMasking}
+use Rattle.print_runs.proofs.of_array_runs.StoredLemmas.{IsFound, found_array, zip_at}
 use Rattle.print_runs.proofs.TempLemmas.{room_step}
-use Rattle.array_runs.proofs.IntegerLemmas.{unit_integer}
+use Rattle.print_runs.proofs.of_array_runs.IntegerLemmas.{unit_integer}
 use Rattle.operator_runs.specs.Meant.{InSlot, Under}
 use Rattle.operator_runs.specs.Hoists.{Own, Unused, operands_of, IsReadWell, Spares, HasValues, HaveValues, Hoists, Reaches, Stumbles, HoistAll, AllReach, OneStumbles}
 use Rattle.operator_runs.proofs.StateLemmas.{AreApart, holds_in, mask_held, HasState, slot_in_state, spared_state}

@@ -17,18 +17,18 @@ use Rattle.row_runs.specs.Run.{Step}
 use Rattle.row_runs.specs.Structured as code
 use Rattle.row_runs.specs.Structured.{Course, by_step, rows_do}
 use Rattle.flat_form.specs.Whole.{Whole}
-use Rattle.zpl_lowering.specs.Where.{Where, Next, line_of}
-use Rattle.zpl_lowering.specs.Lowered.{first_left, phased}
-use Rattle.zpl_lowering.specs.Statement as low
-use Rattle.lowering_runs.specs.Seen.{Sight, seen_place, seen_store}
-use Rattle.lowering_runs.specs.Run.{decide, does, step}
-use Rattle.lowering_runs.specs.Agrees.{Agrees, Trapping}
-use Rattle.lowering_runs.specs.Goes.{World}
-use Rattle.lowering_runs.specs.Stands.{HasRoom, IsLike, Stands}
-use Rattle.lowering_runs.proofs.AgreeLemmas.{goes_agrees, led_agrees, weaker_agrees}
-use Rattle.lowering_runs.proofs.FitLemmas.{anew_goes_to}
-use Rattle.lowering_runs.proofs.RowLemmas.{set_step}
-use Rattle.lowering_runs.proofs.ScalarLemmas.{set_agrees}
+use Rattle.print_runs.specs.of_zpl_lowering.Where.{Where, Next, line_of}
+use Rattle.print_runs.specs.of_zpl_lowering.Lowered.{first_left, phased}
+use Rattle.print_runs.specs.of_zpl_lowering.Statement as low
+use Rattle.print_runs.specs.of_lowering_runs.Seen.{Sight, seen_place, seen_store}
+use Rattle.print_runs.specs.of_lowering_runs.Run.{decide, does, step}
+use Rattle.print_runs.specs.of_lowering_runs.Agrees.{Agrees, Trapping}
+use Rattle.print_runs.specs.of_lowering_runs.Goes.{World}
+use Rattle.print_runs.specs.of_lowering_runs.Stands.{HasRoom, IsLike, Stands}
+use Rattle.print_runs.proofs.of_lowering_runs.AgreeLemmas.{goes_agrees, led_agrees, weaker_agrees}
+use Rattle.print_runs.proofs.of_lowering_runs.FitLemmas.{anew_goes_to}
+use Rattle.print_runs.proofs.of_lowering_runs.RowLemmas.{set_step}
+use Rattle.print_runs.proofs.of_lowering_runs.ScalarLemmas.{set_agrees}
 use Rattle.call_runs.specs.Answered.{HasReturned, Returns}
 use Rattle.call_runs.proofs.EndLemmas.{returned_carried}
 use Rattle.operator_runs.specs.Operated.{IsOperated}

@@ -28,20 +28,20 @@ use Rattle.row_runs.specs.Run.{Ends, Step}
 use Rattle.row_runs.specs.Structured as code
 use Rattle.row_runs.specs.Structured.{Course, GoesOn, Over, by_step, rows_do}
 use Rattle.flat_form.specs.Whole.{Whole}
-use Rattle.zpl_lowering.specs.Where.{Where, Next, line_of}
-use Rattle.zpl_lowering.specs.Lowered.{first_left, phased}
-use Rattle.zpl_lowering.specs.Slate.{settled}
-use Rattle.zpl_lowering.specs.Statement as low
-use Rattle.lowering_runs.specs.Seen.{Spot, Sight, seen_place, seen_store, numbered, place_of}
-use Rattle.lowering_runs.specs.Run.{decide, does, step}
-use Rattle.lowering_runs.specs.Agrees.{Agrees, Trapping}
-use Rattle.lowering_runs.specs.Heads.{Heads, Comes, Stumbles}
-use Rattle.lowering_runs.specs.Scalars.{IsSameValue, BothGive as BothGive_, BothDivide as BothDivide_}
-use Rattle.lowering_runs.specs.Stands.{HasRoom, IsLike, Stands}
-use Rattle.lowering_runs.proofs.AgreeLemmas.{goes_agrees, led_agrees, weaker_agrees}
-use Rattle.lowering_runs.proofs.RowLemmas.{set_step, check_says, like_variable}
-use Rattle.lowering_runs.proofs.ScalarLemmas.{set_agrees}
-use Rattle.array_puts.specs.Put.{IsSame, BothGive, BothDivide}
+use Rattle.print_runs.specs.of_zpl_lowering.Where.{Where, Next, line_of}
+use Rattle.print_runs.specs.of_zpl_lowering.Lowered.{first_left, phased}
+use Rattle.print_runs.specs.of_zpl_lowering.Slate.{settled}
+use Rattle.print_runs.specs.of_zpl_lowering.Statement as low
+use Rattle.print_runs.specs.of_lowering_runs.Seen.{Spot, Sight, seen_place, seen_store, numbered, place_of}
+use Rattle.print_runs.specs.of_lowering_runs.Run.{decide, does, step}
+use Rattle.print_runs.specs.of_lowering_runs.Agrees.{Agrees, Trapping}
+use Rattle.print_runs.specs.of_lowering_runs.Heads.{Heads, Comes, Stumbles}
+use Rattle.print_runs.specs.of_lowering_runs.Scalars.{IsSameValue, BothGive as BothGive_, BothDivide as BothDivide_}
+use Rattle.print_runs.specs.of_lowering_runs.Stands.{HasRoom, IsLike, Stands}
+use Rattle.print_runs.proofs.of_lowering_runs.AgreeLemmas.{goes_agrees, led_agrees, weaker_agrees}
+use Rattle.print_runs.proofs.of_lowering_runs.RowLemmas.{set_step, check_says, like_variable}
+use Rattle.print_runs.proofs.of_lowering_runs.ScalarLemmas.{set_agrees}
+use Rattle.print_runs.specs.of_array_puts.Put.{IsSame, BothGive, BothDivide}
 use Rattle.operator_runs.specs.Meant.{Alone}
 use Rattle.operator_runs.specs.Hoists.{MoreValues, NoValues, Unused, tests_of}
 use Rattle.operator_runs.specs.Phases.{Phases, PassTo, OneTraps}

@@ -47,21 +47,21 @@ use Rattle.flat_form.specs.Row.{Member, Row, Words, group_coded, mask_words}
 use Rattle.flat_form.specs.Whole.{Whole}
 use Rattle.normal_runs.proofs.PlaceLemmas.{set_apart}
 use Rattle.normal_runs.proofs.PutLemmas.{start_point}
-use Rattle.zpl_lowering.specs.Where.{Stored, Slotted, Where}
-use Rattle.zpl_lowering.specs.Tables.{temp_row}
-use Rattle.zpl_lowering.specs.Reference.{over_reference}
-use Rattle.zpl_lowering.specs.Hoist.{along_of, array_code, mask_code, mask_word, scan_without}
-use Rattle.lowering_runs.specs.Run.{decide, step, straight}
-use Rattle.lowering_runs.specs.Seen.{Spot}
-use Rattle.lowering_runs.specs.Stands.{AreStored}
-use Rattle.lowering_runs.proofs.AgreeLemmas.{sum_of}
-use Rattle.lowering_runs.proofs.RowLemmas.{settled_act}
-use Rattle.array_puts.specs.Put.{IsMask, IsSame, BothGive, with_array_in}
-use Rattle.array_puts.proofs.PutLemmas.{choice, number_in}
-use Rattle.array_runs.specs.Elementwise.{IsReadableMask}
-use Rattle.array_runs.specs.Gates.{holds}
-use Rattle.array_runs.proofs.AssignLemmas.{all_read}
-use Rattle.array_runs.proofs.MaskLemmas.{IsMasking}
+use Rattle.print_runs.specs.of_zpl_lowering.Where.{Stored, Slotted, Where}
+use Rattle.print_runs.specs.of_zpl_lowering.Tables.{temp_row}
+use Rattle.print_runs.specs.of_zpl_lowering.Reference.{over_reference}
+use Rattle.print_runs.specs.of_zpl_lowering.Hoist.{along_of, array_code, mask_code, mask_word, scan_without}
+use Rattle.print_runs.specs.of_lowering_runs.Run.{decide, step, straight}
+use Rattle.print_runs.specs.of_lowering_runs.Seen.{Spot}
+use Rattle.print_runs.specs.of_lowering_runs.Stands.{AreStored}
+use Rattle.print_runs.proofs.of_lowering_runs.AgreeLemmas.{sum_of}
+use Rattle.print_runs.proofs.of_lowering_runs.RowLemmas.{settled_act}
+use Rattle.print_runs.specs.of_array_puts.Put.{IsMask, IsSame, BothGive, with_array_in}
+use Rattle.print_runs.proofs.of_array_puts.PutLemmas.{choice, number_in}
+use Rattle.print_runs.specs.of_array_runs.Elementwise.{IsReadableMask}
+use Rattle.print_runs.specs.of_array_runs.Gates.{holds}
+use Rattle.print_runs.proofs.of_array_runs.AssignLemmas.{all_read}
+use Rattle.print_runs.proofs.of_array_runs.MaskLemmas.{IsMasking}
 use Rattle.operator_runs.specs.Meant.{InSlot, IsAlong, Under}
 use Rattle.operator_runs.specs.Hoists.{Own, Unused, operands_of, IsReadWell, Spares, HasValues, Hoists, Reaches, Stumbles}
 use Rattle.operator_runs.proofs.StateLemmas.{AreApart, holds_in, mask_held, HasState, spared_state}

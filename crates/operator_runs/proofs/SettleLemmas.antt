@@ -32,21 +32,21 @@ use Rattle.row_runs.specs.Structured as code
 use Rattle.row_runs.specs.Structured.{Course, rows_do}
 use Rattle.flat_form.specs.Row.{Row}
 use Rattle.flat_form.specs.Whole.{Whole}
-use Rattle.zpl_lowering.specs.Where.{SlotCurrents, Slotted, Where, Next, slotted_at}
-use Rattle.zpl_lowering.specs.Slate as slate
-use Rattle.zpl_lowering.specs.Slate.{Placed, Settled, Slate, Slates, NoSlate, ThenSlate, around_slate, border_slots, is_moving, named_slate, of_opened, opened_source, remap_slate, settled, settled_all, settled_each, shifted_slate, source_of, source_rank, under_source}
-use Rattle.lowering_runs.specs.Seen.{Spot, Sight, numbered, seen_currents, seen_edge, seen_place, seen_store, seen_thing}
-use Rattle.lowering_runs.specs.Run.{decide, step}
-use Rattle.lowering_runs.specs.Stands.{IsHeld, IsKnown, IsSound, Misses, SlotsAt, Stands}
-use Rattle.lowering_runs.proofs.PrintLemmas.{rows_append}
-use Rattle.lowering_runs.proofs.ValueLemmas.{known_thing, thing_seen}
-use Rattle.array_runs.specs.Floods.{IsElementAs, IsReadableMaskAs, slot_floods}
-use Rattle.array_runs.proofs.CodedLemmas.{current_of}
-use Rattle.array_runs.proofs.FloodLemmas.{current_floods, readable, mask_readable}
-use Rattle.prefix_runs.specs.Filled.{IsFilled}
-use Rattle.prefix_runs.proofs.FillLemmas.{filled_itself, filled_then, slots_below}
-use Rattle.prefix_runs.proofs.ShapeLemmas.{flood_length}
-use Rattle.prefix_runs.proofs.UnderLemmas.{taken_at}
+use Rattle.print_runs.specs.of_zpl_lowering.Where.{SlotCurrents, Slotted, Where, Next, slotted_at}
+use Rattle.print_runs.specs.of_zpl_lowering.Slate as slate
+use Rattle.print_runs.specs.of_zpl_lowering.Slate.{Placed, Settled, Slate, Slates, NoSlate, ThenSlate, around_slate, border_slots, is_moving, named_slate, of_opened, opened_source, remap_slate, settled, settled_all, settled_each, shifted_slate, source_of, source_rank, under_source}
+use Rattle.print_runs.specs.of_lowering_runs.Seen.{Spot, Sight, numbered, seen_currents, seen_edge, seen_place, seen_store, seen_thing}
+use Rattle.print_runs.specs.of_lowering_runs.Run.{decide, step}
+use Rattle.print_runs.specs.of_lowering_runs.Stands.{IsHeld, IsKnown, IsSound, Misses, SlotsAt, Stands}
+use Rattle.print_runs.proofs.of_lowering_runs.PrintLemmas.{rows_append}
+use Rattle.print_runs.proofs.of_lowering_runs.ValueLemmas.{known_thing, thing_seen}
+use Rattle.print_runs.specs.of_array_runs.Floods.{IsElementAs, IsReadableMaskAs, slot_floods}
+use Rattle.print_runs.proofs.of_array_runs.CodedLemmas.{current_of}
+use Rattle.print_runs.proofs.of_array_runs.FloodLemmas.{current_floods, readable, mask_readable}
+use Rattle.call_runs.specs.of_prefix_runs.Filled.{IsFilled}
+use Rattle.call_runs.proofs.of_prefix_runs.FillLemmas.{filled_itself, filled_then, slots_below}
+use Rattle.call_runs.proofs.of_prefix_runs.ShapeLemmas.{flood_length}
+use Rattle.call_runs.proofs.of_prefix_runs.UnderLemmas.{taken_at}
 use Rattle.operator_runs.proofs.CurrentLemmas.{current_in}
 use Rattle.operator_runs.proofs.ReadLemmas.{Fits, Reads, ReadsNone, ReadsUnder, fits_current, fits_on, none_flood, reads_on, three_none}
 use Rattle.operator_runs.proofs.SourceLemmas.{IsHere, Leaves, LeavesIt, LeavesNone, alone_leaves, at, both_is, here_behind, inner_currents, inner_here, inner_meant, inner_reads, mapped_leaves, opened_as, seen_at, slots_first, slots_rest, source_leaves, then_leaves}

@@ -12,13 +12,13 @@ use Rattle.node_form.specs.declared.instructions.Instr.TheVariants as instr
 use Rattle.flat_form.specs.Row as row
 use Rattle.flat_form.specs.Row.{Row}
 use Rattle.flat_form.specs.Whole.{Whole}
-use Rattle.zpl_lowering.specs.Where.{SlotCurrents, Slotted, Where, flood_of, slotted_at, slotted_or}
-use Rattle.zpl_lowering.specs.Bracket as low
-use Rattle.zpl_lowering.specs.Bracket.{Form, Opened, bracket, computed, constant_region, fixed_or, formed, forms_of, name_opened, named_region, one_row, region_slot, standing}
-use Rattle.lowering_runs.specs.Seen.{seen_currents}
-use Rattle.lowering_runs.specs.Stands.{Misses}
-use Rattle.prefix_runs.specs.Opens.{Opens, OpensName}
-use Rattle.prefix_runs.proofs.FillLemmas.{formed_many, region_below}
+use Rattle.print_runs.specs.of_zpl_lowering.Where.{SlotCurrents, Slotted, Where, flood_of, slotted_at, slotted_or}
+use Rattle.print_runs.specs.of_zpl_lowering.Bracket as low
+use Rattle.print_runs.specs.of_zpl_lowering.Bracket.{Form, Opened, bracket, computed, constant_region, fixed_or, formed, forms_of, name_opened, named_region, one_row, region_slot, standing}
+use Rattle.print_runs.specs.of_lowering_runs.Seen.{seen_currents}
+use Rattle.print_runs.specs.of_lowering_runs.Stands.{Misses}
+use Rattle.call_runs.specs.of_prefix_runs.Opens.{Opens, OpensName}
+use Rattle.call_runs.proofs.of_prefix_runs.FillLemmas.{formed_many, region_below}
 use Rattle.operator_runs.specs.Copies.{AreMissed, IsMissed}
 
 -- ---- forms

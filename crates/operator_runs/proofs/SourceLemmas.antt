@@ -22,23 +22,23 @@ use Rattle.row_runs.specs.Structured as code
 use Rattle.row_runs.specs.Structured.{Course, Over as IsOver, rows_do}
 use Rattle.flat_form.specs.Row.{Row}
 use Rattle.flat_form.specs.Whole.{Whole}
-use Rattle.zpl_lowering.specs.Where.{Next, SlotCurrents, Slotted, Where, slotted_at, with_slotted}
-use Rattle.zpl_lowering.specs.Bracket.{Opened}
-use Rattle.zpl_lowering.specs.Lowered.{Lowered, both, coded}
-use Rattle.zpl_lowering.specs.Slate as slate
-use Rattle.zpl_lowering.specs.Slate.{Settled, of_opened, opened_source, source_of, source_rank}
-use Rattle.lowering_runs.specs.Seen.{Sight, Spot, seen_currents, seen_edge, seen_names, seen_over, seen_place, seen_store}
-use Rattle.lowering_runs.specs.Run.{decide, step}
-use Rattle.lowering_runs.specs.Stands.{HasRoom, IsBefore, IsCurrent, IsHeld, IsSound, SlotsAt, Stands}
-use Rattle.lowering_runs.proofs.FitLemmas.{currents_kept, held_on, place_kept, room_first, room_rest, stands_on}
-use Rattle.array_runs.proofs.StoredLemmas.{index_of_found}
-use Rattle.prefix_runs.specs.Filled.{IsFilled}
-use Rattle.prefix_runs.specs.Opens.{IsOpenedAs, Opens}
-use Rattle.prefix_runs.proofs.FillLemmas.{Filling, Fills, Refuses, filled_itself, filled_then}
-use Rattle.prefix_runs.proofs.OpenLemmas as brackets
-use Rattle.prefix_runs.proofs.ShapedLemmas.{Told}
-use Rattle.prefix_runs.proofs.SpanLemmas.{CurrentIf}
-use Rattle.prefix_runs.proofs.UnderLemmas.{current_if, filled_sound, held_with, over_with, over_with_itself, rank_above, rank_few, slots_kept, slotted_with, store_kept, taken_at, taken_with}
+use Rattle.print_runs.specs.of_zpl_lowering.Where.{Next, SlotCurrents, Slotted, Where, slotted_at, with_slotted}
+use Rattle.print_runs.specs.of_zpl_lowering.Bracket.{Opened}
+use Rattle.print_runs.specs.of_zpl_lowering.Lowered.{Lowered, both, coded}
+use Rattle.print_runs.specs.of_zpl_lowering.Slate as slate
+use Rattle.print_runs.specs.of_zpl_lowering.Slate.{Settled, of_opened, opened_source, source_of, source_rank}
+use Rattle.print_runs.specs.of_lowering_runs.Seen.{Sight, Spot, seen_currents, seen_edge, seen_names, seen_over, seen_place, seen_store}
+use Rattle.print_runs.specs.of_lowering_runs.Run.{decide, step}
+use Rattle.print_runs.specs.of_lowering_runs.Stands.{HasRoom, IsBefore, IsCurrent, IsHeld, IsSound, SlotsAt, Stands}
+use Rattle.print_runs.proofs.of_lowering_runs.FitLemmas.{currents_kept, held_on, place_kept, room_first, room_rest, stands_on}
+use Rattle.print_runs.proofs.of_array_runs.StoredLemmas.{index_of_found}
+use Rattle.call_runs.specs.of_prefix_runs.Filled.{IsFilled}
+use Rattle.call_runs.specs.of_prefix_runs.Opens.{IsOpenedAs, Opens}
+use Rattle.call_runs.proofs.of_prefix_runs.FillLemmas.{Filling, Fills, Refuses, filled_itself, filled_then}
+use Rattle.call_runs.proofs.of_prefix_runs.OpenLemmas as brackets
+use Rattle.call_runs.proofs.of_prefix_runs.ShapedLemmas.{Told}
+use Rattle.call_runs.proofs.of_prefix_runs.SpanLemmas.{CurrentIf}
+use Rattle.call_runs.proofs.of_prefix_runs.UnderLemmas.{current_if, filled_sound, held_with, over_with, over_with_itself, rank_above, rank_few, slots_kept, slotted_with, store_kept, taken_at, taken_with}
 use Rattle.operator_runs.specs.Meant.{InSlot, Under}
 use Rattle.operator_runs.specs.Operated.{OpensSource}
 use Rattle.operator_runs.proofs.ReadLemmas.{Fits, Reads, ReadsUnder}

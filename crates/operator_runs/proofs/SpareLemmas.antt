@@ -8,33 +8,33 @@ use Rattle.zpl_nums.specs.declared.folds.Fold.{Fold}
 use Rattle.zpl_nums.specs.Integer.{IsInteger}
 use Rattle.node_form.specs.declared.tables.Tables.{Tables}
 use Rattle.flat_form.specs.Whole.{Whole}
-use Rattle.zpl_lowering.specs.Where.{Stored}
-use Rattle.zpl_lowering.specs.Reference.{Reference}
-use Rattle.lowering_runs.specs.Seen.{scalar_in, Spot, numbered, seen_store}
+use Rattle.print_runs.specs.of_zpl_lowering.Where.{Stored}
+use Rattle.print_runs.specs.of_zpl_lowering.Reference.{Reference}
+use Rattle.print_runs.specs.of_lowering_runs.Seen.{scalar_in, Spot, numbered, seen_store}
 use Rattle.row_runs.specs.Straight.{Every}
-use Rattle.lowering_runs.specs.Stands.{Rises, IsSound, Misses}
-use Rattle.lowering_runs.proofs.NumberLemmas.{same_spots, get_other, get_set_other}
-use Rattle.lowering_runs.proofs.RowLemmas.{set_sound}
-use Rattle.array_runs.specs.Gates.{lies, holds}
+use Rattle.print_runs.specs.of_lowering_runs.Stands.{Rises, IsSound, Misses}
+use Rattle.print_runs.proofs.of_lowering_runs.NumberLemmas.{same_spots, get_other, get_set_other}
+use Rattle.print_runs.proofs.of_lowering_runs.RowLemmas.{set_sound}
+use Rattle.print_runs.specs.of_array_runs.Gates.{lies, holds}
 use Rattle.zpl_arrays.specs.Array.{Array}
 use Rattle.node_form.specs.declared.arrays.ArrayRow.{ArrayRow}
 use Rattle.flat_form.specs.States.{IsStoreOf}
 use Rattle.normal_runs.proofs.PlaceLemmas.{set_apart}
-use Rattle.lowering_runs.specs.Stands.{AreStored}
-use Rattle.array_puts.specs.Put.{with_array_in}
-use Rattle.array_runs.proofs.LikeLemmas.{zip_new}
+use Rattle.print_runs.specs.of_lowering_runs.Stands.{AreStored}
+use Rattle.print_runs.specs.of_array_puts.Put.{with_array_in}
+use Rattle.print_runs.proofs.of_array_runs.LikeLemmas.{zip_new}
 use Rattle.print_runs.proofs.TempLemmas.{arrays_same, elements_kept}
 use Rattle.std.proofs.Common.{sym, subst, true}
 use Rattle.std.proofs.lemmas.Bool.{cases_eq}
 use Rattle.zpl_region.specs.declared.regions.Region.{Region}
 use Rattle.zpl_meaning.specs.Store.{no_array}
-use Rattle.lowering_runs.specs.Seen.{array_in}
-use Rattle.lowering_runs.specs.Stands.{array_numbers}
-use Rattle.lowering_runs.proofs.NumberLemmas.{length_set}
+use Rattle.print_runs.specs.of_lowering_runs.Seen.{array_in}
+use Rattle.print_runs.specs.of_lowering_runs.Stands.{array_numbers}
+use Rattle.print_runs.proofs.of_lowering_runs.NumberLemmas.{length_set}
 use Rattle.normal_runs.proofs.PlaceLemmas.{set_there}
-use Rattle.array_runs.proofs.LikeLemmas.{index_if, index_is}
-use Rattle.array_runs.proofs.StoredLemmas.{index_of_found, zip_at}
-use Rattle.prefix_runs.proofs.ShapedLemmas.{filled}
+use Rattle.print_runs.proofs.of_array_runs.LikeLemmas.{index_if, index_is}
+use Rattle.print_runs.proofs.of_array_runs.StoredLemmas.{index_of_found, zip_at}
+use Rattle.call_runs.proofs.of_prefix_runs.ShapedLemmas.{filled}
 use Rattle.operator_runs.specs.Hoists.{Own, Spares, Unused}
 use Rattle.operator_runs.proofs.JoinLemmas.{with_total}
 use Rattle.operator_runs.proofs.FoldLemmas.{with_fold, fold_sound}

@@ -18,9 +18,9 @@ use Rattle.flat_form.specs.Names.{word_reads, word_scalars}
 use Rattle.flat_form.specs.Right.{can_read, is_among, is_value, no_flood}
 use Rattle.flat_form.specs.Row.{Words, mask_words}
 use Rattle.flat_form.specs.Whole.{Whole}
-use Rattle.zpl_lowering.specs.Where.{Stored, Numbers}
-use Rattle.zpl_lowering.specs.Hoist.{array_code, mask_code, mask_word}
-use Rattle.array_runs.proofs.AssignLemmas.{all_read}
+use Rattle.print_runs.specs.of_zpl_lowering.Where.{Stored, Numbers}
+use Rattle.print_runs.specs.of_zpl_lowering.Hoist.{array_code, mask_code, mask_word}
+use Rattle.print_runs.proofs.of_array_runs.AssignLemmas.{all_read}
 use Rattle.operator_runs.proofs.JoinLemmas.{acc_group}
 
 -- ---- a scalar isn't among those that are below it

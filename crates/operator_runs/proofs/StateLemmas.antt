@@ -8,11 +8,11 @@ use Rattle.zpl_meaning.specs.Store.{Store}
 use Rattle.node_form.specs.declared.tables.Tables.{Tables}
 use Rattle.row_runs.specs.Straight.{Every}
 use Rattle.flat_form.specs.Whole.{Whole}
-use Rattle.zpl_lowering.specs.Where.{Numbers, Stored, Slotted}
-use Rattle.zpl_lowering.specs.Reference.{Reference, mask_reference, refer_to}
-use Rattle.lowering_runs.specs.Seen.{Spot, seen_store}
-use Rattle.lowering_runs.specs.Stands.{IsSound, Misses}
-use Rattle.array_runs.specs.Gates.{holds, lies}
+use Rattle.print_runs.specs.of_zpl_lowering.Where.{Numbers, Stored, Slotted}
+use Rattle.print_runs.specs.of_zpl_lowering.Reference.{Reference, mask_reference, refer_to}
+use Rattle.print_runs.specs.of_lowering_runs.Seen.{Spot, seen_store}
+use Rattle.print_runs.specs.of_lowering_runs.Stands.{IsSound, Misses}
+use Rattle.print_runs.specs.of_array_runs.Gates.{holds, lies}
 use Rattle.operator_runs.specs.Meant.{InSlot}
 use Rattle.operator_runs.specs.Hoists.{Own, Spares, Unused}
 

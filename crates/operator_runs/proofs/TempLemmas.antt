@@ -36,16 +36,16 @@ use Rattle.flat_form.specs.Row as row
 use Rattle.flat_form.specs.Row.{Row, Words, mask_words}
 use Rattle.flat_form.specs.Whole.{Whole}
 use Rattle.normal_runs.proofs.PlaceLemmas.{moved_none, set_same, set_there, set_twice}
-use Rattle.zpl_lowering.specs.Where.{Slotted}
-use Rattle.zpl_lowering.specs.Tables.{temp_row}
-use Rattle.lowering_runs.specs.Run.{step, straight}
-use Rattle.lowering_runs.proofs.RowLemmas.{settled_act}
-use Rattle.array_puts.specs.Put.{IsMask, IsPutting, IsSame, assigned, put_group, with_array_in}
-use Rattle.array_puts.proofs.PutLemmas.{choice, number_in, put_assigns}
-use Rattle.array_puts.proofs.WriteLemmas.{all_written, every_among, put_all}
-use Rattle.array_runs.proofs.AssignLemmas.{all_read}
-use Rattle.array_runs.proofs.ElementLemmas.{all_members}
-use Rattle.array_runs.proofs.FloodLemmas.{current_floods}
+use Rattle.print_runs.specs.of_zpl_lowering.Where.{Slotted}
+use Rattle.print_runs.specs.of_zpl_lowering.Tables.{temp_row}
+use Rattle.print_runs.specs.of_lowering_runs.Run.{step, straight}
+use Rattle.print_runs.proofs.of_lowering_runs.RowLemmas.{settled_act}
+use Rattle.print_runs.specs.of_array_puts.Put.{IsMask, IsPutting, IsSame, assigned, put_group, with_array_in}
+use Rattle.print_runs.proofs.of_array_puts.PutLemmas.{choice, number_in, put_assigns}
+use Rattle.print_runs.proofs.of_array_puts.WriteLemmas.{all_written, every_among, put_all}
+use Rattle.print_runs.proofs.of_array_runs.AssignLemmas.{all_read}
+use Rattle.print_runs.proofs.of_array_runs.ElementLemmas.{all_members}
+use Rattle.print_runs.proofs.of_array_runs.FloodLemmas.{current_floods}
 use Rattle.print_runs.proofs.TempLemmas.{temp_matches}
 use Rattle.operator_runs.specs.Meant.{InSlot}
 use Rattle.operator_runs.proofs.CurrentLemmas.{current_in}

@@ -11,13 +11,13 @@ use Rattle.node_form.specs.declared.tables.Tables.{Tables}
 use Rattle.row_runs.specs.Code.{Decision}
 use Rattle.row_runs.specs.Structured.{Course}
 use Rattle.flat_form.specs.Whole.{Whole}
-use Rattle.zpl_lowering.specs.Where.{Where, Next, line_of}
-use Rattle.zpl_lowering.specs.Statement as low
-use Rattle.lowering_runs.specs.Seen.{Sight, seen_place}
-use Rattle.lowering_runs.specs.Run.{decide, does}
-use Rattle.lowering_runs.specs.Heads.{Heads, Comes, Stumbles}
-use Rattle.lowering_runs.specs.Stands.{HasRoom, IsBefore, IsLike, Stands}
-use Rattle.lowering_runs.proofs.FitLemmas.{like_anew, like_then, place_kept, stands_on}
+use Rattle.print_runs.specs.of_zpl_lowering.Where.{Where, Next, line_of}
+use Rattle.print_runs.specs.of_zpl_lowering.Statement as low
+use Rattle.print_runs.specs.of_lowering_runs.Seen.{Sight, seen_place}
+use Rattle.print_runs.specs.of_lowering_runs.Run.{decide, does}
+use Rattle.print_runs.specs.of_lowering_runs.Heads.{Heads, Comes, Stumbles}
+use Rattle.print_runs.specs.of_lowering_runs.Stands.{HasRoom, IsBefore, IsLike, Stands}
+use Rattle.print_runs.proofs.of_lowering_runs.FitLemmas.{like_anew, like_then, place_kept, stands_on}
 use Rattle.operator_runs.specs.Operated.{IsOperated}
 use Rattle.operator_runs.proofs.ScalarLemmas.{test_comes}
 

@@ -17,23 +17,23 @@ use Rattle.row_runs.specs.Straight.{Every}
 use Rattle.row_runs.specs.Structured as code
 use Rattle.row_runs.specs.Structured.{Course, rows_do}
 use Rattle.flat_form.specs.Whole.{Whole}
-use Rattle.zpl_lowering.specs.Where.{Where, Next}
-use Rattle.zpl_lowering.specs.Slate as slate
-use Rattle.zpl_lowering.specs.Slate.{Placed, settled, settled_each}
-use Rattle.zpl_lowering.specs.Hoist.{all_hoisted}
-use Rattle.zpl_lowering.specs.Lowered.{Lowered, free_at, phased}
-use Rattle.zpl_lowering.specs.Statement.{value_rows, with_values}
-use Rattle.lowering_runs.specs.Seen.{Spot, Sight, numbered, seen_place, seen_store}
-use Rattle.lowering_runs.specs.Run.{decide, does, step}
-use Rattle.lowering_runs.specs.Goes.{World, ValuesGo}
-use Rattle.lowering_runs.specs.Scalars.{IsSameValue}
-use Rattle.lowering_runs.specs.Stands.{HasRoom, IsLike, Rises, Stands}
-use Rattle.lowering_runs.specs.Values.{AreSet, Falls, Fills, meant, nodes_of}
-use Rattle.lowering_runs.proofs.FitLemmas.{itself, like_anew, like_then, place_kept}
-use Rattle.lowering_runs.proofs.HeadLemmas.{phased_length}
-use Rattle.lowering_runs.proofs.ListLemmas.{AreSame, HasSet, MoreSame, NoneSame, alike_fills, led_fills, values_fill}
-use Rattle.lowering_runs.proofs.NumberLemmas.{rises_on}
-use Rattle.array_runs.specs.Integers.{GivesIntegers}
+use Rattle.print_runs.specs.of_zpl_lowering.Where.{Where, Next}
+use Rattle.print_runs.specs.of_zpl_lowering.Slate as slate
+use Rattle.print_runs.specs.of_zpl_lowering.Slate.{Placed, settled, settled_each}
+use Rattle.print_runs.specs.of_zpl_lowering.Hoist.{all_hoisted}
+use Rattle.print_runs.specs.of_zpl_lowering.Lowered.{Lowered, free_at, phased}
+use Rattle.print_runs.specs.of_zpl_lowering.Statement.{value_rows, with_values}
+use Rattle.print_runs.specs.of_lowering_runs.Seen.{Spot, Sight, numbered, seen_place, seen_store}
+use Rattle.print_runs.specs.of_lowering_runs.Run.{decide, does, step}
+use Rattle.print_runs.specs.of_lowering_runs.Goes.{World, ValuesGo}
+use Rattle.print_runs.specs.of_lowering_runs.Scalars.{IsSameValue}
+use Rattle.print_runs.specs.of_lowering_runs.Stands.{HasRoom, IsLike, Rises, Stands}
+use Rattle.print_runs.specs.of_lowering_runs.Values.{AreSet, Falls, Fills, meant, nodes_of}
+use Rattle.print_runs.proofs.of_lowering_runs.FitLemmas.{itself, like_anew, like_then, place_kept}
+use Rattle.print_runs.proofs.of_lowering_runs.HeadLemmas.{phased_length}
+use Rattle.print_runs.proofs.of_lowering_runs.ListLemmas.{AreSame, HasSet, MoreSame, NoneSame, alike_fills, led_fills, values_fill}
+use Rattle.print_runs.proofs.of_lowering_runs.NumberLemmas.{rises_on}
+use Rattle.print_runs.specs.of_array_runs.Integers.{GivesIntegers}
 use Rattle.operator_runs.specs.Meant.{Site, Alone, IsSite}
 use Rattle.operator_runs.specs.Hoists.{HaveValuesAt, MoreValues, NoValues, Own, Spares, Unused, beyond, copies_of_all, tests_of_all, unused_at}
 use Rattle.operator_runs.specs.Operated.{IsOperated}

@@ -34,7 +34,7 @@ use Rattle.zpl_arrays.proofs.ArrayLemmas.{element_of_member, flattened_member}
 use Rattle.zpl_arrays.proofs.CheckLemmas.{has_none-moved}
 use Rattle.zpl_arrays.proofs.ReferenceLemmas.{length-components}
 use Rattle.zpl_arrays.proofs.SourceLemmas.{around_source_lies, by_sign}
-use Rattle.zpl_lowering.specs.Hoist.{border_vectors}
+use Rattle.print_runs.specs.of_zpl_lowering.Hoist.{border_vectors}
 use Rattle.zpl_meaning.specs.Fields.{everywhere}
 use Rattle.zpl_meaning.specs.Statement.{written}
 use Rattle.operator_runs.proofs.WrapLemmas.{AreKeptOrNot, InBorder, IsKeptOrNot, among_choice, borders_conform, covered, no_border, zeros_first}

@@ -5,8 +5,8 @@ use Rattle.std.proofs.Common.{List, [], ◌∷◌, length, filter, ℤ, cond}
 use Rattle.std.specs.Prelude.{flat_map}
 use Rattle.std.proofs.lemmas.List.{length-append}
 use Rattle.zpl_nums.specs.Integer.{is_true}
-use Rattle.zpl_lowering.specs.Slate.{border_slots, is_moving}
-use Rattle.zpl_lowering.specs.Hoist.{border_vectors, choices, kept_or_not}
+use Rattle.print_runs.specs.of_zpl_lowering.Slate.{border_slots, is_moving}
+use Rattle.print_runs.specs.of_zpl_lowering.Hoist.{border_vectors, choices, kept_or_not}
 use Rattle.operator_runs.proofs.WrapLemmas.{zeros_first}
 
 doubled : (d : ℤ) (xs : List (List ℤ)) → is_true d ≡ true

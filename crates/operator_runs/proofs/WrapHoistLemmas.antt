@@ -42,28 +42,28 @@ use Rattle.flat_form.specs.Row as row
 use Rattle.flat_form.specs.Row.{Row, Words}
 use Rattle.flat_form.specs.Whole.{Whole}
 use Rattle.normal_runs.proofs.PlaceLemmas.{moved_none, set_there}
-use Rattle.zpl_lowering.specs.Where.{Slotted, Stored, Where, flood_of}
-use Rattle.zpl_lowering.specs.Slate as slate
-use Rattle.zpl_lowering.specs.Reference.{at_place, is_unmoved, referred, vector_over}
-use Rattle.zpl_lowering.specs.Hoist.{border_rows, border_vectors, copy_rows, element_code, neighbour_if}
-use Rattle.lowering_runs.specs.Run.{decide, step, straight}
-use Rattle.lowering_runs.specs.Seen.{Spot, seen_store}
-use Rattle.lowering_runs.specs.Stands.{AreStored, IsCurrent, Misses}
-use Rattle.lowering_runs.proofs.NumberLemmas.{get_same}
-use Rattle.lowering_runs.proofs.RowLemmas.{settled_act}
-use Rattle.array_puts.specs.Put.{IsPutting, IsSame, assigned, put_group, with_array_in}
-use Rattle.array_puts.proofs.PutLemmas.{put_assigns}
-use Rattle.array_runs.specs.Gates.{holds}
-use Rattle.array_runs.specs.Integers.{HasIntegers}
-use Rattle.array_runs.specs.Reads.{Covers, EachCovers, EachMatches}
-use Rattle.array_runs.proofs.PlaceLemmas.{element_by}
-use Rattle.array_runs.proofs.AssignLemmas.{all_read}
-use Rattle.array_runs.proofs.ElementLemmas.{all_members, element_part, holding_is}
-use Rattle.array_runs.proofs.IntegerLemmas.{element_integer, made_integers}
-use Rattle.array_runs.proofs.PartLemmas.{IsPart}
-use Rattle.array_runs.proofs.StoredLemmas.{IsFound, found_array, index_of_found}
-use Rattle.array_runs.proofs.TargetLemmas.{covers_matching, flat_member, matches_row}
-use Rattle.prefix_runs.proofs.ShapedLemmas.{filled}
+use Rattle.print_runs.specs.of_zpl_lowering.Where.{Slotted, Stored, Where, flood_of}
+use Rattle.print_runs.specs.of_zpl_lowering.Slate as slate
+use Rattle.print_runs.specs.of_zpl_lowering.Reference.{at_place, is_unmoved, referred, vector_over}
+use Rattle.print_runs.specs.of_zpl_lowering.Hoist.{border_rows, border_vectors, copy_rows, element_code, neighbour_if}
+use Rattle.print_runs.specs.of_lowering_runs.Run.{decide, step, straight}
+use Rattle.print_runs.specs.of_lowering_runs.Seen.{Spot, seen_store}
+use Rattle.print_runs.specs.of_lowering_runs.Stands.{AreStored, IsCurrent, Misses}
+use Rattle.print_runs.proofs.of_lowering_runs.NumberLemmas.{get_same}
+use Rattle.print_runs.proofs.of_lowering_runs.RowLemmas.{settled_act}
+use Rattle.print_runs.specs.of_array_puts.Put.{IsPutting, IsSame, assigned, put_group, with_array_in}
+use Rattle.print_runs.proofs.of_array_puts.PutLemmas.{put_assigns}
+use Rattle.print_runs.specs.of_array_runs.Gates.{holds}
+use Rattle.print_runs.specs.of_array_runs.Integers.{HasIntegers}
+use Rattle.print_runs.specs.of_array_runs.Reads.{Covers, EachCovers, EachMatches}
+use Rattle.print_runs.proofs.of_array_runs.PlaceLemmas.{element_by}
+use Rattle.print_runs.proofs.of_array_runs.AssignLemmas.{all_read}
+use Rattle.print_runs.proofs.of_array_runs.ElementLemmas.{all_members, element_part, holding_is}
+use Rattle.print_runs.proofs.of_array_runs.IntegerLemmas.{element_integer, made_integers}
+use Rattle.print_runs.proofs.of_array_runs.PartLemmas.{IsPart}
+use Rattle.print_runs.proofs.of_array_runs.StoredLemmas.{IsFound, found_array, index_of_found}
+use Rattle.print_runs.proofs.of_array_runs.TargetLemmas.{covers_matching, flat_member, matches_row}
+use Rattle.call_runs.proofs.of_prefix_runs.ShapedLemmas.{filled}
 use Rattle.operator_runs.specs.Meant.{InSlot, IsAround, Under}
 use Rattle.operator_runs.specs.Hoists.{Hoists, IsReadWell, Own, Reaches, Spares, Unused}
 use Rattle.operator_runs.proofs.StandLemmas.{NamesBelow}

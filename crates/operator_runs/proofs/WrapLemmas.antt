@@ -20,7 +20,7 @@ use Rattle.std.proofs.lemmas.Bool.{and_from, and_parts}
 use Rattle.zpl_arrays.specs.Around.{zeros}
 use Rattle.zpl_arrays.specs.Border.{border_conforms, dim_border_conforms, each_border_conforms}
 use Rattle.zpl_arrays.proofs.SourceLemmas.{by_sign, unit_step}
-use Rattle.zpl_lowering.specs.Hoist.{border_vectors, choices, kept_or_not}
+use Rattle.print_runs.specs.of_zpl_lowering.Hoist.{border_vectors, choices, kept_or_not}
 
 -- ---- one dimension
 

@@ -27,10 +27,10 @@ use Rattle.zpl_arrays.proofs.ArrayLemmas.{place_of_member}
 use Rattle.zpl_arrays.proofs.ReferenceLemmas.{places_lie_in}
 use Rattle.zpl_arrays.proofs.SourceLemmas.{wide_enough}
 use Rattle.grid_meaning.specs.Room.{zeros_at}
-use Rattle.zpl_lowering.specs.Hoist.{border_vectors, choices, kept_or_not}
-use Rattle.array_runs.specs.Reads.{EachCovers, EachMatches, Matches}
-use Rattle.array_runs.proofs.TargetLemmas.{covers_matching}
-use Rattle.prefix_runs.proofs.ShapeLemmas.{each_length}
+use Rattle.print_runs.specs.of_zpl_lowering.Hoist.{border_vectors, choices, kept_or_not}
+use Rattle.print_runs.specs.of_array_runs.Reads.{EachCovers, EachMatches, Matches}
+use Rattle.print_runs.proofs.of_array_runs.TargetLemmas.{covers_matching}
+use Rattle.call_runs.proofs.of_prefix_runs.ShapeLemmas.{each_length}
 use Rattle.border_runs.proofs.LimitLemmas.{above_within, below_within, opposite_dims, sources_within}
 use Rattle.operator_runs.proofs.WrapLemmas.{borders_conform}
 use Rattle.operator_runs.proofs.WrapCopyLemmas.{border_in_copy, border_kept, home_in_copy, outside_steps, shift_conforms, shift_long}

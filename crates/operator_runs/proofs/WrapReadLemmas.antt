@@ -24,16 +24,16 @@ use Rattle.zpl_meaning.specs.Term as term
 use Rattle.node_form.specs.declared.tables.Tables.{Tables}
 use Rattle.row_runs.specs.Straight.{Every}
 use Rattle.flat_form.specs.Whole.{Whole}
-use Rattle.zpl_lowering.specs.Where.{Slotted, Stored, Where}
-use Rattle.zpl_lowering.specs.Slate as slate
-use Rattle.zpl_lowering.specs.Reference.{Reference, at_place, referred, shift_in, vector_over}
-use Rattle.zpl_lowering.specs.Hoist.{element_code}
-use Rattle.lowering_runs.specs.Stands.{IsCurrent, IsSound, IsStored}
-use Rattle.array_runs.specs.Gates.{IsThere, holds}
-use Rattle.array_runs.specs.Reads.{EachCovers, EachMatches, IsShift}
-use Rattle.array_runs.proofs.ElementLemmas.{element_part, holding_is, holds_is, ref_there}
-use Rattle.array_runs.proofs.PartLemmas.{IsPart}
-use Rattle.array_runs.proofs.StoredLemmas.{IsFound, found_array}
+use Rattle.print_runs.specs.of_zpl_lowering.Where.{Slotted, Stored, Where}
+use Rattle.print_runs.specs.of_zpl_lowering.Slate as slate
+use Rattle.print_runs.specs.of_zpl_lowering.Reference.{Reference, at_place, referred, shift_in, vector_over}
+use Rattle.print_runs.specs.of_zpl_lowering.Hoist.{element_code}
+use Rattle.print_runs.specs.of_lowering_runs.Stands.{IsCurrent, IsSound, IsStored}
+use Rattle.print_runs.specs.of_array_runs.Gates.{IsThere, holds}
+use Rattle.print_runs.specs.of_array_runs.Reads.{EachCovers, EachMatches, IsShift}
+use Rattle.print_runs.proofs.of_array_runs.ElementLemmas.{element_part, holding_is, holds_is, ref_there}
+use Rattle.print_runs.proofs.of_array_runs.PartLemmas.{IsPart}
+use Rattle.print_runs.proofs.of_array_runs.StoredLemmas.{IsFound, found_array}
 use Rattle.operator_runs.specs.Meant.{InSlot}
 use Rattle.operator_runs.proofs.CurrentLemmas.{current_in}
 use Rattle.operator_runs.proofs.WrapCopyLemmas.{shift_long}

@@ -27,17 +27,17 @@ use Rattle.flat_form.specs.Row as row
 use Rattle.flat_form.specs.Row.{Row}
 use Rattle.flat_form.specs.Whole.{Whole}
 use Rattle.normal_runs.proofs.PlaceLemmas.{set_there}
-use Rattle.zpl_lowering.specs.Where.{Stored, Where}
-use Rattle.zpl_lowering.specs.Hoist.{border_rows}
-use Rattle.lowering_runs.specs.Run.{decide, step}
-use Rattle.lowering_runs.specs.Seen.{Spot}
-use Rattle.lowering_runs.specs.Stands.{IsSound, Misses}
-use Rattle.lowering_runs.proofs.NumberLemmas.{get_other}
-use Rattle.array_puts.specs.Put.{with_array_in}
-use Rattle.array_runs.specs.Reads.{EachCovers, EachMatches}
-use Rattle.array_runs.proofs.IntegerLemmas.{element_integer, made_integers}
-use Rattle.array_runs.proofs.StoredLemmas.{IsFound, found_array}
-use Rattle.prefix_runs.proofs.ShapedLemmas.{filled, form_step, limit_step}
+use Rattle.print_runs.specs.of_zpl_lowering.Where.{Stored, Where}
+use Rattle.print_runs.specs.of_zpl_lowering.Hoist.{border_rows}
+use Rattle.print_runs.specs.of_lowering_runs.Run.{decide, step}
+use Rattle.print_runs.specs.of_lowering_runs.Seen.{Spot}
+use Rattle.print_runs.specs.of_lowering_runs.Stands.{IsSound, Misses}
+use Rattle.print_runs.proofs.of_lowering_runs.NumberLemmas.{get_other}
+use Rattle.print_runs.specs.of_array_puts.Put.{with_array_in}
+use Rattle.print_runs.specs.of_array_runs.Reads.{EachCovers, EachMatches}
+use Rattle.print_runs.proofs.of_array_runs.IntegerLemmas.{element_integer, made_integers}
+use Rattle.print_runs.proofs.of_array_runs.StoredLemmas.{IsFound, found_array}
+use Rattle.call_runs.proofs.of_prefix_runs.ShapedLemmas.{filled, form_step, limit_step}
 use Rattle.border_runs.proofs.EdgeLemmas.{edge_step}
 use Rattle.operator_runs.specs.Hoists.{Own, Spares, Unused}
 use Rattle.operator_runs.specs.Copies.{IsCopy}

@@ -6,10 +6,10 @@ use Rattle.zpl_region.specs.declared.regions.Region.{Region}
 use Rattle.zpl_region.specs.Hull.{hull_with}
 use Rattle.zpl_region.specs.Region.{moved}
 use Rattle.node_form.specs.declared.tables.Tables.{Tables}
-use Rattle.zpl_lowering.specs.Where.{SlotCurrents, Slotted, Where}
-use Rattle.zpl_lowering.specs.Slate as slate
-use Rattle.zpl_lowering.specs.Slate.{Slate, Slates, NoSlate, ThenSlate, border_slots}
-use Rattle.lowering_runs.specs.Stands.{CopiesAt, IsStored, Misses, array_numbers}
+use Rattle.print_runs.specs.of_zpl_lowering.Where.{SlotCurrents, Slotted, Where}
+use Rattle.print_runs.specs.of_zpl_lowering.Slate as slate
+use Rattle.print_runs.specs.of_zpl_lowering.Slate.{Slate, Slates, NoSlate, ThenSlate, border_slots}
+use Rattle.print_runs.specs.of_lowering_runs.Stands.{CopiesAt, IsStored, Misses, array_numbers}
 use Rattle.operator_runs.specs.Meant.{Site, Alone, Under}
 use Rattle.operator_runs.specs.Hoists.{Own, copies_of}
 

@@ -19,13 +19,13 @@ use Rattle.flat_form.specs.Loop.{operands_at}
 use Rattle.flat_form.specs.Names.{word_reads, word_scalars}
 use Rattle.flat_form.specs.Right.{can_read}
 use Rattle.flat_form.specs.Whole.{Whole}
-use Rattle.zpl_lowering.specs.Where.{Next, Stored}
-use Rattle.zpl_lowering.specs.Slate as slate
-use Rattle.zpl_lowering.specs.Slate.{Slate, Slates, NoSlate, ThenSlate}
-use Rattle.zpl_lowering.specs.Hoist.{Free, Hoisted}
-use Rattle.lowering_runs.specs.Seen.{Spot, seen_store}
-use Rattle.lowering_runs.specs.Stands.{IsSound, Misses}
-use Rattle.array_puts.specs.Put.{IsSame}
+use Rattle.print_runs.specs.of_zpl_lowering.Where.{Next, Stored}
+use Rattle.print_runs.specs.of_zpl_lowering.Slate as slate
+use Rattle.print_runs.specs.of_zpl_lowering.Slate.{Slate, Slates, NoSlate, ThenSlate}
+use Rattle.print_runs.specs.of_zpl_lowering.Hoist.{Free, Hoisted}
+use Rattle.print_runs.specs.of_lowering_runs.Seen.{Spot, seen_store}
+use Rattle.print_runs.specs.of_lowering_runs.Stands.{IsSound, Misses}
+use Rattle.print_runs.specs.of_array_puts.Put.{IsSame}
 use Rattle.operator_runs.specs.Meant.{Site, Alone, Under}
 
 -- ---- where it stands

@@ -13,12 +13,12 @@ use Rattle.zpl_arrays.specs.Reference.{lies_in}
 use Rattle.zpl_meaning.specs.Term as term
 use Rattle.zpl_meaning.specs.Term.{Term, Terms, NoTerm, ThenTerm}
 use Rattle.flat_form.specs.Right.{no_flood}
-use Rattle.zpl_lowering.specs.Where.{Slotted, Stored, Where, flood_of}
-use Rattle.zpl_lowering.specs.Slate as slate
-use Rattle.zpl_lowering.specs.Slate.{Slate, Slates, NoSlate, ThenSlate}
-use Rattle.lowering_runs.specs.Seen.{Spot, place_of}
-use Rattle.array_runs.specs.Reads.{EachCovers}
-use Rattle.array_runs.specs.Elementwise.{IsReadable, IsReadableMask}
+use Rattle.print_runs.specs.of_zpl_lowering.Where.{Slotted, Stored, Where, flood_of}
+use Rattle.print_runs.specs.of_zpl_lowering.Slate as slate
+use Rattle.print_runs.specs.of_zpl_lowering.Slate.{Slate, Slates, NoSlate, ThenSlate}
+use Rattle.print_runs.specs.of_lowering_runs.Seen.{Spot, place_of}
+use Rattle.print_runs.specs.of_array_runs.Reads.{EachCovers}
+use Rattle.print_runs.specs.of_array_runs.Elementwise.{IsReadable, IsReadableMask}
 
 -- Where an expression stands: by itself, where it has one value; or under the region of a slot,
 -- where it has one at each tuple.

@@ -15,10 +15,10 @@ use Rattle.zpl_meaning.specs.Regions as mean
 use Rattle.zpl_meaning.specs.Regions.{vector_in}
 use Rattle.zpl_meaning.specs.Scalars.{IsScalarName}
 use Rattle.zpl_meaning.specs.Settled.{source_in}
-use Rattle.zpl_lowering.specs.Where.{Next, Slotted, Stored, Where, is_flood, slotted_at}
-use Rattle.zpl_lowering.specs.Slate.{opened_source, source_of, source_rank, under_source}
-use Rattle.array_runs.specs.Floods.{CoverFloods, IsElementAs, IsReadableMaskAs, slot_floods}
-use Rattle.prefix_runs.specs.Opens.{IsOpenedAs, Opens}
+use Rattle.print_runs.specs.of_zpl_lowering.Where.{Next, Slotted, Stored, Where, is_flood, slotted_at}
+use Rattle.print_runs.specs.of_zpl_lowering.Slate.{opened_source, source_of, source_rank, under_source}
+use Rattle.print_runs.specs.of_array_runs.Floods.{CoverFloods, IsElementAs, IsReadableMaskAs, slot_floods}
+use Rattle.call_runs.specs.of_prefix_runs.Opens.{IsOpenedAs, Opens}
 use Rattle.operator_runs.specs.Meant.{IsAlong, IsAround}
 
 -- no dimension is a flood dimension

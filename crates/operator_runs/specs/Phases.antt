@@ -10,11 +10,11 @@ use Rattle.row_runs.specs.Run.{Ends}
 use Rattle.row_runs.specs.Straight.{Every}
 use Rattle.row_runs.specs.Structured.{Course, GoesOn, Over}
 use Rattle.flat_form.specs.Whole.{Whole}
-use Rattle.zpl_lowering.specs.Where.{Stored, Next}
-use Rattle.zpl_lowering.specs.Reference.{Reference}
-use Rattle.lowering_runs.specs.Seen.{Spot, seen_store}
-use Rattle.lowering_runs.specs.Stands.{IsSound, Misses}
-use Rattle.array_runs.specs.Integers.{GivesIntegers}
+use Rattle.print_runs.specs.of_zpl_lowering.Where.{Stored, Next}
+use Rattle.print_runs.specs.of_zpl_lowering.Reference.{Reference}
+use Rattle.print_runs.specs.of_lowering_runs.Seen.{Spot, seen_store}
+use Rattle.print_runs.specs.of_lowering_runs.Stands.{IsSound, Misses}
+use Rattle.print_runs.specs.of_array_runs.Integers.{GivesIntegers}
 use Rattle.operator_runs.specs.Meant.{Site, Alone, Under}
 use Rattle.operator_runs.specs.Hoists.{HaveValuesAt, Own, Unused}
 

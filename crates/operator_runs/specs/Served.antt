@@ -9,10 +9,10 @@ use Rattle.zpl_meaning.specs.Store.{ArrayAt, thing_of}
 use Rattle.zpl_meaning.specs.Context.{Place, Setup, reach_of, rank_in}
 use Rattle.zpl_meaning.specs.Points.{assigned_expr}
 use Rattle.zpl_meaning.specs.Proper.{HasCurrent, IsTarget}
-use Rattle.zpl_lowering.specs.Where.{Where, slotted_at}
-use Rattle.lowering_runs.specs.Suits.{ScalarTest}
-use Rattle.array_runs.specs.Floods.{IsReadableMaskAs, IsWritableAs}
-use Rattle.prefix_runs.specs.Plain.{PlainLeaf}
+use Rattle.print_runs.specs.of_zpl_lowering.Where.{Where, slotted_at}
+use Rattle.print_runs.specs.of_lowering_runs.Suits.{ScalarTest}
+use Rattle.print_runs.specs.of_array_runs.Floods.{IsReadableMaskAs, IsWritableAs}
+use Rattle.call_runs.specs.of_prefix_runs.Plain.{PlainLeaf}
 use Rattle.print_runs.specs.Printed.{HasNoFlood}
 use Rattle.operator_runs.specs.Operated.{IsOperated}
 

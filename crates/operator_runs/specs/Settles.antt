@@ -9,10 +9,10 @@ use Rattle.row_runs.specs.Run.{Ends}
 use Rattle.row_runs.specs.Structured as code
 use Rattle.row_runs.specs.Structured.{Course, Over}
 use Rattle.flat_form.specs.Whole.{Whole}
-use Rattle.zpl_lowering.specs.Where.{Where, Next}
-use Rattle.zpl_lowering.specs.Slate.{Slates}
-use Rattle.lowering_runs.specs.Seen.{Spot}
-use Rattle.prefix_runs.specs.Filled.{IsFilled}
+use Rattle.print_runs.specs.of_zpl_lowering.Where.{Where, Next}
+use Rattle.print_runs.specs.of_zpl_lowering.Slate.{Slates}
+use Rattle.print_runs.specs.of_lowering_runs.Seen.{Spot}
+use Rattle.call_runs.specs.of_prefix_runs.Filled.{IsFilled}
 use Rattle.operator_runs.specs.Meant.{Site, AreMeantAt}
 use Rattle.operator_runs.specs.Copies.{AllCopied, AllTakeOthers}
 use Rattle.operator_runs.specs.Hoists.{Own}

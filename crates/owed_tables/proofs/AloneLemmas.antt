@@ -18,10 +18,10 @@ use Rattle.temp_norm.specs.Normalised.{PutsAlone, ReadThemselvesAlone, reads_its
 use Rattle.temp_norm.specs.Normalised.PutsAlone.{puts_alone}
 use Rattle.zpl_lowering.specs.Lowered.{Lowered}
 use Rattle.zpl_lowering.specs.Tables.{empty_tables, rows_of, tables_of}
-use Rattle.lowering_fits.specs.Inline.{FitRows, FitsRow, PutsKept, PutsOne, ReadsApart}
-use Rattle.lowering_fits.specs.Lowerings.{FitsLowered}
-use Rattle.lowering_fits.proofs.PieceLemmas.{all_rows_fit}
-use Rattle.lowering_fits.proofs.ReadLemmas.{exprs_are, arrays_are}
+use Rattle.lowered_flat.specs.of_lowering_fits.Inline.{FitRows, FitsRow, PutsKept, PutsOne, ReadsApart}
+use Rattle.lowered_flat.specs.of_lowering_fits.Lowerings.{FitsLowered}
+use Rattle.lowered_flat.proofs.of_lowering_fits.PieceLemmas.{all_rows_fit}
+use Rattle.lowered_flat.proofs.of_lowering_fits.ReadLemmas.{exprs_are, arrays_are}
 use Rattle.owed_tables.proofs.ShareLemmas.{all_still, group_stored, kept_apart, none_shared, numbers_from, words_by_number, words_stored}
 
 -- ---- groups as they stand in tables

@@ -14,7 +14,7 @@ use Rattle.text_sharing.specs.Shared.{texts_shared}
 use Rattle.typed_tables.specs.Typed.{AreTyped}
 use Rattle.zpl_lowering.specs.Program.{lowered_program}
 use Rattle.zpl_lowering.specs.Tables.{empty_tables, flat_tables, unshared_tables}
-use Rattle.lowering_fits.specs.Lowerings.{FitsLowered}
+use Rattle.lowered_flat.specs.of_lowering_fits.Lowerings.{FitsLowered}
 use Rattle.sharable_tables.specs.Owed.{OwesPlan}
 use Rattle.owed_tables.proofs.AloneLemmas.{whole_alone}
 use Rattle.owed_tables.proofs.ThreeLemmas.{typed_three}

@@ -13,7 +13,7 @@ use Rattle.node_form.specs.declared.tables.Tables.{Tables}
 use Rattle.node_form.specs.Fits.{IsStored, IsTemporary}
 use Rattle.code_parts.specs.Uses.{rows_or_none, share, shifted_in, words_of}
 use Rattle.stored_shifts.specs.Stored.{IsStoredRead, ShiftsAreStored}
-use Rattle.lowering_fits.specs.Inline.{is_still, AllStill}
+use Rattle.lowered_flat.specs.of_lowering_fits.Inline.{is_still, AllStill}
 
 -- ---- numbers
 pub none_shared : (numbers : List ℕ) → share numbers [] ≡ false

@@ -6,8 +6,8 @@ use Rattle.node_form.specs.declared.instructions.Instr.TheVariants as instr
 use Rattle.node_form.specs.declared.words.ExprOp.{ExprOp}
 use Rattle.node_form.specs.declared.words.ExprOp.TheVariants as word
 use Rattle.node_form.specs.declared.tables.Tables.{Tables}
-use Rattle.needs_runs.specs.Agree.{HasThreeOf}
-use Rattle.needs_runs.specs.Sharable.{HasThreeIn}
+use Rattle.sharable_tables.specs.of_needs_runs.Agree.{HasThreeOf}
+use Rattle.sharable_tables.specs.of_needs_runs.Sharable.{HasThreeIn}
 use Rattle.sharable_tables.specs.Threes.{HasThrees}
 use Rattle.typed_tables.specs.Typed.{AreTyped, IsTypedRow, IsTypedWord}
 

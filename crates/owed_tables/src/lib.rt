@@ -15,9 +15,13 @@ ghost use Rattle.zpl_lowering.specs.Tables.{flat_tables};
 ghost use Rattle.lowered_flat.specs.Apart.{NamesStandApart};
 ghost use Rattle.sharable_tables.specs.Owed.{OwesPlan};
 
+pub use lowered_flat;
+use lowered_flat::lowering_fits::{lowered_programs_fit, numbered_code_makes_a_flat_program};
 use lowered_flat::{declarations_fit, lowered_programs_are_flat, lowered_tables_are_typed};
-use lowering_fits::{lowered_programs_fit, numbered_code_makes_a_flat_program};
+pub use lowering_loops;
 use lowering_loops::loops_stand_in_one_unit;
+pub use lowering_loops::pass_promises;
+pub use sharable_tables;
 
 /// The tables of a program of the grammar without faults, under settings that it accepts, in which
 /// no two arrays' names stand at one offset, have all that a plan asks of a flat program.

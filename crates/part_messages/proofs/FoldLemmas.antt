@@ -13,8 +13,8 @@ use Rattle.zpl_arrays.specs.Array.{Array, place_among}
 use Rattle.zpl_arrays.proofs.ArrayLemmas.{only_place}
 use Rattle.grid_meaning.specs.Delivery.{each_word}
 use Rattle.grid_meaning.specs.Place.{value_at, values_at}
-use Rattle.node_messages.specs.Reading.{IsAppended}
-use Rattle.node_messages.proofs.ReadLemmas.{left}
+use Rattle.exchange_messages.specs.of_node_messages.Reading.{IsAppended}
+use Rattle.exchange_messages.proofs.of_node_messages.ReadLemmas.{left}
 use Rattle.delivery_stages.proofs.WordLemmas.{IsReading, reading_ends, reading_lacks, reading_starts, reading_step}
 use Rattle.part_messages.specs.declared.walks.Walk.{Walk}
 use Rattle.part_messages.specs.Walking.{IsAhead, IsNext, IsOn, tuples_on}

@@ -3,7 +3,7 @@ ghost use Rattle.std.specs.Prelude.{◌≡◌, is_some, IfOk};
 ghost use Rattle.std.specs.Option.{option_map};
 ghost use Rattle.grid_meaning.specs.Delivery.{each_word};
 ghost use Rattle.grid_meaning.specs.Place.{values_at};
-ghost use Rattle.node_messages.specs.Reading.{IsRead};
+ghost use Rattle.exchange_messages.specs.of_node_messages.Reading.{IsRead};
 ghost use Rattle.zpl_nums.specs.Fold.{folded};
 ghost use Rattle.zpl_region.specs.Region.{IsRegion, members};
 ghost use Rattle.part_messages.specs.Folding.{fold_over};
@@ -11,7 +11,7 @@ ghost use Rattle.part_messages.specs.Walking.{IsWalk, tuples_on};
 
 use crate::reaches::reached;
 use crate::walks::Walk;
-use node_local::Local;
+use exchange_messages::node_local::Local;
 use std::alloc::AllocError;
 use zpl_nums::{Fold, join, unit};
 use zpl_region::{Region, Vec3};

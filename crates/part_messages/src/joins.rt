@@ -5,7 +5,7 @@ ghost use Rattle.part_messages.specs.Joining.{joined_at, joined_into};
 ghost use Rattle.part_messages.specs.Walking.{IsWalk, tuples_on};
 
 use crate::walks::Walk;
-use node_local::Local;
+use exchange_messages::node_local::Local;
 use zpl_nums::{Fold, join};
 use zpl_region::Vec3;
 

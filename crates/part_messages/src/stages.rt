@@ -5,16 +5,16 @@ ghost use Rattle.grid_meaning.specs.Delivery.{part_targets, parted};
 ghost use Rattle.grid_meaning.specs.Local.{processors};
 ghost use Rattle.grid_meaning.specs.State.{IsSlot};
 ghost use Rattle.grid_meaning.specs.Stored.{arrangement_of};
-ghost use Rattle.node_stages.specs.Partners.{flagged};
-ghost use Rattle.node_stages.specs.Slots.{at_slots};
-ghost use Rattle.node_stages.specs.Stage.{staged};
+ghost use Rattle.exchange_messages.specs.of_node_stages.Partners.{flagged};
+ghost use Rattle.exchange_messages.specs.of_node_stages.Slots.{at_slots};
+ghost use Rattle.exchange_messages.specs.of_node_stages.Stage.{staged};
 ghost use Rattle.zpl_nums.specs.declared.folds.Fold.TheVariants.{Sum};
 
 use crate::walks::Walk;
 use delivery_stages::delivery_stage;
+use exchange_messages::node_stages::{MOST, Stage};
 use grid_layout::Layout;
 use node_form::NodeProgram;
-use node_stages::{MOST, Stage};
 use zpl_region::Region;
 
 /// Whether one processor has words for another.

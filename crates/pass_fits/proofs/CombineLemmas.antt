@@ -7,11 +7,11 @@ use Rattle.node_form.specs.declared.arrays.Item.{Item}
 use Rattle.node_form.specs.declared.tables.Tables.{Tables}
 use Rattle.node_form.specs.Fits.{Fits, FitsItem}
 use Rattle.code_parts.specs.Exchanged.{is_among}
-use Rattle.flat_passes.proofs.StretchLemmas.{every_append}
-use Rattle.plan_form.specs.Units.{PlanUnit, Exchange, Single, with_item}
-use Rattle.comm_combine.specs.Merge.{joined_to, neighbours_merged, units_merged}
-use Rattle.comm_combine.specs.Repeats.{exchange_if_any, fresh_after, repeats_dropped, stale_items}
-use Rattle.comm_combine.specs.Repeats.{without_fresh}
+use Rattle.pass_parts.proofs.of_flat_passes.StretchLemmas.{every_append}
+use Rattle.pass_parts.specs.of_plan_form.Units.{PlanUnit, Exchange, Single, with_item}
+use Rattle.pass_parts.specs.of_comm_combine.Merge.{joined_to, neighbours_merged, units_merged}
+use Rattle.pass_parts.specs.of_comm_combine.Repeats.{exchange_if_any, fresh_after, repeats_dropped, stale_items}
+use Rattle.pass_parts.specs.of_comm_combine.Repeats.{without_fresh}
 use Rattle.pass_fits.proofs.NeedLemmas.{items_added}
 use Rattle.pass_fits.proofs.UnitLemmas.{FitsUnit, units_fit}
 

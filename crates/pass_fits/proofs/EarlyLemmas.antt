@@ -15,11 +15,11 @@ use Rattle.node_form.specs.Fits.{Fits, FitsInstr}
 use Rattle.node_form.specs.Grid.{IsGrid}
 use Rattle.code_parts.specs.Early.{may_cross}
 use Rattle.code_parts.specs.Stretch.{ends_stretch, is_goal}
-use Rattle.flat_passes.specs.Rewritten.{stretches_of}
-use Rattle.flat_passes.proofs.StretchLemmas.{HoldsOf, every_append, news_hold}
-use Rattle.comm_early.specs.Send.{open_behind_all, put_early, put_row, rows_early, sent_early}
-use Rattle.comm_early.proofs.SumLemmas.{rows_stay}
-use Rattle.node_emit.specs.Emit.{along_tree, emitted}
+use Rattle.pass_parts.specs.of_flat_passes.Rewritten.{stretches_of}
+use Rattle.pass_parts.proofs.of_flat_passes.StretchLemmas.{HoldsOf, every_append, news_hold}
+use Rattle.pass_parts.specs.of_comm_early.Send.{open_behind_all, put_early, put_row, rows_early, sent_early}
+use Rattle.pass_parts.proofs.of_comm_early.SumLemmas.{rows_stay}
+use Rattle.pass_parts.specs.of_node_emit.Emit.{along_tree, emitted}
 use Rattle.pass_fits.proofs.RecodedLemmas.{recoded_fits}
 use Rattle.pass_fits.proofs.UnitLemmas.{every_back, every_front, last_of}
 

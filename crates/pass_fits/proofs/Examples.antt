@@ -19,7 +19,7 @@ use Rattle.node_form.specs.Fits.{Fits, FitsArray, FitsExchange, FitsExpr, FitsGr
 use Rattle.node_form.specs.Fits.{FitsMember, FitsWord, IsRank, IsUnused, IsUnusedOrStar, IsVector}
 use Rattle.node_form.specs.Grid.{IsGrid}
 use Rattle.node_form.specs.Nest.{Nothing, Putting}
-use Rattle.comm_needs.specs.Needs.{planned}
+use Rattle.pass_parts.specs.of_comm_needs.Needs.{planned}
 
 abbrev no_range : ArrayDim
 no_range = axis.Range (pos 0) (pos 0) (pos 0) (pos 0)

@@ -6,20 +6,20 @@ use Rattle.std.proofs.lemmas.List.Elements.{All-from_recursion, recursion_from_A
 use Rattle.node_form.specs.declared.instructions.Instr.{Instr}
 use Rattle.node_form.specs.declared.instructions.Instr.TheVariants as instr
 use Rattle.node_form.specs.declared.tables.Tables.{Tables}
-use Rattle.flat_form.specs.Flat.{IsFlat, IsFlatRow}
+use Rattle.pass_parts.specs.of_flat_form.Flat.{IsFlat, IsFlatRow}
 use Rattle.code_parts.specs.Counts.{count_of, is_vote}
-use Rattle.temp_norm.specs.Normalised.{normalised}
-use Rattle.temp_norm.proofs.FitLemmas.{normalised_fits}
-use Rattle.bound_check.specs.Checked.{checked}
-use Rattle.bound_check.proofs.FitLemmas.{checked_fits}
-use Rattle.fuse_contract.specs.Contracting.{contracted}
-use Rattle.fuse_contract.specs.Fusing.{fused}
-use Rattle.fuse_contract.proofs.CellFitLemmas.{contracted_fits}
-use Rattle.fuse_contract.proofs.FitLemmas.{fused_fits}
-use Rattle.pass_sizes.specs.Sizes.{is_unflat}
-use Rattle.pass_sizes.proofs.NormalLemmas.{normal_count}
-use Rattle.pass_sizes.proofs.SettledLemmas.{checked_count, fused_count}
-use Rattle.pass_sizes.proofs.TestLemmas.{unflat_blind}
+use Rattle.pass_parts.specs.of_temp_norm.Normalised.{normalised}
+use Rattle.pass_parts.proofs.of_temp_norm.FitLemmas.{normalised_fits}
+use Rattle.pass_parts.specs.of_bound_check.Checked.{checked}
+use Rattle.pass_parts.proofs.of_bound_check.FitLemmas.{checked_fits}
+use Rattle.pass_parts.specs.of_fuse_contract.Contracting.{contracted}
+use Rattle.pass_parts.specs.of_fuse_contract.Fusing.{fused}
+use Rattle.pass_parts.proofs.of_fuse_contract.CellFitLemmas.{contracted_fits}
+use Rattle.pass_parts.proofs.of_fuse_contract.FitLemmas.{fused_fits}
+use Rattle.pass_parts.specs.of_pass_sizes.Sizes.{is_unflat}
+use Rattle.pass_parts.proofs.of_pass_sizes.NormalLemmas.{normal_count}
+use Rattle.pass_parts.proofs.of_pass_sizes.SettledLemmas.{checked_count, fused_count}
+use Rattle.pass_parts.proofs.of_pass_sizes.TestLemmas.{unflat_blind}
 use Rattle.pass_parts.proofs.NameLemmas.{none_counted, none_first}
 
 -- ---- rows of flat programs are those that none of the others is

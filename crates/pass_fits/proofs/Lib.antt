@@ -7,3 +7,5 @@ pub mod EarlyLemmas
 pub mod FlatLemmas
 pub mod ShiftLemmas
 mod Examples
+pub use Rattle.pass_parts.proofs as of_pass_parts
+pub use Rattle.pass_parts.proofs.of_pass_sizes as of_pass_sizes

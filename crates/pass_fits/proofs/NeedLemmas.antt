@@ -18,11 +18,11 @@ use Rattle.node_form.specs.Grid.{IsGrid}
 use Rattle.code_parts.specs.Exchanged.{is_among}
 use Rattle.code_parts.specs.Uses.{as_list, exprs_of, group_words, member_words, members_of}
 use Rattle.code_parts.specs.Uses.{rows_or_none, words_of}
-use Rattle.flat_passes.proofs.StretchLemmas.{every_append}
-use Rattle.plan_form.specs.Units.{PlanUnit, Exchange, Single, with_item}
-use Rattle.plan_form.specs.Rewrite.{with_units}
-use Rattle.comm_needs.specs.Needs.{is_voted_on, loop_with_needs, needed_alone, needed_by, needs_of}
-use Rattle.comm_needs.specs.Needs.{planned, vote_if, with_needs}
+use Rattle.pass_parts.proofs.of_flat_passes.StretchLemmas.{every_append}
+use Rattle.pass_parts.specs.of_plan_form.Units.{PlanUnit, Exchange, Single, with_item}
+use Rattle.pass_parts.specs.of_plan_form.Rewrite.{with_units}
+use Rattle.pass_parts.specs.of_comm_needs.Needs.{is_voted_on, loop_with_needs, needed_alone, needed_by, needs_of}
+use Rattle.pass_parts.specs.of_comm_needs.Needs.{planned, vote_if, with_needs}
 use Rattle.stored_shifts.specs.Stored.{IsStoredRead, ShiftsAreStored}
 use Rattle.pass_fits.proofs.UnitLemmas.{FitsUnit, KeepsUnits, units_fit}
 use Rattle.pass_fits.proofs.RecodedLemmas.{recoded_fits}

@@ -9,12 +9,12 @@ use Rattle.node_form.specs.declared.words.ExprOp.TheVariants as word
 use Rattle.node_form.specs.declared.arrays.ArrayRow.{ArrayRow}
 use Rattle.node_form.specs.declared.tables.Tables.{Tables}
 use Rattle.node_form.proofs.GrowthLemmas.{Keeps-append}
-use Rattle.temp_norm.specs.Normalised.{normalised, read_each, temporaries}
-use Rattle.bound_check.specs.Checked.{checked}
-use Rattle.fuse_contract.specs.Contracting.{cell_among, contracted, contracted_arrays, here_or_cell}
-use Rattle.fuse_contract.specs.Contracting.{word_contracted}
-use Rattle.fuse_contract.specs.Fusing.{fused}
-use Rattle.fuse_contract.proofs.CellFitLemmas.{every_mapped}
+use Rattle.pass_parts.specs.of_temp_norm.Normalised.{normalised, read_each, temporaries}
+use Rattle.pass_parts.specs.of_bound_check.Checked.{checked}
+use Rattle.pass_parts.specs.of_fuse_contract.Contracting.{cell_among, contracted, contracted_arrays, here_or_cell}
+use Rattle.pass_parts.specs.of_fuse_contract.Contracting.{word_contracted}
+use Rattle.pass_parts.specs.of_fuse_contract.Fusing.{fused}
+use Rattle.pass_parts.proofs.of_fuse_contract.CellFitLemmas.{every_mapped}
 use Rattle.stored_shifts.specs.Stored.{IsStoredRead, ShiftsAreStored}
 
 weaker_all : {X : Type 0} (P Q : X → Type 0) → ((x : X) → P x → Q x) → (xs : List X) → All P xs

@@ -19,12 +19,12 @@ use Rattle.node_form.specs.Fits.{Fits, FitsExchange, FitsInstr, FitsItem}
 use Rattle.node_form.proofs.GrowthLemmas.{Fits-exchange-row}
 use Rattle.code_parts.specs.Stretch.{ends_stretch, is_goal}
 use Rattle.code_parts.specs.Uses.{rows_or_none}
-use Rattle.flat_passes.specs.Rewritten.{stretches_of, with_moved_goal}
-use Rattle.flat_passes.proofs.StretchLemmas.{HoldsOf, IsCut, all_cut, every_append, news_hold}
-use Rattle.plan_form.specs.Units.{PlanUnit, Exchange, Single, PlanRow, StartOf, FinishOf, Other}
-use Rattle.plan_form.specs.Units.{exchanges_in, laid_out, numbered_from, unit_of, unit_rows}
-use Rattle.plan_form.specs.Units.{units_of}
-use Rattle.plan_form.specs.Rewrite.{ended_by, rows_by, with_units}
+use Rattle.pass_parts.specs.of_flat_passes.Rewritten.{stretches_of, with_moved_goal}
+use Rattle.pass_parts.proofs.of_flat_passes.StretchLemmas.{HoldsOf, IsCut, all_cut, every_append, news_hold}
+use Rattle.pass_parts.specs.of_plan_form.Units.{PlanUnit, Exchange, Single, PlanRow, StartOf, FinishOf, Other}
+use Rattle.pass_parts.specs.of_plan_form.Units.{exchanges_in, laid_out, numbered_from, unit_of, unit_rows}
+use Rattle.pass_parts.specs.of_plan_form.Units.{units_of}
+use Rattle.pass_parts.specs.of_plan_form.Rewrite.{ended_by, rows_by, with_units}
 use Rattle.pass_fits.proofs.SameLemmas.{FitsSingle, exchange_same, fits_replanned, single_fits}
 
 -- an exchange of items that fit, or another row, with its goal among so many rows

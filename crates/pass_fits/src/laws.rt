@@ -3,16 +3,16 @@ ghost use Rattle.std.specs.Prelude.{ℕ, Bool, List, Option};
 ghost use Rattle.node_form.specs.Fits.{Fits};
 ghost use Rattle.node_form.specs.Grid.{IsGrid};
 ghost use Rattle.node_form.specs.declared.tables.Tables.{Tables as Code};
-ghost use Rattle.flat_form.specs.Flat.{IsFlat};
-ghost use Rattle.temp_norm.specs.Normalised.{normalised};
-ghost use Rattle.bound_check.specs.Checked.{checked};
-ghost use Rattle.fuse_contract.specs.Contracting.{contracted};
-ghost use Rattle.fuse_contract.specs.Fusing.{fused};
-ghost use Rattle.comm_needs.specs.Needs.{planned};
-ghost use Rattle.comm_combine.specs.Merge.{neighbours_merged};
-ghost use Rattle.comm_combine.specs.Repeats.{repeats_dropped};
-ghost use Rattle.comm_early.specs.Send.{sent_early};
-ghost use Rattle.node_emit.specs.Emit.{emitted};
+ghost use Rattle.pass_parts.specs.of_flat_form.Flat.{IsFlat};
+ghost use Rattle.pass_parts.specs.of_temp_norm.Normalised.{normalised};
+ghost use Rattle.pass_parts.specs.of_bound_check.Checked.{checked};
+ghost use Rattle.pass_parts.specs.of_fuse_contract.Contracting.{contracted};
+ghost use Rattle.pass_parts.specs.of_fuse_contract.Fusing.{fused};
+ghost use Rattle.pass_parts.specs.of_comm_needs.Needs.{planned};
+ghost use Rattle.pass_parts.specs.of_comm_combine.Merge.{neighbours_merged};
+ghost use Rattle.pass_parts.specs.of_comm_combine.Repeats.{repeats_dropped};
+ghost use Rattle.pass_parts.specs.of_comm_early.Send.{sent_early};
+ghost use Rattle.pass_parts.specs.of_node_emit.Emit.{emitted};
 ghost use Rattle.stored_shifts.specs.Stored.{ShiftsAreStored};
 
 /// What a pass over flat programs makes of one is one: it fits, and no row of it sends or votes.

@@ -7,3 +7,4 @@
 mod laws;
 
 pub use laws::{flat_programs_stay_flat, plans_fit, shifts_stay_stored};
+pub use pass_parts::fuse_contract;

@@ -15,9 +15,9 @@ use Rattle.node_form.specs.Group.{depth_behind}
 use Rattle.code_parts.specs.Uses.{accumulated_by, arrays_in, exprs_of, is_turning, member_words}
 use Rattle.code_parts.specs.Uses.{members_of, named_by, put_by, rows_or_none, scalars_in, shifted_in}
 use Rattle.code_parts.specs.Uses.{words_of}
-use Rattle.fuse_contract.specs.Contracting.{cell_among, contracted, contracted_arrays, here_or_cell}
-use Rattle.fuse_contract.specs.Contracting.{is_among, is_named_in, member_contracted, put_or_cell}
-use Rattle.fuse_contract.specs.Contracting.{word_contracted}
+use Rattle.pass_sizes.specs.of_fuse_contract.Contracting.{cell_among, contracted, contracted_arrays, here_or_cell}
+use Rattle.pass_sizes.specs.of_fuse_contract.Contracting.{is_among, is_named_in, member_contracted, put_or_cell}
+use Rattle.pass_sizes.specs.of_fuse_contract.Contracting.{word_contracted}
 
 -- ---- lists by their numbers, and lists of lists
 mapped_rows : {A B : Type 0} (f : A → B) (lists : List (List A)) (k : ℕ)

@@ -13,7 +13,7 @@ use Rattle.node_form.specs.declared.tables.Tables.{Tables}
 use Rattle.code_parts.specs.Stretch.{IsRightInStretches, IsStretch, is_right_throughout}
 use Rattle.code_parts.specs.Uses.{members_of}
 use Rattle.code_parts.proofs.WalkLemmas.{in_stretches, throughout}
-use Rattle.fuse_contract.specs.Fusing.{reference, references_of, stands_with}
+use Rattle.pass_sizes.specs.of_fuse_contract.Fusing.{reference, references_of, stands_with}
 use Rattle.pass_parts.specs.Checks.{ChecksBetween, StandsBetween, checked_by, checked_in, is_check}
 use Rattle.pass_parts.specs.Checks.{is_one_of}
 

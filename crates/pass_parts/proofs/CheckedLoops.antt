@@ -24,13 +24,13 @@ use Rattle.code_parts.specs.Stretch.{right_from}
 use Rattle.code_parts.specs.Uses.{is_item, members_of}
 use Rattle.code_parts.proofs.ListLemmas.{In, one_passes}
 use Rattle.code_parts.proofs.WalkLemmas.{both_left, both_right, in_stretches}
-use Rattle.flat_passes.specs.Rewritten.{stretches_of, with_moved_goal}
-use Rattle.plan_form.proofs.ItemLemmas.{is_item-Decides}
-use Rattle.plan_form.proofs.WalkLemmas as walks
-use Rattle.comm_combine.proofs.ReachLemmas.{GoalsMoved}
-use Rattle.bound_check.specs.Checked.{checked, rows_stayed, stays}
-use Rattle.fuse_contract.specs.Fusing.{always_lies, is_stored, lies_within, reference, references_of}
-use Rattle.fuse_contract.specs.Fusing.{stands_with}
+use Rattle.node_emit.specs.of_flat_passes.Rewritten.{stretches_of, with_moved_goal}
+use Rattle.pass_sizes.proofs.of_plan_form.ItemLemmas.{is_item-Decides}
+use Rattle.pass_sizes.proofs.of_plan_form.WalkLemmas as walks
+use Rattle.pass_sizes.proofs.of_comm_combine.ReachLemmas.{GoalsMoved}
+use Rattle.pass_sizes.specs.of_bound_check.Checked.{checked, rows_stayed, stays}
+use Rattle.pass_sizes.specs.of_fuse_contract.Fusing.{always_lies, is_stored, lies_within, reference, references_of}
+use Rattle.pass_sizes.specs.of_fuse_contract.Fusing.{stands_with}
 use Rattle.pass_parts.specs.Checks.{ChecksWhatItJoins, StandsBehindChecks, is_one_of}
 use Rattle.pass_parts.specs.Parts.{KnowsWhatItJoins, StandsWithWhatItJoins, known_after}
 use Rattle.pass_parts.proofs.CheckedLemmas.{Since, are_needed, needed_behind, old_learn, old_right}

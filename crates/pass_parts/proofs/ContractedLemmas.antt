@@ -16,11 +16,11 @@ use Rattle.node_form.specs.declared.tables.Tables.{Tables}
 use Rattle.node_form.specs.Fits.{Fits, FitsGroup, FitsMember}
 use Rattle.node_form.specs.Group.{depth_behind}
 use Rattle.code_parts.specs.Uses.{arrays_in, members_of, named_by, rows_or_none, words_of}
-use Rattle.comm_early.proofs.TrackLemmas.{less_or}
-use Rattle.fuse_contract.specs.Contracting.{arrays_of_row, becomes_cell, begins_it, cell_among}
-use Rattle.fuse_contract.specs.Contracting.{contracted, contracted_from}
-use Rattle.fuse_contract.specs.Contracting.{fits_a_cell, is_among, is_begun, is_named_in}
-use Rattle.fuse_contract.specs.Contracting.{is_shifted_in, naming_group, put_or_cell}
+use Rattle.pass_sizes.proofs.of_comm_early.TrackLemmas.{less_or}
+use Rattle.pass_sizes.specs.of_fuse_contract.Contracting.{arrays_of_row, becomes_cell, begins_it, cell_among}
+use Rattle.pass_sizes.specs.of_fuse_contract.Contracting.{contracted, contracted_from}
+use Rattle.pass_sizes.specs.of_fuse_contract.Contracting.{fits_a_cell, is_among, is_begun, is_named_in}
+use Rattle.pass_sizes.specs.of_fuse_contract.Contracting.{is_shifted_in, naming_group, put_or_cell}
 use Rattle.pass_parts.specs.Parts.{HasNoCellLeft, IsCellLeft}
 use Rattle.pass_parts.proofs.CellLemmas.{cell_of, depth_new, group_names, member_names, members_new}
 use Rattle.pass_parts.proofs.CellLemmas.{new_member, shifted_new, words_name, words_new}

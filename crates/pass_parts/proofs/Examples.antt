@@ -7,7 +7,7 @@ use Rattle.node_form.specs.declared.members.Member.TheVariants as member
 use Rattle.node_form.specs.declared.instructions.Instr.TheVariants as instr
 use Rattle.node_form.specs.declared.tables.Tables.{Tables}
 use Rattle.node_form.specs.Value.{unmoved}
-use Rattle.fuse_contract.specs.Fusing.{reference}
+use Rattle.pass_sizes.specs.of_fuse_contract.Fusing.{reference}
 use Rattle.pass_parts.specs.Parts.{known_after, names_alone}
 
 -- a group that puts array 0 to what array 1 has

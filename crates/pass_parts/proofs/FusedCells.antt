@@ -15,10 +15,10 @@ use Rattle.code_parts.specs.Uses.{arrays_in, member_words, members_of, named_by,
 use Rattle.code_parts.specs.Uses.{rows_or_none, share, shifted_in}
 use Rattle.code_parts.proofs.ListLemmas.{In, from_each, in_back, in_each, some_passes}
 use Rattle.code_parts.proofs.WalkLemmas.{both_left, both_right}
-use Rattle.fuse_contract.specs.Contracting.{arrays_of_row, becomes_cell, cell_among, contracted}
-use Rattle.fuse_contract.specs.Contracting.{contracted_arrays, contracted_from, fits_a_cell}
-use Rattle.fuse_contract.specs.Contracting.{is_among, is_begun, is_named_in, is_shifted_in}
-use Rattle.fuse_contract.specs.Contracting.{naming_group, put_or_cell}
+use Rattle.pass_sizes.specs.of_fuse_contract.Contracting.{arrays_of_row, becomes_cell, cell_among, contracted}
+use Rattle.pass_sizes.specs.of_fuse_contract.Contracting.{contracted_arrays, contracted_from, fits_a_cell}
+use Rattle.pass_sizes.specs.of_fuse_contract.Contracting.{is_among, is_begun, is_named_in, is_shifted_in}
+use Rattle.pass_sizes.specs.of_fuse_contract.Contracting.{naming_group, put_or_cell}
 use Rattle.pass_parts.proofs.CellLemmas.{accumulated_new, cell_of, members_new, new_member}
 use Rattle.pass_parts.proofs.CellLemmas.{scalars_new, shifted_new, turning_new}
 use Rattle.pass_parts.proofs.JoinableLemmas.{AreApart, apart, can_be, shifts}

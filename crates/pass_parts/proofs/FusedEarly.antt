@@ -7,8 +7,8 @@ use Rattle.node_form.specs.declared.tables.Tables.{Tables}
 use Rattle.code_parts.specs.Early.{may_cross}
 use Rattle.code_parts.specs.Fused.{IsFused, begins_anew, last_loop}
 use Rattle.code_parts.proofs.FusedLemmas.{fused_either_way}
-use Rattle.comm_early.specs.Send.{open_behind_all, put_early, put_row, sent_early}
-use Rattle.comm_early.proofs.PassedLemmas.{facts_back, right_back, stays_right}
+use Rattle.pass_sizes.specs.of_comm_early.Send.{open_behind_all, put_early, put_row, sent_early}
+use Rattle.pass_sizes.proofs.of_comm_early.PassedLemmas.{facts_back, right_back, stays_right}
 
 both : (a b : Bool) → a ≡ true → b ≡ true → (a && b) ≡ true
 both true b one other = other

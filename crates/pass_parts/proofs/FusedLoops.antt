@@ -18,17 +18,17 @@ use Rattle.code_parts.specs.Stretch.{ends_stretch, is_goal, right_from}
 use Rattle.code_parts.specs.Uses.{members_of}
 use Rattle.code_parts.proofs.FusedLemmas.{fused_either_way}
 use Rattle.code_parts.proofs.WalkLemmas.{both_left, both_right}
-use Rattle.flat_passes.specs.Rewritten.{stretches_of, with_moved_goal}
-use Rattle.flat_passes.specs.Grouped.{Grouped, Plain, Runs, all_numbered, ended_by, groups_of}
-use Rattle.flat_passes.specs.Grouped.{with_grouped}
-use Rattle.plan_form.proofs.WalkLemmas as walks
-use Rattle.fuse_contract.specs.Fusing.{Loop, can_join, fused, joins, known_behind}
-use Rattle.fuse_contract.specs.Fusing.{last_rows, references_of, stands_with}
-use Rattle.fuse_contract.specs.Fusing.{both as both_loops}
-use Rattle.fuse_contract.specs.Joining.{Facts, behind_row, joins_last, last_with, loop_over}
-use Rattle.fuse_contract.specs.Joining.{no_facts, row_rows}
-use Rattle.fuse_contract.proofs.JoinedLemmas.{closed_is}
-use Rattle.comm_combine.proofs.ReachLemmas.{GoalsMoved}
+use Rattle.node_emit.specs.of_flat_passes.Rewritten.{stretches_of, with_moved_goal}
+use Rattle.node_emit.specs.of_flat_passes.Grouped.{Grouped, Plain, Runs, all_numbered, ended_by, groups_of}
+use Rattle.node_emit.specs.of_flat_passes.Grouped.{with_grouped}
+use Rattle.pass_sizes.proofs.of_plan_form.WalkLemmas as walks
+use Rattle.pass_sizes.specs.of_fuse_contract.Fusing.{Loop, can_join, fused, joins, known_behind}
+use Rattle.pass_sizes.specs.of_fuse_contract.Fusing.{last_rows, references_of, stands_with}
+use Rattle.pass_sizes.specs.of_fuse_contract.Fusing.{both as both_loops}
+use Rattle.pass_sizes.specs.of_fuse_contract.Joining.{Facts, behind_row, joins_last, last_with, loop_over}
+use Rattle.pass_sizes.specs.of_fuse_contract.Joining.{no_facts, row_rows}
+use Rattle.pass_sizes.proofs.of_fuse_contract.JoinedLemmas.{closed_is}
+use Rattle.pass_sizes.proofs.of_comm_combine.ReachLemmas.{GoalsMoved}
 use Rattle.pass_parts.specs.Parts.{CanBeFused}
 use Rattle.pass_parts.proofs.GoalLemmas as goals
 use Rattle.pass_parts.proofs.GoalLemmas.{all_moved, group_there, new}

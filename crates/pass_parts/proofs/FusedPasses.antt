@@ -12,18 +12,18 @@ use Rattle.code_parts.specs.Fused.{IsFused, is_fused}
 use Rattle.code_parts.specs.Stretch.{ends_stretch}
 use Rattle.code_parts.proofs.FusedLemmas.{fused_either_way}
 use Rattle.code_parts.proofs.WalkLemmas.{every_append}
-use Rattle.plan_form.specs.Rewrite.{rows_by}
-use Rattle.plan_form.specs.Units.{Single, unit_of, unit_rows, units_of}
-use Rattle.plan_form.proofs.PassLemmas as pass
-use Rattle.comm_needs.specs.Needs.{is_voted_on, needed_alone, needs_of, planned, row_with_needs}
-use Rattle.comm_needs.specs.Needs.{vote_if, with_needs}
-use Rattle.comm_needs.proofs.PlanLemmas as plans
-use Rattle.comm_combine.specs.Merge.{neighbours_merged, pending_behind, pending_units, row_units}
-use Rattle.comm_combine.specs.Merge.{units_merged}
-use Rattle.comm_combine.specs.Repeats.{exchange_if_any, repeats_dropped}
-use Rattle.comm_combine.proofs.DropLemmas as drops
-use Rattle.comm_combine.proofs.MergeLemmas.{closed_rows_are}
-use Rattle.comm_combine.proofs.ReachLemmas.{units_walked}
+use Rattle.pass_sizes.specs.of_plan_form.Rewrite.{rows_by}
+use Rattle.pass_sizes.specs.of_plan_form.Units.{Single, unit_of, unit_rows, units_of}
+use Rattle.pass_sizes.proofs.of_plan_form.PassLemmas as pass
+use Rattle.pass_sizes.specs.of_comm_needs.Needs.{is_voted_on, needed_alone, needs_of, planned, row_with_needs}
+use Rattle.pass_sizes.specs.of_comm_needs.Needs.{vote_if, with_needs}
+use Rattle.pass_sizes.proofs.of_comm_needs.PlanLemmas as plans
+use Rattle.pass_sizes.specs.of_comm_combine.Merge.{neighbours_merged, pending_behind, pending_units, row_units}
+use Rattle.pass_sizes.specs.of_comm_combine.Merge.{units_merged}
+use Rattle.pass_sizes.specs.of_comm_combine.Repeats.{exchange_if_any, repeats_dropped}
+use Rattle.pass_sizes.proofs.of_comm_combine.DropLemmas as drops
+use Rattle.pass_sizes.proofs.of_comm_combine.MergeLemmas.{closed_rows_are}
+use Rattle.pass_sizes.proofs.of_comm_combine.ReachLemmas.{units_walked}
 use Rattle.pass_parts.proofs.FusedPlans.{stays_fused}
 use Rattle.pass_parts.proofs.NearLemmas.{IsNearUnit, StepsNear}
 

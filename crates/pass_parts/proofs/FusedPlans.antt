@@ -8,14 +8,14 @@ use Rattle.node_form.specs.declared.tables.Tables.{Tables}
 use Rattle.code_parts.specs.Fused.{begins_anew, is_fused, last_loop}
 use Rattle.code_parts.specs.Stretch.{ends_stretch, is_goal, right_from}
 use Rattle.code_parts.proofs.WalkLemmas.{both_left, both_right}
-use Rattle.flat_passes.specs.Rewritten.{with_moved_goal}
-use Rattle.plan_form.specs.Rewrite.{ended_by}
-use Rattle.plan_form.specs.Units.{PlanUnit, PlanRow, Other, exchanges_in, laid_out, numbered_from}
-use Rattle.plan_form.specs.Units.{unit_rows}
-use Rattle.plan_form.proofs.PassLemmas as pass
-use Rattle.plan_form.proofs.PassLemmas.{numbered_both, numbered_length}
-use Rattle.plan_form.proofs.WalkLemmas as walks
-use Rattle.comm_combine.proofs.ReachLemmas.{GoalsMoved, all_moved, moved, new, numbers, walk}
+use Rattle.node_emit.specs.of_flat_passes.Rewritten.{with_moved_goal}
+use Rattle.pass_sizes.specs.of_plan_form.Rewrite.{ended_by}
+use Rattle.pass_sizes.specs.of_plan_form.Units.{PlanUnit, PlanRow, Other, exchanges_in, laid_out, numbered_from}
+use Rattle.pass_sizes.specs.of_plan_form.Units.{unit_rows}
+use Rattle.pass_sizes.proofs.of_plan_form.PassLemmas as pass
+use Rattle.pass_sizes.proofs.of_plan_form.PassLemmas.{numbered_both, numbered_length}
+use Rattle.pass_sizes.proofs.of_plan_form.WalkLemmas as walks
+use Rattle.pass_sizes.proofs.of_comm_combine.ReachLemmas.{GoalsMoved, all_moved, moved, new, numbers, walk}
 use Rattle.pass_parts.proofs.NearLemmas.{IsLess, IsNearUnit, StepsNear, around_numbered, around_rows}
 use Rattle.pass_parts.proofs.NearLemmas.{core_row, end_row, ends_moved, from, near_all, near_kept}
 use Rattle.pass_parts.proofs.NearLemmas.{near_numbered, near_past, near_rows, reset, reset_less}

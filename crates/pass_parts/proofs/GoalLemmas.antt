@@ -12,11 +12,11 @@ use Rattle.node_form.specs.declared.tables.Tables.{Tables}
 use Rattle.row_runs.specs.Cut.{moved_by}
 use Rattle.code_parts.specs.Stretch.{ends_stretch, is_goal, leads_to}
 use Rattle.code_parts.specs.Uses.{members_of, rows_or_none}
-use Rattle.flat_passes.specs.Rewritten.{stretches_of, with_moved_goal}
-use Rattle.flat_passes.specs.Grouped.{Grouped, Plain, all_numbered, ended_by, groups_of}
-use Rattle.flat_passes.proofs.DraftLemmas.{numbered_both}
-use Rattle.plan_form.proofs.WalkLemmas as walks
-use Rattle.comm_combine.proofs.ReachLemmas.{GoalsMoved}
+use Rattle.node_emit.specs.of_flat_passes.Rewritten.{stretches_of, with_moved_goal}
+use Rattle.node_emit.specs.of_flat_passes.Grouped.{Grouped, Plain, all_numbered, ended_by, groups_of}
+use Rattle.node_emit.proofs.of_flat_passes.DraftLemmas.{numbered_both}
+use Rattle.pass_sizes.proofs.of_plan_form.WalkLemmas as walks
+use Rattle.pass_sizes.proofs.of_comm_combine.ReachLemmas.{GoalsMoved}
 
 either_left : (a b : Bool) → a ≡ true → (a || b) ≡ true
 either_left true b e = refl

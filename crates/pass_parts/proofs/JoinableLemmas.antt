@@ -11,7 +11,7 @@ use Rattle.node_form.specs.declared.tables.Tables.{Tables}
 use Rattle.code_parts.specs.Uses.{accumulated_by, is_turning, member_words, put_by, scalars_in}
 use Rattle.code_parts.specs.Uses.{share, shifted_in}
 use Rattle.code_parts.proofs.WalkLemmas.{both_left, both_right}
-use Rattle.fuse_contract.specs.Fusing.{can_join}
+use Rattle.pass_sizes.specs.of_fuse_contract.Fusing.{can_join}
 
 -- ---- truth values
 neither_left : (a b : Bool) → (a || b) ≡ false → a ≡ false

@@ -10,13 +10,13 @@ use Rattle.node_form.specs.declared.tables.Tables.{Tables}
 use Rattle.node_form.specs.declared.touches.Thing.TheVariants.{Array}
 use Rattle.node_form.specs.Touch.{IsNamed}
 use Rattle.code_parts.specs.Contracted.{CanBeCell, IsContracted, is_aside}
-use Rattle.comm_needs.specs.Needs.{planned}
-use Rattle.comm_combine.specs.Merge.{neighbours_merged}
-use Rattle.comm_combine.specs.Repeats.{repeats_dropped}
-use Rattle.comm_early.specs.Send.{sent_early}
-use Rattle.comm_early.proofs.SumLemmas.{rows_stay}
+use Rattle.pass_sizes.specs.of_comm_needs.Needs.{planned}
+use Rattle.pass_sizes.specs.of_comm_combine.Merge.{neighbours_merged}
+use Rattle.pass_sizes.specs.of_comm_combine.Repeats.{repeats_dropped}
+use Rattle.pass_sizes.specs.of_comm_early.Send.{sent_early}
+use Rattle.pass_sizes.proofs.of_comm_early.SumLemmas.{rows_stay}
 use Rattle.node_emit.specs.Emit.{along_tree, emitted}
-use Rattle.flat_passes.specs.Rewritten.{with_moved_goal}
+use Rattle.node_emit.specs.of_flat_passes.Rewritten.{with_moved_goal}
 use Rattle.pass_sizes.specs.Sizes.{IsBlind, PassesNoExchange}
 use Rattle.pass_sizes.proofs.CombineLemmas.{dropped_count, merged_count}
 use Rattle.pass_sizes.proofs.NeedLemmas.{planned_count}

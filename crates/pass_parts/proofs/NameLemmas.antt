@@ -14,7 +14,7 @@ use Rattle.node_form.specs.declared.touches.Thing.TheVariants.{Array}
 use Rattle.node_form.specs.Touch.{IsNamed}
 use Rattle.code_parts.specs.Contracted.{is_aside}
 use Rattle.code_parts.proofs.ListLemmas.{In, contained, holds_somewhere, one_passes, some_passes}
-use Rattle.fuse_contract.specs.Contracting.{arrays_of_row, is_among}
+use Rattle.pass_sizes.specs.of_fuse_contract.Contracting.{arrays_of_row, is_among}
 use Rattle.pass_parts.specs.Parts.{names_alone}
 
 -- ---- numbers among others

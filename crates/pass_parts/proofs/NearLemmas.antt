@@ -9,10 +9,10 @@ use Rattle.node_form.specs.declared.instructions.Instr.TheVariants as instr
 use Rattle.node_form.specs.declared.tables.Tables.{Tables}
 use Rattle.code_parts.specs.Fused.{begins_anew, is_between_loops, last_loop}
 use Rattle.code_parts.specs.Stretch.{ends_stretch, is_goal, right_from}
-use Rattle.flat_passes.specs.Rewritten.{with_moved_goal}
-use Rattle.plan_form.specs.Units.{PlanUnit, Exchange, Single, PlanRow, StartOf, FinishOf, Other}
-use Rattle.plan_form.specs.Units.{exchanges_in, numbered_from, unit_rows}
-use Rattle.plan_form.proofs.PassLemmas.{numbered_both}
+use Rattle.node_emit.specs.of_flat_passes.Rewritten.{with_moved_goal}
+use Rattle.pass_sizes.specs.of_plan_form.Units.{PlanUnit, Exchange, Single, PlanRow, StartOf, FinishOf, Other}
+use Rattle.pass_sizes.specs.of_plan_form.Units.{exchanges_in, numbered_from, unit_rows}
+use Rattle.pass_sizes.proofs.of_plan_form.PassLemmas.{numbered_both}
 
 both : (a b : Bool) → a ≡ true → b ≡ true → (a && b) ≡ true
 both true b one other = other

@@ -27,17 +27,17 @@ use Rattle.code_parts.specs.Stretch.{ends_stretch, is_goal, is_right_throughout,
 use Rattle.code_parts.specs.Uses.{accumulated_by, as_list, exprs_of, member_words, members_of}
 use Rattle.code_parts.specs.Uses.{put_by, rows_or_none, scalars_in, share, shifted_in, words_of}
 use Rattle.code_parts.proofs.WalkLemmas.{both_left, both_right}
-use Rattle.flat_passes.specs.Rewritten.{stretches_of, with_moved_goal}
-use Rattle.flat_passes.specs.Grouped.{Grouped, Plain, Runs, all_numbered, ended_by, grouped, groups_of}
-use Rattle.flat_passes.specs.Grouped.{with_grouped}
-use Rattle.plan_form.proofs.WalkLemmas as walks
-use Rattle.comm_combine.proofs.ReachLemmas.{GoalsMoved}
-use Rattle.temp_norm.specs.Normalised.{loop_through, normalised, place_among, put_alone}
-use Rattle.temp_norm.specs.Normalised.{read_each, reads_itself, row_through, temporaries}
-use Rattle.temp_norm.specs.Normalised.{with_temporaries}
-use Rattle.fuse_contract.specs.Fusing.{all_accumulated, are_like, are_put_alike, are_rows_like}
-use Rattle.fuse_contract.specs.Fusing.{can_join, is_accumulating, reference, references_in}
-use Rattle.fuse_contract.specs.Fusing.{references_of, stands_with}
+use Rattle.node_emit.specs.of_flat_passes.Rewritten.{stretches_of, with_moved_goal}
+use Rattle.node_emit.specs.of_flat_passes.Grouped.{Grouped, Plain, Runs, all_numbered, ended_by, grouped, groups_of}
+use Rattle.node_emit.specs.of_flat_passes.Grouped.{with_grouped}
+use Rattle.pass_sizes.proofs.of_plan_form.WalkLemmas as walks
+use Rattle.pass_sizes.proofs.of_comm_combine.ReachLemmas.{GoalsMoved}
+use Rattle.pass_sizes.specs.of_temp_norm.Normalised.{loop_through, normalised, place_among, put_alone}
+use Rattle.pass_sizes.specs.of_temp_norm.Normalised.{read_each, reads_itself, row_through, temporaries}
+use Rattle.pass_sizes.specs.of_temp_norm.Normalised.{with_temporaries}
+use Rattle.pass_sizes.specs.of_fuse_contract.Fusing.{all_accumulated, are_like, are_put_alike, are_rows_like}
+use Rattle.pass_sizes.specs.of_fuse_contract.Fusing.{can_join, is_accumulating, reference, references_in}
+use Rattle.pass_sizes.specs.of_fuse_contract.Fusing.{references_of, stands_with}
 use Rattle.pass_parts.specs.Checks.{ChecksWhatFollows, ChecksWhatItJoins, StandsBehindChecks}
 use Rattle.pass_parts.specs.Checks.{StandsWithWhatFollows, is_one_of}
 use Rattle.pass_parts.proofs.CheckedLemmas.{Since, are_needed, needed_behind, old_learn, old_right}

@@ -9,9 +9,9 @@ use Rattle.node_form.specs.declared.instructions.Instr.{Instr}
 use Rattle.node_form.specs.declared.instructions.Instr.TheVariants as instr
 use Rattle.row_runs.specs.Cut.{moved_by}
 use Rattle.code_parts.specs.Stretch.{ends_stretch, is_goal, leads_to}
-use Rattle.flat_passes.specs.Rewritten.{stretches_of, with_moved_goal}
-use Rattle.plan_form.proofs.WalkLemmas as walks
-use Rattle.comm_combine.proofs.ReachLemmas.{GoalsMoved}
+use Rattle.node_emit.specs.of_flat_passes.Rewritten.{stretches_of, with_moved_goal}
+use Rattle.pass_sizes.proofs.of_plan_form.WalkLemmas as walks
+use Rattle.pass_sizes.proofs.of_comm_combine.ReachLemmas.{GoalsMoved}
 use Rattle.pass_parts.proofs.GoalLemmas.{goals_moved}
 
 either_left : (a b : Bool) → a ≡ true → (a || b) ≡ true

@@ -13,7 +13,7 @@ use Rattle.code_parts.specs.Fused.{are_joinable}
 use Rattle.code_parts.specs.Stretch.{IsRightInStretches, IsStretch, is_right_throughout}
 use Rattle.code_parts.specs.Uses.{members_of}
 use Rattle.code_parts.proofs.WalkLemmas.{throughout}
-use Rattle.fuse_contract.specs.Fusing.{known_behind, lies_within, references_of, stands_with}
+use Rattle.pass_sizes.specs.of_fuse_contract.Fusing.{known_behind, lies_within, references_of, stands_with}
 use Rattle.pass_parts.specs.Parts.{CanBeFused, known_after, known_with}
 
 -- the references that are known, and the loop directly in front of a row

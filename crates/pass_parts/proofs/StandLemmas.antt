@@ -15,9 +15,9 @@ use Rattle.node_form.specs.declared.arrays.ArrayRow.{ArrayRow}
 use Rattle.node_form.specs.declared.members.Member.{Member}
 use Rattle.node_form.specs.declared.tables.Tables.{Tables}
 use Rattle.code_parts.specs.Uses.{member_words, put_by, scalars_in, share}
-use Rattle.temp_norm.specs.Normalised.{is_same_kind}
-use Rattle.fuse_contract.specs.Fusing.{all_accumulated, are_like, are_put_alike, are_rows_like}
-use Rattle.fuse_contract.specs.Fusing.{is_accumulating, stands_with}
+use Rattle.pass_sizes.specs.of_temp_norm.Normalised.{is_same_kind}
+use Rattle.pass_sizes.specs.of_fuse_contract.Fusing.{all_accumulated, are_like, are_put_alike, are_rows_like}
+use Rattle.pass_sizes.specs.of_fuse_contract.Fusing.{is_accumulating, stands_with}
 
 -- ---- arrays that are like one another
 kinds : (one mid other : ArrayDim) → is_same_kind one mid ≡ true → is_same_kind mid other ≡ true

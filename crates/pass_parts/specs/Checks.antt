@@ -16,7 +16,7 @@ use Rattle.node_form.specs.declared.tables.Tables.{Tables}
 use Rattle.code_parts.specs.Fused.{are_joinable}
 use Rattle.code_parts.specs.Stretch.{IsStretch}
 use Rattle.code_parts.specs.Uses.{is_item, members_of}
-use Rattle.fuse_contract.specs.Fusing.{reference, references_of, stands_with}
+use Rattle.pass_sizes.specs.of_fuse_contract.Fusing.{reference, references_of, stands_with}
 
 abbrev pub is_check : Instr → Bool
 is_check (instr.Need slot array shift line) = true

@@ -21,8 +21,8 @@ use Rattle.code_parts.specs.Fused.{are_joinable, is_between_loops}
 use Rattle.code_parts.specs.Stretch.{IsStretch}
 use Rattle.code_parts.specs.Uses.{arrays_in, members_of, named_arrays, named_by, shifted_arrays}
 use Rattle.code_parts.specs.Uses.{words_of}
-use Rattle.fuse_contract.specs.Contracting.{arrays_of_row, is_among}
-use Rattle.fuse_contract.specs.Fusing.{known_behind, lies_within, references_of, stands_with}
+use Rattle.pass_sizes.specs.of_fuse_contract.Contracting.{arrays_of_row, is_among}
+use Rattle.pass_sizes.specs.of_fuse_contract.Fusing.{known_behind, lies_within, references_of, stands_with}
 
 -- ---- joined loops
 -- behind a loop its references are known, and behind other rows what these leave known

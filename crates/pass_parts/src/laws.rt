@@ -2,21 +2,21 @@
 ghost use Rattle.std.specs.Prelude.{ℕ, Bool, List, Option};
 ghost use Rattle.node_form.specs.Fits.{Fits};
 ghost use Rattle.node_form.specs.declared.tables.Tables.{Tables as Code};
-ghost use Rattle.bound_check.specs.Checked.{checked};
+ghost use Rattle.pass_sizes.specs.of_bound_check.Checked.{checked};
 ghost use Rattle.code_parts.specs.Contracted.{IsContracted};
 ghost use Rattle.code_parts.specs.Fused.{IsFused};
-ghost use Rattle.comm_combine.specs.Merge.{neighbours_merged};
-ghost use Rattle.comm_combine.specs.Repeats.{repeats_dropped};
-ghost use Rattle.comm_early.specs.Send.{sent_early};
-ghost use Rattle.comm_needs.specs.Needs.{planned};
-ghost use Rattle.fuse_contract.specs.Contracting.{contracted};
-ghost use Rattle.fuse_contract.specs.Fusing.{fused};
+ghost use Rattle.pass_sizes.specs.of_comm_combine.Merge.{neighbours_merged};
+ghost use Rattle.pass_sizes.specs.of_comm_combine.Repeats.{repeats_dropped};
+ghost use Rattle.pass_sizes.specs.of_comm_early.Send.{sent_early};
+ghost use Rattle.pass_sizes.specs.of_comm_needs.Needs.{planned};
+ghost use Rattle.pass_sizes.specs.of_fuse_contract.Contracting.{contracted};
+ghost use Rattle.pass_sizes.specs.of_fuse_contract.Fusing.{fused};
 ghost use Rattle.node_emit.specs.Emit.{emitted};
 ghost use Rattle.pass_parts.specs.Checks.{ChecksWhatFollows, ChecksWhatItJoins};
 ghost use Rattle.pass_parts.specs.Checks.{StandsBehindChecks, StandsWithWhatFollows};
 ghost use Rattle.pass_parts.specs.Parts.{CanBeFused, HasNoCellLeft, KnowsWhatItJoins};
 ghost use Rattle.pass_parts.specs.Parts.{StandsWithWhatItJoins};
-ghost use Rattle.temp_norm.specs.Normalised.{normalised};
+ghost use Rattle.pass_sizes.specs.of_temp_norm.Normalised.{normalised};
 
 /// Where loops are joined, no two are left that could be one, if wherever a loop could join the one
 /// directly in front of it its references are known there, and it may stand wherever that one does.

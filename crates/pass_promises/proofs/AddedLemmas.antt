@@ -16,13 +16,13 @@ use Rattle.node_form.specs.declared.instructions.Instr.TheVariants as instr
 use Rattle.node_form.specs.declared.tables.Tables.{Tables}
 use Rattle.code_parts.specs.Counts.{count_of, is_loop}
 use Rattle.code_parts.specs.Stretch.{ends_stretch, is_goal}
-use Rattle.flat_passes.specs.Rewritten.{stretches_of, with_moved_goal}
-use Rattle.flat_passes.specs.Grouped.{Grouped, Runs, Plain, all_numbered, ended_by, group_of}
-use Rattle.flat_passes.specs.Grouped.{grouped, numbered, rewritten_rows}
-use Rattle.flat_passes.proofs.StretchLemmas.{AtMost, at_most, count_append}
-use Rattle.temp_norm.specs.Normalised.{loop_through, loops_on_itself, loops_on_themselves}
-use Rattle.temp_norm.specs.Normalised.{normalised, place_among, put_alone, put_through}
-use Rattle.temp_norm.specs.Normalised.{reads_itself, row_through, temporaries}
+use Rattle.fuse_contract.specs.of_flat_passes.Rewritten.{stretches_of, with_moved_goal}
+use Rattle.fuse_contract.specs.of_flat_passes.Grouped.{Grouped, Runs, Plain, all_numbered, ended_by, group_of}
+use Rattle.fuse_contract.specs.of_flat_passes.Grouped.{grouped, numbered, rewritten_rows}
+use Rattle.fuse_contract.proofs.of_flat_passes.StretchLemmas.{AtMost, at_most, count_append}
+use Rattle.fuse_contract.specs.of_temp_norm.Normalised.{loop_through, loops_on_itself, loops_on_themselves}
+use Rattle.fuse_contract.specs.of_temp_norm.Normalised.{normalised, place_among, put_alone, put_through}
+use Rattle.fuse_contract.specs.of_temp_norm.Normalised.{reads_itself, row_through, temporaries}
 use Rattle.pass_promises.specs.Promises.{is_other, is_room}
 
 -- ---- Rows that pass a test, which is the same for all loops: at most `cost` more of them for each

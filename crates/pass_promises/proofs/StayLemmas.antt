@@ -20,14 +20,14 @@ use Rattle.node_form.specs.declared.instructions.Instr.TheVariants as instr
 use Rattle.node_form.specs.declared.tables.Tables.{Tables}
 use Rattle.code_parts.specs.Uses.{exprs_of, is_turning, member_words, members_of, put_by}
 use Rattle.code_parts.specs.Uses.{rows_or_none, share, shifted_in, words_of}
-use Rattle.flat_passes.specs.Rewritten.{stretches_of}
-use Rattle.flat_passes.specs.Grouped.{Grouped, Runs, Plain, ended_by, group_of, grouped, groups_of}
-use Rattle.flat_passes.specs.Grouped.{rewritten_rows}
-use Rattle.flat_passes.proofs.StretchLemmas.{HoldsOf, count_append, every_append, news_hold}
-use Rattle.temp_norm.specs.Normalised.{IsNormal, array_through, loop_through, normalised}
-use Rattle.temp_norm.specs.Normalised.{place_among, put_through, reads_itself, row_through}
-use Rattle.temp_norm.specs.Normalised.{temporaries}
-use Rattle.bound_check.specs.Checked.{checked}
+use Rattle.fuse_contract.specs.of_flat_passes.Rewritten.{stretches_of}
+use Rattle.fuse_contract.specs.of_flat_passes.Grouped.{Grouped, Runs, Plain, ended_by, group_of, grouped, groups_of}
+use Rattle.fuse_contract.specs.of_flat_passes.Grouped.{rewritten_rows}
+use Rattle.fuse_contract.proofs.of_flat_passes.StretchLemmas.{HoldsOf, count_append, every_append, news_hold}
+use Rattle.fuse_contract.specs.of_temp_norm.Normalised.{IsNormal, array_through, loop_through, normalised}
+use Rattle.fuse_contract.specs.of_temp_norm.Normalised.{place_among, put_through, reads_itself, row_through}
+use Rattle.fuse_contract.specs.of_temp_norm.Normalised.{temporaries}
+use Rattle.fuse_contract.specs.of_bound_check.Checked.{checked}
 use Rattle.fuse_contract.specs.Contracting.{cell_among, contracted, contracted_arrays}
 use Rattle.fuse_contract.specs.Contracting.{here_or_cell, member_contracted, put_or_cell}
 use Rattle.fuse_contract.specs.Contracting.{word_contracted}

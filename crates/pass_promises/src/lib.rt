@@ -7,8 +7,8 @@
 ghost use Rattle.std.specs.Prelude.{ℕ, ◌+◌, ◌≤◌};
 ghost use Rattle.node_form.specs.declared.tables.Tables.{Tables as Code};
 ghost use Rattle.code_parts.specs.Counts.{count_of, is_loop};
-ghost use Rattle.temp_norm.specs.Normalised.{IsNormal, loops_on_themselves, normalised};
-ghost use Rattle.bound_check.specs.Checked.{checked};
+ghost use Rattle.fuse_contract.specs.of_temp_norm.Normalised.{IsNormal, loops_on_themselves, normalised};
+ghost use Rattle.fuse_contract.specs.of_bound_check.Checked.{checked};
 ghost use Rattle.fuse_contract.specs.Contracting.{contracted};
 ghost use Rattle.fuse_contract.specs.Fusing.{fused};
 ghost use Rattle.pass_promises.specs.Promises.{HasLoopsUpTo, is_other, is_room};

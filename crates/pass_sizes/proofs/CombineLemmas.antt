@@ -8,7 +8,7 @@ use Rattle.node_form.specs.declared.arrays.Item.{Item}
 use Rattle.node_form.specs.declared.instructions.Instr.{Instr}
 use Rattle.node_form.specs.declared.tables.Tables.{Tables}
 use Rattle.code_parts.specs.Counts.{count_of}
-use Rattle.plan_form.specs.Units.{PlanUnit, Exchange, Single, with_item}
+use Rattle.comm_needs.specs.of_plan_form.Units.{PlanUnit, Exchange, Single, with_item}
 use Rattle.comm_combine.specs.Merge.{joined_to, neighbours_merged, units_merged}
 use Rattle.comm_combine.specs.Repeats.{exchange_if_any, fresh_after, repeats_dropped, stale_items}
 use Rattle.comm_combine.specs.Repeats.{without_fresh}

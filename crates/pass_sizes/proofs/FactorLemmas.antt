@@ -19,9 +19,9 @@ use Rattle.node_form.specs.declared.instructions.Instr.TheVariants as instr
 use Rattle.node_form.specs.declared.tables.Tables.{Tables}
 use Rattle.code_parts.specs.Counts.{code_size, count_of}
 use Rattle.code_parts.specs.Uses.{exprs_of, member_words, put_by, share, shifted_in, words_of}
-use Rattle.flat_passes.specs.Grouped.{Grouped, Runs, Plain, grouped, loop_members, members_run}
-use Rattle.temp_norm.specs.Normalised.{array_through, is_like, is_same_kind, loops_on_itself, loops_on_themselves, normalised, reads_itself, rows_through, temporaries, temporary_like, with_one_like, without_storage}
-use Rattle.temp_norm.proofs.SizeLemmas.{size_of_normalised}
+use Rattle.comm_needs.specs.of_flat_passes.Grouped.{Grouped, Runs, Plain, grouped, loop_members, members_run}
+use Rattle.fuse_contract.specs.of_temp_norm.Normalised.{array_through, is_like, is_same_kind, loops_on_itself, loops_on_themselves, normalised, reads_itself, rows_through, temporaries, temporary_like, with_one_like, without_storage}
+use Rattle.fuse_contract.proofs.of_temp_norm.SizeLemmas.{size_of_normalised}
 use Rattle.pass_sizes.specs.Sizes.{expr_shifts, group_shifts, is_preparing, loop_shifts, member_shifts, run_by}
 use Rattle.pass_sizes.proofs.NormalLemmas.{few_temporaries}
 

@@ -11,9 +11,9 @@ use Rattle.node_form.specs.declared.tables.Tables.{Tables}
 use Rattle.code_parts.specs.Counts.{is_loop}
 use Rattle.code_parts.specs.Stretch.{ends_stretch}
 use Rattle.code_parts.specs.Uses.{exprs_of, members_of, rows_or_none, shifted_in}
-use Rattle.flat_passes.specs.Grouped.{Grouped, Runs, Plain, all_numbered, ended_by, group_of}
-use Rattle.flat_passes.specs.Grouped.{grouped}
-use Rattle.flat_passes.specs.Grouped.{groups_of, rewritten_rows, with_grouped}
+use Rattle.comm_needs.specs.of_flat_passes.Grouped.{Grouped, Runs, Plain, all_numbered, ended_by, group_of}
+use Rattle.comm_needs.specs.of_flat_passes.Grouped.{grouped}
+use Rattle.comm_needs.specs.of_flat_passes.Grouped.{groups_of, rewritten_rows, with_grouped}
 use Rattle.pass_sizes.specs.Sizes.{IsBlind, RunsOnce, all_run, expr_shifts, group_shifts}
 use Rattle.pass_sizes.specs.Sizes.{member_shifts, run_by}
 use Rattle.pass_sizes.proofs.SumLemmas.{flat_sum, map_sum, passed_most, passed_same, same_sum}

@@ -17,11 +17,11 @@ use Rattle.code_parts.specs.Exchanged.{is_among}
 use Rattle.code_parts.specs.Stretch.{ends_stretch}
 use Rattle.code_parts.specs.Uses.{exprs_of, group_words, member_words, members_of, shifted_in}
 use Rattle.code_parts.specs.Uses.{words_of}
-use Rattle.flat_passes.specs.Grouped.{grouped}
-use Rattle.flat_passes.specs.Rewritten.{stretches_of, with_moved_goal}
-use Rattle.plan_form.specs.Units.{PlanUnit, Exchange, Single, PlanRow, unit_of, unit_rows, units_of}
-use Rattle.plan_form.specs.Units.{with_item}
-use Rattle.plan_form.specs.Rewrite.{ended_by, rows_by}
+use Rattle.comm_needs.specs.of_flat_passes.Grouped.{grouped}
+use Rattle.comm_needs.specs.of_flat_passes.Rewritten.{stretches_of, with_moved_goal}
+use Rattle.comm_needs.specs.of_plan_form.Units.{PlanUnit, Exchange, Single, PlanRow, unit_of, unit_rows, units_of}
+use Rattle.comm_needs.specs.of_plan_form.Units.{with_item}
+use Rattle.comm_needs.specs.of_plan_form.Rewrite.{ended_by, rows_by}
 use Rattle.comm_needs.specs.Needs.{is_voted_on, needed_alone, needed_by, needs_of, planned, vote_if}
 use Rattle.comm_needs.specs.Needs.{with_needs}
 use Rattle.pass_sizes.specs.Sizes.{IsBlind, PassesNoExchange, expr_shifts, group_shifts, is_unflat}

@@ -16,13 +16,13 @@ use Rattle.node_form.specs.declared.instructions.Instr.TheVariants as instr
 use Rattle.node_form.specs.declared.tables.Tables.{Tables}
 use Rattle.code_parts.specs.Counts.{count_of, is_loop}
 use Rattle.code_parts.specs.Uses.{as_list, members_of}
-use Rattle.flat_passes.specs.Grouped.{Grouped, Runs, Plain, grouped, rewritten_rows}
-use Rattle.temp_norm.specs.Normalised.{array_through, is_like, rows_through, temporary_like}
-use Rattle.temp_norm.specs.Normalised.{with_one_like}
-use Rattle.temp_norm.specs.Normalised.{loop_through, loops_on_itself, loops_on_themselves}
-use Rattle.temp_norm.specs.Normalised.{normalised}
-use Rattle.temp_norm.specs.Normalised.{place_among, put_alone, put_through, read_each, reads_itself}
-use Rattle.temp_norm.specs.Normalised.{row_through, temporaries, with_temporaries}
+use Rattle.comm_needs.specs.of_flat_passes.Grouped.{Grouped, Runs, Plain, grouped, rewritten_rows}
+use Rattle.fuse_contract.specs.of_temp_norm.Normalised.{array_through, is_like, rows_through, temporary_like}
+use Rattle.fuse_contract.specs.of_temp_norm.Normalised.{with_one_like}
+use Rattle.fuse_contract.specs.of_temp_norm.Normalised.{loop_through, loops_on_itself, loops_on_themselves}
+use Rattle.fuse_contract.specs.of_temp_norm.Normalised.{normalised}
+use Rattle.fuse_contract.specs.of_temp_norm.Normalised.{place_among, put_alone, put_through, read_each, reads_itself}
+use Rattle.fuse_contract.specs.of_temp_norm.Normalised.{row_through, temporaries, with_temporaries}
 use Rattle.pass_sizes.specs.Sizes.{IsBlind, RunsOnce, expr_shifts, group_shifts}
 use Rattle.pass_sizes.specs.Sizes.{loop_shifts, run_by}
 use Rattle.pass_sizes.proofs.SumLemmas.{flat_sum}

@@ -12,9 +12,9 @@ use Rattle.node_form.specs.declared.instructions.Instr.TheVariants as instr
 use Rattle.node_form.specs.declared.tables.Tables.{Tables}
 use Rattle.code_parts.specs.Counts.{count_of}
 use Rattle.code_parts.specs.Uses.{as_list, exprs_of, members_of, rows_or_none, shifted_in}
-use Rattle.flat_passes.specs.Rewritten.{with_moved_goal}
-use Rattle.flat_passes.specs.Grouped.{Grouped, Runs, grouped, rewritten_rows}
-use Rattle.bound_check.specs.Checked.{checked, stays}
+use Rattle.comm_needs.specs.of_flat_passes.Rewritten.{with_moved_goal}
+use Rattle.comm_needs.specs.of_flat_passes.Grouped.{Grouped, Runs, grouped, rewritten_rows}
+use Rattle.fuse_contract.specs.of_bound_check.Checked.{checked, stays}
 use Rattle.fuse_contract.specs.Fusing.{fused, joined}
 use Rattle.fuse_contract.specs.Contracting.{cell_among, contracted, contracted_arrays, here_or_cell}
 use Rattle.fuse_contract.specs.Contracting.{member_contracted, put_or_cell, word_contracted}

@@ -9,8 +9,8 @@ use Rattle.row_runs.specs.Cut.{Stretch, as_list, moved_by, passed}
 use Rattle.row_runs.proofs.CutLemmas.{cut_rows}
 use Rattle.node_form.specs.declared.instructions.Instr.{Instr}
 use Rattle.code_parts.specs.Stretch.{ends_stretch, is_goal}
-use Rattle.flat_passes.specs.Rewritten.{stretches_of}
-use Rattle.flat_passes.proofs.StretchLemmas.{AsMuch, AtMost, IsCut, all_cut, as_much, at_most}
+use Rattle.comm_needs.specs.of_flat_passes.Rewritten.{stretches_of}
+use Rattle.comm_needs.proofs.of_flat_passes.StretchLemmas.{AsMuch, AtMost, IsCut, all_cut, as_much, at_most}
 
 -- ---- lists
 pub flat_sum : {X Y : Type 0} (f : Y → ℕ) (h : X → List Y) (xs : List X) →

@@ -4,7 +4,7 @@ use Rattle.std.specs.Prelude.{not}
 use Rattle.node_form.specs.declared.instructions.Instr.{Instr}
 use Rattle.node_form.specs.declared.instructions.Instr.TheVariants as instr
 use Rattle.code_parts.specs.Counts.{is_counted, is_loop, is_vote}
-use Rattle.flat_passes.specs.Rewritten.{with_moved_goal}
+use Rattle.comm_needs.specs.of_flat_passes.Rewritten.{with_moved_goal}
 use Rattle.pass_sizes.specs.Sizes.{IsBlind, PassesNoExchange, is_unflat}
 
 counted_goals : (moved : ℕ → ℕ) (row : Instr) →

@@ -9,11 +9,11 @@ use Rattle.node_form.specs.declared.instructions.Instr.TheVariants as instr
 use Rattle.node_form.specs.declared.tables.Tables.{Tables}
 use Rattle.code_parts.specs.Counts.{count_of}
 use Rattle.code_parts.specs.Stretch.{ends_stretch}
-use Rattle.flat_passes.specs.Rewritten.{stretches_of}
-use Rattle.plan_form.specs.Units.{PlanUnit, PlanRow, StartOf, FinishOf, Other}
-use Rattle.plan_form.specs.Units.{exchanges_in, numbered_from, unit_of, unit_rows}
-use Rattle.plan_form.specs.Units.{units_of}
-use Rattle.plan_form.specs.Rewrite.{ended_by, rows_by, with_units}
+use Rattle.comm_needs.specs.of_flat_passes.Rewritten.{stretches_of}
+use Rattle.comm_needs.specs.of_plan_form.Units.{PlanUnit, PlanRow, StartOf, FinishOf, Other}
+use Rattle.comm_needs.specs.of_plan_form.Units.{exchanges_in, numbered_from, unit_of, unit_rows}
+use Rattle.comm_needs.specs.of_plan_form.Units.{units_of}
+use Rattle.comm_needs.specs.of_plan_form.Rewrite.{ended_by, rows_by, with_units}
 use Rattle.pass_sizes.specs.Sizes.{IsBlind, PassesNoExchange, pair_size, pair_weight, plan_size}
 use Rattle.pass_sizes.proofs.SumLemmas.{flat_sum, passed_most, passed_same, same_sum}
 

@@ -10,8 +10,8 @@ use Rattle.node_form.specs.declared.instructions.Instr.{Instr}
 use Rattle.node_form.specs.declared.instructions.Instr.TheVariants as instr
 use Rattle.node_form.specs.declared.tables.Tables.{Tables}
 use Rattle.code_parts.specs.Uses.{exprs_of, shifted_in, words_of}
-use Rattle.flat_passes.specs.Rewritten.{with_moved_goal}
-use Rattle.flat_passes.specs.Grouped.{Grouped, Runs, Plain, grouped}
+use Rattle.comm_needs.specs.of_flat_passes.Rewritten.{with_moved_goal}
+use Rattle.comm_needs.specs.of_flat_passes.Grouped.{Grouped, Runs, Plain, grouped}
 
 -- ---- words that are read with a shift
 abbrev pub expr_shifts : Tables → ℕ → ℕ

@@ -6,6 +6,7 @@
 
 mod laws;
 
+pub use fuse_contract;
 pub use laws::{
     exchanges_get_fewer, needs_are_few, settled_programs_are_small, temporaries_are_few,
 };

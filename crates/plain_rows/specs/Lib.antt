@@ -1,0 +1,1 @@
+pub use Rattle.zpl_meaning.specs as of_zpl_meaning

@@ -10,10 +10,10 @@ use Rattle.std.specs.Cmp.Lexicographic.{pointwise}
 use Rattle.std.specs.Ordering.{int_eq}
 use Rattle.std.proofs.lemmas.Bool.Decides.{Decides-eqb, Decides-int_eq}
 use Rattle.std.proofs.lemmas.Slice.Eq.{slice_eq-Decides}
-use Rattle.code_parts.proofs.WalkLemmas.{both_left, both_right}
+use Rattle.flat_passes.proofs.of_code_parts.WalkLemmas.{both_left, both_right}
 use Rattle.indexmap.specs.IndexSet.{insert_key}
-use Rattle.node_form.specs.declared.arrays.Item.{Item}
-use Rattle.code_parts.specs.Uses.{is_item}
+use Rattle.flat_passes.specs.of_node_form.declared.arrays.Item.{Item}
+use Rattle.flat_passes.specs.of_code_parts.Uses.{is_item}
 use Rattle.plan_form.specs.Units.{with_item}
 use Rattle.plan_form.specs.Items.{item_of}
 use Rattle.plan_form.specs.declared.items.ItemKey.{ItemKey}

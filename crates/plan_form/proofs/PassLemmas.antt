@@ -7,12 +7,12 @@ use Rattle.std.specs.List.{AllByRecursion, list_any}
 use Rattle.std.proofs.Common.{eq-eqb}
 use Rattle.std.proofs.lemmas.Grind.{flat_map-append}
 use Rattle.std.proofs.lemmas.List.{append-nil, append_assoc, length-append, map-append}
-use Rattle.node_form.specs.declared.arrays.Item.{Item}
-use Rattle.node_form.specs.declared.instructions.Instr.{Instr}
-use Rattle.node_form.specs.declared.instructions.Instr.TheVariants as instr
-use Rattle.node_form.specs.declared.tables.Tables.{Tables}
-use Rattle.row_runs.specs.Cut.{moved_by, passed}
-use Rattle.code_parts.specs.Stretch.{ends_stretch, is_goal, leads_to}
+use Rattle.flat_passes.specs.of_node_form.declared.arrays.Item.{Item}
+use Rattle.flat_passes.specs.of_node_form.declared.instructions.Instr.{Instr}
+use Rattle.flat_passes.specs.of_node_form.declared.instructions.Instr.TheVariants as instr
+use Rattle.flat_passes.specs.of_node_form.declared.tables.Tables.{Tables}
+use Rattle.flat_passes.specs.of_row_runs.Cut.{moved_by, passed}
+use Rattle.flat_passes.specs.of_code_parts.Stretch.{ends_stretch, is_goal, leads_to}
 use Rattle.flat_passes.specs.Numbers.{number_among}
 use Rattle.flat_passes.specs.Rewritten.{stretches_of, with_moved_goal}
 use Rattle.flat_passes.proofs.NumberLemmas.{same_moved_goal, straight_unmoved}

@@ -4,9 +4,9 @@ use Rattle.std.proofs.Common.{Bool, true, false, true≢false, List, [], ◌∷�
 use Rattle.std.specs.Prelude.{Option, Some, None}
 use Rattle.std.specs.Option.{option_map}
 use Rattle.std.proofs.lemmas.List.{append-nil, append_assoc, length-append}
-use Rattle.row_runs.specs.Segments.{Segment, news}
-use Rattle.row_runs.specs.Cut.{Stretch, as_list, cut, cut_row, joined_to, moved_by, passed}
-use Rattle.row_runs.specs.Cut.{relocated, rows_of, segments_by}
+use Rattle.flat_passes.specs.of_row_runs.Segments.{Segment, news}
+use Rattle.flat_passes.specs.of_row_runs.Cut.{Stretch, as_list, cut, cut_row, joined_to, moved_by, passed}
+use Rattle.flat_passes.specs.of_row_runs.Cut.{relocated, rows_of, segments_by}
 use Rattle.flat_passes.specs.Numbers.{number_among}
 
 module _ {F Old New : Type 0} (ends : Old → Bool) (is_goal : ℕ → Bool) (nothing : F)

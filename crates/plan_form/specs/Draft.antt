@@ -5,10 +5,10 @@
 --   written      a draft with more units
 --   plan_of      the plan of a draft, with goals moved
 use Rattle.std.specs.Prelude.{List, [], ◌∷◌, ◌++◌, fold, length, map}
-use Rattle.node_form.specs.declared.arrays.Item.{Item}
-use Rattle.node_form.specs.declared.instructions.Instr.{Instr}
-use Rattle.node_form.specs.declared.instructions.Instr.TheVariants as instr
-use Rattle.node_form.specs.declared.tables.Tables.{Tables}
+use Rattle.flat_passes.specs.of_node_form.declared.arrays.Item.{Item}
+use Rattle.flat_passes.specs.of_node_form.declared.instructions.Instr.{Instr}
+use Rattle.flat_passes.specs.of_node_form.declared.instructions.Instr.TheVariants as instr
+use Rattle.flat_passes.specs.of_node_form.declared.tables.Tables.{Tables}
 use Rattle.flat_passes.specs.Numbers.{number_among}
 use Rattle.flat_passes.specs.Rewritten.{with_moved_goal}
 use Rattle.plan_form.specs.declared.draft.PlanDraft.{PlanDraft}

@@ -1,8 +1,8 @@
 -- Marks of the rows that are goals.
 use Rattle.std.specs.Prelude.{◌≡◌, ℕ, ◌<◌, Bool, true, false, List, length, slice_index_or, slice_set}
-use Rattle.node_form.specs.declared.instructions.Instr.{Instr}
-use Rattle.node_form.specs.declared.instructions.Instr.TheVariants as instr
-use Rattle.code_parts.specs.Stretch.{is_goal}
+use Rattle.flat_passes.specs.of_node_form.declared.instructions.Instr.{Instr}
+use Rattle.flat_passes.specs.of_node_form.declared.instructions.Instr.TheVariants as instr
+use Rattle.flat_passes.specs.of_code_parts.Stretch.{is_goal}
 
 -- a mark for each row, true where it is a goal
 pub record AreGoals (code : List Instr) (marks : List Bool) : Type 0 where

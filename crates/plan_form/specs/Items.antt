@@ -1,5 +1,5 @@
 -- Items as they are told from others in memory.
-use Rattle.node_form.specs.declared.arrays.Item.{Item}
+use Rattle.flat_passes.specs.of_node_form.declared.arrays.Item.{Item}
 use Rattle.plan_form.specs.declared.items.ItemKey.{ItemKey}
 
 abbrev pub item_of : ItemKey → Item

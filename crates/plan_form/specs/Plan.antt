@@ -1,9 +1,9 @@
 -- Tables of plans.
 use Rattle.std.specs.Prelude.{All}
-use Rattle.node_form.specs.declared.instructions.Instr.{Instr}
-use Rattle.node_form.specs.declared.instructions.Instr.TheVariants as instr
-use Rattle.node_form.specs.declared.tables.Tables.{Tables}
-use Rattle.node_form.specs.Fits.{Fits}
+use Rattle.flat_passes.specs.of_node_form.declared.instructions.Instr.{Instr}
+use Rattle.flat_passes.specs.of_node_form.declared.instructions.Instr.TheVariants as instr
+use Rattle.flat_passes.specs.of_node_form.declared.tables.Tables.{Tables}
+use Rattle.flat_passes.specs.of_node_form.Fits.{Fits}
 
 -- the row is no agreement along the tree of processors: a plan doesn't say yet how all agree
 abbrev pub IsPlanRow : Instr → Type 0

@@ -3,9 +3,9 @@
 --   with_fronts    the rows of each stretch rewritten, goals kept: as many rows as there were
 --   with_units     the units of each stretch rewritten, goals moved, exchanges numbered anew
 use Rattle.std.specs.Prelude.{ℕ, List, flat_map}
-use Rattle.node_form.specs.declared.instructions.Instr.{Instr}
-use Rattle.node_form.specs.declared.tables.Tables.{Tables}
-use Rattle.row_runs.specs.Cut.{passed}
+use Rattle.flat_passes.specs.of_node_form.declared.instructions.Instr.{Instr}
+use Rattle.flat_passes.specs.of_node_form.declared.tables.Tables.{Tables}
+use Rattle.flat_passes.specs.of_row_runs.Cut.{passed}
 use Rattle.flat_passes.specs.Rewritten.{stretches_of, with_moved_goal}
 use Rattle.plan_form.specs.Units.{PlanUnit, PlanRow, Other, laid_out, unit_rows, units_of}
 

@@ -6,12 +6,12 @@
 --   laid_out    back: the rows by numbers, and the exchanges in the order of their starts
 --   with_item   items with one more, if it isn't there
 use Rattle.std.specs.Prelude.{ℕ, ◌+◌, ◌-◌, if◌then◌else◌, List, [], ◌∷◌, ◌++◌, flat_map}
-use Rattle.node_form.specs.declared.arrays.Item.{Item}
-use Rattle.node_form.specs.declared.instructions.Instr.{Instr}
-use Rattle.node_form.specs.declared.instructions.Instr.TheVariants as instr
-use Rattle.node_form.specs.declared.tables.Tables.{Tables}
-use Rattle.code_parts.specs.Exchanged.{is_among}
-use Rattle.code_parts.specs.Uses.{items_of}
+use Rattle.flat_passes.specs.of_node_form.declared.arrays.Item.{Item}
+use Rattle.flat_passes.specs.of_node_form.declared.instructions.Instr.{Instr}
+use Rattle.flat_passes.specs.of_node_form.declared.instructions.Instr.TheVariants as instr
+use Rattle.flat_passes.specs.of_node_form.declared.tables.Tables.{Tables}
+use Rattle.flat_passes.specs.of_code_parts.Exchanged.{is_among}
+use Rattle.flat_passes.specs.of_code_parts.Uses.{items_of}
 
 pub data PlanUnit : Type 0 where
   Exchange : (items : List Item) → PlanUnit

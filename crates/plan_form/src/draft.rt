@@ -8,8 +8,8 @@ ghost use Rattle.plan_form.specs.Draft.{
   with_row,
 };
 
+use flat_passes::node_form::{Code, ExchangeRow, Exchanges, Instr, Rows, Tables};
 use flat_passes::{NewNumbers, number_of};
-use node_form::{Code, ExchangeRow, Exchanges, Instr, Rows, Tables};
 use std::alloc::{AllocError, Global};
 
 /// The rows of a plan while a pass writes them anew, its exchanges in the order of their starts,

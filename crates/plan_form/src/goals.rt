@@ -2,7 +2,7 @@
 ghost use Rattle.std.specs.Prelude.{◌≡◌, IfOk, slice_set, true};
 ghost use Rattle.plan_form.specs.Goals.{AreGoals, marked_by};
 
-use node_form::{Code, Instr};
+use flat_passes::node_form::{Code, Instr};
 use std::alloc::{AllocError, Global};
 
 /// Whether each row is a goal: whether a jump or a test may lead to it. One walk over the code

@@ -2,11 +2,11 @@
 ghost use Rattle.std.specs.Prelude.{◌≡◌, [], IfOk, OnOk, fold, length, slice_get};
 ghost use Rattle.plan_form.specs.Units.{with_item};
 
+use flat_passes::node_form::{ExchangeRow, Item};
+use flat_passes::zpl_region::Vec3;
 use indexmap::IndexSet;
-use node_form::{ExchangeRow, Item};
 use std::alloc::{AllocError, Global};
 use std::marker::Model;
-use zpl_region::Vec3;
 
 /// An item, as it is told from others.
 #[derive(Clone, Copy, PartialEq, Eq, Hash)]
@@ -24,7 +24,7 @@ pub struct ItemSet {
 
 impl Model for ItemSet {
     ghost use Rattle.std.specs.Prelude.{List, map};
-    ghost use Rattle.node_form.specs.declared.arrays.Item.{Item};
+    ghost use Rattle.flat_passes.specs.of_node_form.declared.arrays.Item.{Item};
     ghost use Rattle.plan_form.specs.Items.{item_of};
 
     ghost Value = { List Item };

@@ -11,6 +11,8 @@ mod items;
 mod lists;
 
 pub use draft::PlanDraft;
+pub use flat_passes;
+pub use flat_passes::node_form;
 pub use goals::goals_of;
 pub use items::ItemSet;
 pub use lists::{items_of, members_of, words_of};

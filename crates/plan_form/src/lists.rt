@@ -1,8 +1,8 @@
 //! Lists of a program by their numbers.
 ghost use Rattle.std.specs.Prelude.{◌≡◌};
-ghost use Rattle.code_parts.specs.Uses.{items_of, members_of, words_of};
+ghost use Rattle.flat_passes.specs.of_code_parts.Uses.{items_of, members_of, words_of};
 
-use node_form::{ExprOp, Item, Member, Tables};
+use flat_passes::node_form::{ExprOp, Item, Member, Tables};
 
 /// The words of an expression; none where there is no such expression.
 pub fn words_of(tables: &Tables, expr: u32) -> &[ExprOp]

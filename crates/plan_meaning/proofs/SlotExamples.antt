@@ -6,14 +6,14 @@ use Rattle.zpl_nums.specs.declared.folds.Fold.TheVariants as fold
 use Rattle.zpl_region.specs.declared.dims.Dim.TheVariants as dim
 use Rattle.zpl_region.specs.declared.regions.Region.{Region}
 use Rattle.zpl_region.specs.Region.{padding}
-use Rattle.node_form.specs.declared.arrays.ArrayDim.{ArrayDim}
-use Rattle.node_form.specs.declared.arrays.ArrayDim.TheVariants as axis
-use Rattle.node_form.specs.declared.instructions.DimRow.TheVariants as part
-use Rattle.node_form.specs.declared.instructions.Instr.TheVariants as instr
-use Rattle.node_form.specs.declared.members.Member.TheVariants as member
-use Rattle.node_form.specs.declared.tables.Tables.{Tables}
-use Rattle.node_form.specs.declared.words.ExprOp.TheVariants as word
-use Rattle.row_runs.specs.Run.{Ends, Wrong}
+use Rattle.flat_form.specs.of_node_form.declared.arrays.ArrayDim.{ArrayDim}
+use Rattle.flat_form.specs.of_node_form.declared.arrays.ArrayDim.TheVariants as axis
+use Rattle.flat_form.specs.of_node_form.declared.instructions.DimRow.TheVariants as part
+use Rattle.flat_form.specs.of_node_form.declared.instructions.Instr.TheVariants as instr
+use Rattle.flat_form.specs.of_node_form.declared.members.Member.TheVariants as member
+use Rattle.flat_form.specs.of_node_form.declared.tables.Tables.{Tables}
+use Rattle.flat_form.specs.of_node_form.declared.words.ExprOp.TheVariants as word
+use Rattle.flat_form.specs.of_row_runs.Run.{Ends, Wrong}
 use Rattle.zpl_nums.specs.declared.ends.End.TheVariants.{Done}
 use Rattle.plan_meaning.specs.Act.{plan_run}
 

@@ -2,8 +2,8 @@
 use Rattle.std.proofs.Common.{◌≡◌, ap, ℕ, ◌<◌, Bool, true, false, arith}
 use Rattle.std.proofs.lemmas.Bool.Decides.{nat_tests}
 use Rattle.std.specs.Prelude.{if◌then◌else◌, nat_lt}
-use Rattle.node_form.specs.declared.tables.Tables.{Tables}
-use Rattle.grid_meaning.specs.Local.{processors}
+use Rattle.flat_form.specs.of_node_form.declared.tables.Tables.{Tables}
+use Rattle.flat_form.specs.of_grid_meaning.Local.{processors}
 use Rattle.plan_meaning.specs.Abreast.{Abreast, Share, of_processors}
 
 below_test : (p n : ℕ) → p < n → nat_lt p n ≡ true

@@ -7,11 +7,11 @@ use Rattle.std.specs.Prelude.{ℕ, Bool, true, false, ℤ, List, [], ◌∷◌, 
 use Rattle.std.specs.Prelude.{if◌then◌else◌}
 use Rattle.std.specs.List.{list_all}
 use Rattle.zpl_region.specs.declared.regions.Region.{Region}
-use Rattle.zpl_arrays.specs.Array.{Array}
-use Rattle.node_form.specs.declared.tables.Tables.{Tables}
-use Rattle.grid_meaning.specs.Local.{Local, processor_numbers, processors, start_local}
+use Rattle.flat_form.specs.of_zpl_arrays.Array.{Array}
+use Rattle.flat_form.specs.of_node_form.declared.tables.Tables.{Tables}
+use Rattle.flat_form.specs.of_grid_meaning.Local.{Local, processor_numbers, processors, start_local}
 use Rattle.row_orders.specs.Rows.{Flight}
-use Rattle.row_runs.specs.Run.{Step, Goes, Stops, Wrong}
+use Rattle.flat_form.specs.of_row_runs.Run.{Step, Goes, Stops, Wrong}
 
 -- its scalars, the regions of its slots, its cells, the places of arrays that it holds, and the
 -- least member that met a zero divisor, until a vote

@@ -13,24 +13,24 @@ use Rattle.zpl_nums.specs.Fold.{joined}
 use Rattle.zpl_region.specs.declared.dims.Dim.{Dim}
 use Rattle.zpl_region.specs.declared.dims.Dim.TheVariants as dim
 use Rattle.zpl_region.specs.declared.regions.Region.{Region}
-use Rattle.node_form.specs.declared.instructions.Instr.{Instr}
-use Rattle.node_form.specs.declared.instructions.Instr.TheVariants as instr
-use Rattle.node_form.specs.declared.tables.Tables.{Tables}
-use Rattle.node_form.specs.Control as control
-use Rattle.node_form.specs.Control.{Control, Registers}
+use Rattle.flat_form.specs.of_node_form.declared.instructions.Instr.{Instr}
+use Rattle.flat_form.specs.of_node_form.declared.instructions.Instr.TheVariants as instr
+use Rattle.flat_form.specs.of_node_form.declared.tables.Tables.{Tables}
+use Rattle.flat_form.specs.of_node_form.Control as control
+use Rattle.flat_form.specs.of_node_form.Control.{Control, Registers}
 use Rattle.grid_links.specs.Machine.{Goes as Moves}
-use Rattle.grid_meaning.specs.Action.{Action}
-use Rattle.grid_meaning.specs.Collective.{flag_word, group_line, least_flag, scalar_at, word_flag}
-use Rattle.grid_meaning.specs.Delivery as delivery
-use Rattle.grid_meaning.specs.Exchange as exchange
-use Rattle.grid_meaning.specs.Gather as gather
-use Rattle.grid_meaning.specs.Local.{processors}
-use Rattle.grid_meaning.specs.Remap as remap
-use Rattle.grid_meaning.specs.Scan as scan
-use Rattle.grid_meaning.specs.Turn as turn
+use Rattle.flat_form.specs.of_grid_meaning.Action.{Action}
+use Rattle.flat_form.specs.of_grid_meaning.Collective.{flag_word, group_line, least_flag, scalar_at, word_flag}
+use Rattle.flat_form.specs.of_grid_meaning.Delivery as delivery
+use Rattle.flat_form.specs.of_grid_meaning.Exchange as exchange
+use Rattle.flat_form.specs.of_grid_meaning.Gather as gather
+use Rattle.flat_form.specs.of_grid_meaning.Local.{processors}
+use Rattle.flat_form.specs.of_grid_meaning.Remap as remap
+use Rattle.flat_form.specs.of_grid_meaning.Scan as scan
+use Rattle.flat_form.specs.of_grid_meaning.Turn as turn
 use Rattle.row_orders.specs.Agreement.{joined_over}
-use Rattle.row_runs.specs.Run.{Step, Goes, Stops, Ends, Wrong, Effect, Does, Leaps, Passes, Result}
-use Rattle.row_runs.specs.Run.{runs}
+use Rattle.flat_form.specs.of_row_runs.Run.{Step, Goes, Stops, Ends, Wrong, Effect, Does, Leaps, Passes, Result}
+use Rattle.flat_form.specs.of_row_runs.Run.{runs}
 use Rattle.plan_meaning.specs.Abreast.{Abreast, Share, every, go_where, is_quiet, locals_of}
 use Rattle.plan_meaning.specs.Abreast.{share_of, start_abreast}
 use Rattle.plan_meaning.specs.Loops.{looped}

@@ -6,17 +6,17 @@ use Rattle.std.specs.Prelude.{None, length, if◌then◌else◌, slice_get}
 use Rattle.zpl_nums.specs.declared.ends.End.TheVariants.{More}
 use Rattle.zpl_region.specs.declared.regions.Region.{Region}
 use Rattle.zpl_region.specs.Region.{members}
-use Rattle.zpl_arrays.specs.Array.{Array}
-use Rattle.node_form.specs.declared.members.Member.{Member}
-use Rattle.node_form.specs.declared.tables.Tables.{Tables}
-use Rattle.node_form.specs.Group.{Point}
-use Rattle.node_form.specs.Nest.{Nest, members_of}
-use Rattle.grid_meaning.specs.Loop.{access_at, flagged}
-use Rattle.grid_meaning.specs.Place.{own_part}
-use Rattle.nest_meaning.specs.Nested.{Told, Fine, Zero, Wants, Lost, nested, ways_of}
-use Rattle.nest_meaning.specs.Tree.{nest_of}
-use Rattle.nest_meaning.specs.Units.{units_of}
-use Rattle.row_runs.specs.Run.{Step, Goes, Stops, Ends, Wrong}
+use Rattle.flat_form.specs.of_zpl_arrays.Array.{Array}
+use Rattle.flat_form.specs.of_node_form.declared.members.Member.{Member}
+use Rattle.flat_form.specs.of_node_form.declared.tables.Tables.{Tables}
+use Rattle.flat_form.specs.of_node_form.Group.{Point}
+use Rattle.flat_form.specs.of_node_form.Nest.{Nest, members_of}
+use Rattle.flat_form.specs.of_grid_meaning.Loop.{access_at, flagged}
+use Rattle.flat_form.specs.of_grid_meaning.Place.{own_part}
+use Rattle.flat_form.specs.of_nest_meaning.Nested.{Told, Fine, Zero, Wants, Lost, nested, ways_of}
+use Rattle.flat_form.specs.of_nest_meaning.Tree.{nest_of}
+use Rattle.flat_form.specs.of_nest_meaning.Units.{units_of}
+use Rattle.flat_form.specs.of_row_runs.Run.{Step, Goes, Stops, Ends, Wrong}
 use Rattle.plan_meaning.specs.Abreast.{Abreast, Share, every, is_quiet, of_processors}
 
 -- what a processor comes to: a state, and the member that met a zero divisor, if one did; or it

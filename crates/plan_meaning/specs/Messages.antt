@@ -11,14 +11,14 @@ use Rattle.std.specs.Prelude.{unwrap_or}
 use Rattle.std.specs.Prelude.{is_none}
 use Rattle.std.specs.List.{filter_map, list_all}
 use Rattle.grid_links.specs.Machine.{Goes as Moves}
-use Rattle.grid_paths.specs.Tree.{times}
-use Rattle.node_form.specs.declared.tables.Tables.{Tables}
-use Rattle.code_parts.specs.Early.{is_roomy}
-use Rattle.grid_meaning.specs.Action.{Action}
-use Rattle.grid_meaning.specs.Collective.{Collective, Stage, Alone, Sends, TakesFrom, others}
-use Rattle.grid_meaning.specs.Local.{Local, processors}
+use Rattle.row_orders.specs.of_grid_paths.Tree.{times}
+use Rattle.flat_form.specs.of_node_form.declared.tables.Tables.{Tables}
+use Rattle.flat_form.specs.of_code_parts.Early.{is_roomy}
+use Rattle.flat_form.specs.of_grid_meaning.Action.{Action}
+use Rattle.flat_form.specs.of_grid_meaning.Collective.{Collective, Stage, Alone, Sends, TakesFrom, others}
+use Rattle.flat_form.specs.of_grid_meaning.Local.{Local, processors}
 use Rattle.row_orders.specs.Rows.{Flight, alone_where, at_turn, taking}
-use Rattle.row_runs.specs.Run.{Step, Stops, Wrong}
+use Rattle.flat_form.specs.of_row_runs.Run.{Step, Stops, Wrong}
 use Rattle.plan_meaning.specs.Abreast.{Abreast, every, every_two, go_where, is_quiet, locals_of}
 use Rattle.plan_meaning.specs.Abreast.{of_processors, share_of}
 

@@ -15,10 +15,10 @@ use Rattle.nest_meaning.specs.Units.{units_of}
 use Rattle.code_parts.specs.Counts.{is_loop}
 use Rattle.row_runs.specs.Run.{Stop, Ends, Wrong, Result, Step, Goes, Stops, Effect, Does, Leaps}
 use Rattle.row_runs.specs.Run.{Passes, printed, stepped, stopped, went, walked, runs}
-use Rattle.plan_meaning.specs.Abreast.{Abreast, every, is_quiet, start_abreast}
-use Rattle.plan_meaning.specs.Loops.{lacks, looped, shared, tree_looped, wants}
-use Rattle.plan_meaning.specs.Act.{all_followed, found, is_vote_of, loop_does, plan_act}
-use Rattle.plan_meaning.specs.Act.{plan_run, row_does}
+use Rattle.needs_runs.specs.of_plan_meaning.Abreast.{Abreast, every, is_quiet, start_abreast}
+use Rattle.needs_runs.specs.of_plan_meaning.Loops.{lacks, looped, shared, tree_looped, wants}
+use Rattle.needs_runs.specs.of_plan_meaning.Act.{all_followed, found, is_vote_of, loop_does, plan_act}
+use Rattle.needs_runs.specs.of_plan_meaning.Act.{plan_run, row_does}
 
 -- a state; or a loop of a group wants a further turn
 pub data Await : Type 0 where

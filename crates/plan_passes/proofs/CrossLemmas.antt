@@ -17,13 +17,13 @@ use Rattle.row_orders.specs.Rows.{Flight}
 use Rattle.row_runs.specs.Run.{Goes, Effect, Does}
 use Rattle.row_runs.specs.Straight.{Flow, OnTo, Tied, TiedOn, TiedWrong}
 use Rattle.row_runs.specs.Straight.{flow_behind, flow_step, through}
-use Rattle.plan_meaning.specs.Abreast.{of_processors}
-use Rattle.plan_meaning.specs.Abreast.{Abreast, every, go_where, locals_of}
-use Rattle.plan_meaning.proofs.ThereLemmas.{either_share}
-use Rattle.plan_meaning.specs.Act.{found}
-use Rattle.plan_meaning.specs.Messages as messages
-use Rattle.plan_meaning.specs.Messages.{are_partners, does_well, finished, finished_in}
-use Rattle.plan_meaning.specs.Messages.{finished_of, from_of, next_with, started}
+use Rattle.needs_runs.specs.of_plan_meaning.Abreast.{of_processors}
+use Rattle.needs_runs.specs.of_plan_meaning.Abreast.{Abreast, every, go_where, locals_of}
+use Rattle.needs_runs.proofs.of_plan_meaning.ThereLemmas.{either_share}
+use Rattle.needs_runs.specs.of_plan_meaning.Act.{found}
+use Rattle.needs_runs.specs.of_plan_meaning.Messages as messages
+use Rattle.needs_runs.specs.of_plan_meaning.Messages.{are_partners, does_well, finished, finished_in}
+use Rattle.needs_runs.specs.of_plan_meaning.Messages.{finished_of, from_of, next_with, started}
 use Rattle.plan_passes.proofs.AwaitLemmas.{Await, Ready, Wanted, await_act, ready_step}
 use Rattle.plan_passes.proofs.FinishLemmas.{finish_leaves, finish_row}
 use Rattle.plan_passes.proofs.FreeLemmas.{Free, FreeOn, FreeWanted, FreeWrong, IsFree, LeavesItems}

@@ -14,7 +14,7 @@ use Rattle.code_parts.specs.Uses.{changes}
 use Rattle.grid_meaning.specs.Exchange.{places_in}
 use Rattle.grid_meaning.specs.Local.{processors}
 use Rattle.grid_meaning.specs.Place.{held_value, value_at}
-use Rattle.plan_meaning.specs.Abreast.{Abreast, Share}
+use Rattle.needs_runs.specs.of_plan_meaning.Abreast.{Abreast, Share}
 use Rattle.needs_runs.specs.Agree.{HasLayout}
 use Rattle.plan_passes.proofs.FreeLemmas.{misses_changes}
 use Rattle.plan_passes.proofs.GoodLemmas.{Good}

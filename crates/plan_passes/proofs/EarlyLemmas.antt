@@ -21,9 +21,9 @@ use Rattle.row_runs.specs.Run.{Effect, Does}
 use Rattle.row_runs.specs.Straight.{Flow, OnTo, Halts, TiedHalt, TiedOn, TiedWrong}
 use Rattle.row_runs.specs.Straight.{flow_behind, flow_step, flow_then, through}
 use Rattle.row_runs.proofs.StraightLemmas.{through_append}
-use Rattle.plan_meaning.specs.Abreast.{Abreast, Share, go_where}
-use Rattle.plan_meaning.specs.Act.{found}
-use Rattle.plan_meaning.specs.Messages.{finished, finished_in, started}
+use Rattle.needs_runs.specs.of_plan_meaning.Abreast.{Abreast, Share, go_where}
+use Rattle.needs_runs.specs.of_plan_meaning.Act.{found}
+use Rattle.needs_runs.specs.of_plan_meaning.Messages.{finished, finished_in, started}
 use Rattle.plan_passes.proofs.AwaitLemmas.{Await, Ready, Wanted, await_act, ready_act, ready_step}
 use Rattle.plan_passes.proofs.CrossLemmas.{AsBefore, crossed_ready, crossed_wanted}
 use Rattle.plan_passes.proofs.FinishLemmas.{finish_row}

@@ -17,16 +17,16 @@ use Rattle.code_parts.specs.Exchanged.{is_exchange_row}
 use Rattle.code_parts.specs.Stretch.{ends_stretch, is_goal}
 use Rattle.code_parts.proofs.WalkLemmas.{every_append}
 use Rattle.comm_early.specs.Send.{open_behind_all, put_early, put_row, rows_early, sent_early}
-use Rattle.flat_passes.specs.Kept.{EndsAlike, goal_of}
-use Rattle.flat_passes.specs.Rewritten.{has_goal, stretches_of, with_moved_goal}
+use Rattle.comm_combine.specs.of_flat_passes.Kept.{EndsAlike, goal_of}
+use Rattle.comm_combine.specs.of_flat_passes.Rewritten.{has_goal, stretches_of, with_moved_goal}
 use Rattle.row_runs.specs.Cut.{Stretch, as_list, moved_by, passed, rewritten_by, segments_by}
 use Rattle.row_runs.specs.Run.{Effect, runs}
 use Rattle.row_runs.specs.Segments.{Behind, Here, IsStart, Keeps, Segment, news}
 use Rattle.row_runs.specs.Straight.{Every, Flow, IsStraight, OnTo, Tied, TiedHalt, TiedOn}
 use Rattle.row_runs.specs.Straight.{TiedWrong, flow_then, through}
 use Rattle.row_runs.proofs.StraightLemmas.{through_append}
-use Rattle.plan_meaning.specs.Abreast.{start_abreast}
-use Rattle.plan_meaning.specs.Act.{plan_run}
+use Rattle.needs_runs.specs.of_plan_meaning.Abreast.{start_abreast}
+use Rattle.needs_runs.specs.of_plan_meaning.Act.{plan_run}
 use Rattle.plan_passes.specs.Units.{AreUnits, IsInUnits, MoreExchange, MoreRow, NoUnits}
 use Rattle.plan_passes.proofs.AwaitLemmas.{Await, Ready, Wanted, await_act, plan_awaits}
 use Rattle.plan_passes.proofs.CrossLemmas.{AsBefore}

@@ -16,8 +16,8 @@ use Rattle.grid_meaning.specs.Local.{Local}
 use Rattle.grid_meaning.specs.Place.{with_values}
 use Rattle.grid_meaning.proofs.RemapLemmas.{IfApart, values_apart}
 use Rattle.row_orders.specs.Rows.{alone_where, taken_where, taking}
-use Rattle.plan_meaning.specs.Abreast.{Abreast, locals_of, share_of}
-use Rattle.plan_meaning.specs.Messages.{final_of, from_of, middle_of, next_or, starts_alone}
+use Rattle.needs_runs.specs.of_plan_meaning.Abreast.{Abreast, locals_of, share_of}
+use Rattle.needs_runs.specs.of_plan_meaning.Messages.{final_of, from_of, middle_of, next_or, starts_alone}
 use Rattle.plan_passes.proofs.LoopLemmas.{Misses, differs, neither}
 
 pub takes_together : (xs : List ℕ) → starts_alone (map TakesFrom xs ++ Last ∷ []) ≡ false

@@ -35,15 +35,15 @@ use Rattle.nest_meaning.specs.Units.{units_of}
 use Rattle.nest_meaning.proofs.TreeLemmas.{reads_only}
 use Rattle.row_orders.specs.Rows.{Flight}
 use Rattle.row_runs.specs.Run.{Goes, Stops, Ends, Wrong, Effect, Does}
-use Rattle.plan_meaning.specs.Abreast.{Abreast, Share, every, go_where, is_quiet, locals_of, share_of}
-use Rattle.plan_meaning.specs.Abreast.{of_processors, standing}
-use Rattle.plan_meaning.proofs.ThereLemmas.{either_share}
-use Rattle.plan_meaning.specs.Act.{action_of, alone, control_of, controlled_as, ended_by, found}
-use Rattle.plan_meaning.specs.Act.{go_one_way, print_ends, registers_of, registers_or, shares_on}
-use Rattle.plan_meaning.specs.Act.{value_printed}
-use Rattle.plan_meaning.specs.Loops.{LacksPlace, Shared, Through, WantsTurn, lacks, looped}
-use Rattle.plan_meaning.specs.Loops.{share_behind, shared, tree_looped, wants}
-use Rattle.plan_meaning.specs.Messages.{leaves_row, next_or, shown_of}
+use Rattle.needs_runs.specs.of_plan_meaning.Abreast.{Abreast, Share, every, go_where, is_quiet, locals_of, share_of}
+use Rattle.needs_runs.specs.of_plan_meaning.Abreast.{of_processors, standing}
+use Rattle.needs_runs.proofs.of_plan_meaning.ThereLemmas.{either_share}
+use Rattle.needs_runs.specs.of_plan_meaning.Act.{action_of, alone, control_of, controlled_as, ended_by, found}
+use Rattle.needs_runs.specs.of_plan_meaning.Act.{go_one_way, print_ends, registers_of, registers_or, shares_on}
+use Rattle.needs_runs.specs.of_plan_meaning.Act.{value_printed}
+use Rattle.needs_runs.specs.of_plan_meaning.Loops.{LacksPlace, Shared, Through, WantsTurn, lacks, looped}
+use Rattle.needs_runs.specs.of_plan_meaning.Loops.{share_behind, shared, tree_looped, wants}
+use Rattle.needs_runs.specs.of_plan_meaning.Messages.{leaves_row, next_or, shown_of}
 use Rattle.plan_passes.proofs.AwaitLemmas.{Await, Ready, Wanted, looping, ready, ready_act}
 use Rattle.plan_passes.proofs.ControlLemmas.{EndsThere, IsStraightly, NotSaid, StepsOn, misses_one}
 use Rattle.plan_passes.proofs.ControlLemmas.{other_set, straightly}

@@ -29,12 +29,12 @@ use Rattle.code_parts.specs.Stretch.{ends_stretch}
 use Rattle.code_parts.specs.Uses.{rows_or_none}
 use Rattle.grid_meaning.specs.Local.{processors}
 use Rattle.grid_meaning.specs.State.{ArePlaces, IsSlot, IsStore}
-use Rattle.plan_form.specs.Units.{Exchange, PlanUnit, Single, unit_of}
+use Rattle.comm_combine.specs.of_plan_form.Units.{Exchange, PlanUnit, Single, unit_of}
 use Rattle.row_runs.specs.Run.{Effect}
 use Rattle.row_runs.specs.Straight.{flow_step, OnTo, through}
-use Rattle.plan_meaning.specs.Abreast.{Abreast, Share, start_abreast}
-use Rattle.plan_meaning.specs.Act.{registers_of}
-use Rattle.plan_meaning.proofs.ThereLemmas.{either_share, there_is}
+use Rattle.needs_runs.specs.of_plan_meaning.Abreast.{Abreast, Share, start_abreast}
+use Rattle.needs_runs.specs.of_plan_meaning.Act.{registers_of}
+use Rattle.needs_runs.proofs.of_plan_meaning.ThereLemmas.{either_share, there_is}
 use Rattle.needs_runs.specs.Agree.{HasLayout, HasThreeOf}
 use Rattle.needs_runs.proofs.BeginLemmas.{begins}
 use Rattle.needs_runs.proofs.HoldsLemmas.{some_processors}

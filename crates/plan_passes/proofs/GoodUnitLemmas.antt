@@ -9,8 +9,8 @@ use Rattle.node_form.specs.declared.instructions.Instr.{Instr}
 use Rattle.node_form.specs.declared.tables.Tables.{Tables}
 use Rattle.code_parts.specs.Exchanged.{is_among}
 use Rattle.code_parts.specs.Uses.{is_item}
-use Rattle.plan_form.specs.Units.{Exchange, PlanUnit, Single, with_item}
-use Rattle.plan_form.proofs.ItemLemmas.{is_item-Decides}
+use Rattle.comm_combine.specs.of_plan_form.Units.{Exchange, PlanUnit, Single, with_item}
+use Rattle.comm_combine.proofs.of_plan_form.ItemLemmas.{is_item-Decides}
 use Rattle.row_runs.specs.Straight.{Flow, through}
 use Rattle.needs_runs.specs.Agree.{HasLayout}
 use Rattle.plan_passes.proofs.AwaitLemmas.{Await, Ready, Wanted, await_act}

@@ -10,12 +10,12 @@ use Rattle.node_form.specs.declared.instructions.Instr.TheVariants as instr
 use Rattle.node_form.specs.declared.tables.Tables.{Tables}
 use Rattle.code_parts.specs.Exchanged.{is_exchange_row}
 use Rattle.code_parts.specs.Stretch.{ends_stretch, is_goal, leads_to}
-use Rattle.flat_passes.specs.Kept.{GoalsWithin, goal_of}
-use Rattle.flat_passes.specs.Rewritten.{has_goal, stretches_of, with_moved_goal}
-use Rattle.flat_passes.proofs.StretchLemmas.{IsCut, all_cut}
-use Rattle.plan_form.specs.Rewrite.{ended_by, rows_by, with_units}
-use Rattle.plan_form.specs.Units.{Exchange, FinishOf, Other, PlanRow, PlanUnit, Single, StartOf}
-use Rattle.plan_form.specs.Units.{numbered_from, unit_rows, units_of}
+use Rattle.comm_combine.specs.of_flat_passes.Kept.{GoalsWithin, goal_of}
+use Rattle.comm_combine.specs.of_flat_passes.Rewritten.{has_goal, stretches_of, with_moved_goal}
+use Rattle.comm_combine.proofs.of_flat_passes.StretchLemmas.{IsCut, all_cut}
+use Rattle.comm_combine.specs.of_plan_form.Rewrite.{ended_by, rows_by, with_units}
+use Rattle.comm_combine.specs.of_plan_form.Units.{Exchange, FinishOf, Other, PlanRow, PlanUnit, Single, StartOf}
+use Rattle.comm_combine.specs.of_plan_form.Units.{numbered_from, unit_rows, units_of}
 use Rattle.row_runs.specs.Cut as cut
 use Rattle.row_runs.specs.Cut.{Stretch, as_list, cut_row, joined_to, moved_by, segments_by}
 use Rattle.row_runs.specs.Segments.{Behind, Here, IsStart, Segment, news}

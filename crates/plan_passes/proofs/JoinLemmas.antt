@@ -11,8 +11,8 @@ use Rattle.node_form.specs.declared.arrays.Item.{Item}
 use Rattle.node_form.specs.declared.tables.Tables.{Tables}
 use Rattle.grid_meaning.specs.Local.{processors}
 use Rattle.grid_meaning.specs.Place.{value_at}
-use Rattle.plan_meaning.specs.Abreast.{Abreast, Share, of_processors}
-use Rattle.plan_meaning.proofs.ThereLemmas.{there_is}
+use Rattle.needs_runs.specs.of_plan_meaning.Abreast.{Abreast, Share, of_processors}
+use Rattle.needs_runs.proofs.of_plan_meaning.ThereLemmas.{there_is}
 use Rattle.needs_runs.specs.Agree.{HasLayout}
 use Rattle.plan_passes.proofs.GoodLemmas.{Good}
 use Rattle.plan_passes.proofs.PlaceLemmas.{FitsWell, coherent, value_stays}

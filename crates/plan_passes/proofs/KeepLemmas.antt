@@ -37,18 +37,18 @@ use Rattle.nest_meaning.specs.Units.{units_of}
 use Rattle.nest_meaning.proofs.TreeLemmas.{reads_only}
 use Rattle.row_orders.specs.Rows.{at_turn}
 use Rattle.row_runs.specs.Run.{Goes, Stop, Stops, Ends, Wrong, Effect, Does}
-use Rattle.plan_meaning.specs.Abreast.{Abreast, Share, every, go_where, is_quiet, locals_of, share_of}
-use Rattle.plan_meaning.specs.Abreast.{of_processors, standing}
-use Rattle.plan_meaning.proofs.ThereLemmas.{either_share}
-use Rattle.plan_meaning.specs.Act.{action_of, alone, control_of, controlled, controlled_as}
-use Rattle.plan_meaning.specs.Act.{ends_where, folded, found, go_one_way, is_way, print_ends}
-use Rattle.plan_meaning.specs.Act.{registers_of, registers_or, shares_on, voted_as}
-use Rattle.plan_meaning.specs.Loops.{LacksPlace, Shared, Through, WantsTurn, lacks, looped}
-use Rattle.plan_meaning.specs.Loops.{share_behind, shared, tree_looped, wants}
-use Rattle.plan_meaning.specs.Messages.{answered, asked, begun, behind_answers, delivered}
-use Rattle.plan_meaning.specs.Messages.{final_of, from_of, heard_by, middle_of, next_or}
-use Rattle.plan_meaning.specs.Messages.{remapped, starts_alone, took, words_of}
-use Rattle.plan_meaning.proofs.SlotLemmas.{slots-Decides}
+use Rattle.needs_runs.specs.of_plan_meaning.Abreast.{Abreast, Share, every, go_where, is_quiet, locals_of, share_of}
+use Rattle.needs_runs.specs.of_plan_meaning.Abreast.{of_processors, standing}
+use Rattle.needs_runs.proofs.of_plan_meaning.ThereLemmas.{either_share}
+use Rattle.needs_runs.specs.of_plan_meaning.Act.{action_of, alone, control_of, controlled, controlled_as}
+use Rattle.needs_runs.specs.of_plan_meaning.Act.{ends_where, folded, found, go_one_way, is_way, print_ends}
+use Rattle.needs_runs.specs.of_plan_meaning.Act.{registers_of, registers_or, shares_on, voted_as}
+use Rattle.needs_runs.specs.of_plan_meaning.Loops.{LacksPlace, Shared, Through, WantsTurn, lacks, looped}
+use Rattle.needs_runs.specs.of_plan_meaning.Loops.{share_behind, shared, tree_looped, wants}
+use Rattle.needs_runs.specs.of_plan_meaning.Messages.{answered, asked, begun, behind_answers, delivered}
+use Rattle.needs_runs.specs.of_plan_meaning.Messages.{final_of, from_of, heard_by, middle_of, next_or}
+use Rattle.needs_runs.specs.of_plan_meaning.Messages.{remapped, starts_alone, took, words_of}
+use Rattle.needs_runs.proofs.of_plan_meaning.SlotLemmas.{slots-Decides}
 use Rattle.plan_passes.proofs.AwaitLemmas.{Await, Ready, Wanted, looping, ready, ready_act}
 use Rattle.plan_passes.proofs.ControlLemmas.{EndsThere, IsStraightly, NotSaid, StepsOn, misses_one}
 use Rattle.plan_passes.proofs.ControlLemmas.{other_set, straightly}

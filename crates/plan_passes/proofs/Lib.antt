@@ -29,3 +29,4 @@ pub mod MergeLemmas
 pub mod DoneLemmas
 pub mod RepeatLemmas
 pub mod InUnitsLemmas
+pub use Rattle.needs_runs.proofs as of_needs_runs

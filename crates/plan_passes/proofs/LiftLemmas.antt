@@ -14,10 +14,10 @@ use Rattle.row_runs.proofs.CutLemmas.{cut_rows, goals_are_starts, passes_keep_ru
 use Rattle.node_form.specs.declared.instructions.Instr.{Instr}
 use Rattle.node_form.specs.declared.instructions.Instr.TheVariants as instr
 use Rattle.code_parts.specs.Stretch.{ends_stretch, is_goal, leads_to}
-use Rattle.flat_passes.specs.Kept.{BothLeap, BothPass, BothStop, EndsAlike, GoalsWithin, OldWrong}
-use Rattle.flat_passes.specs.Kept.{goal_of}
-use Rattle.flat_passes.specs.Rewritten.{has_goal, stretches_of}
-use Rattle.flat_passes.proofs.StretchLemmas.{IsCut, all_cut}
+use Rattle.comm_combine.specs.of_flat_passes.Kept.{BothLeap, BothPass, BothStop, EndsAlike, GoalsWithin, OldWrong}
+use Rattle.comm_combine.specs.of_flat_passes.Kept.{goal_of}
+use Rattle.comm_combine.specs.of_flat_passes.Rewritten.{has_goal, stretches_of}
+use Rattle.comm_combine.proofs.of_flat_passes.StretchLemmas.{IsCut, all_cut}
 use Rattle.plan_passes.proofs.EndLemmas.{cut_ended, fronts_ended}
 
 -- ---- the goal of a row of the code is one

@@ -10,12 +10,12 @@ use Rattle.node_form.specs.declared.arrays.Item.{Item}
 use Rattle.node_form.specs.declared.tables.Tables.{Tables}
 use Rattle.code_parts.specs.Early.{is_roomy}
 use Rattle.grid_meaning.specs.Local.{processors}
-use Rattle.plan_form.specs.Units.{Exchange, PlanUnit, Single, with_item}
+use Rattle.comm_combine.specs.of_plan_form.Units.{Exchange, PlanUnit, Single, with_item}
 use Rattle.comm_combine.specs.Merge.{joined_to, neighbours_merged, units_merged}
 use Rattle.row_runs.specs.Segments.{Keeps}
 use Rattle.row_runs.specs.Straight.{Flow, OnTo, Tied, TiedWrong, flow_behind, flow_then, through}
-use Rattle.plan_meaning.specs.Abreast.{Abreast, Share}
-use Rattle.plan_meaning.specs.Act.{plan_run}
+use Rattle.needs_runs.specs.of_plan_meaning.Abreast.{Abreast, Share}
+use Rattle.needs_runs.specs.of_plan_meaning.Act.{plan_run}
 use Rattle.needs_runs.specs.Agree.{HasLayout}
 use Rattle.plan_passes.specs.Threes.{HasThrees}
 use Rattle.plan_passes.specs.Units.{IsInUnits}

@@ -23,12 +23,12 @@ use Rattle.grid_meaning.specs.Scan as scan
 use Rattle.nest_meaning.specs.Tree.{nest_of}
 use Rattle.nest_meaning.specs.Units.{units_of}
 use Rattle.row_runs.specs.Run.{Stop, Goes, Stops, Ends, Wrong, Effect, Does, Leaps, Passes}
-use Rattle.plan_meaning.specs.Abreast.{Abreast, every, go_where, is_quiet}
-use Rattle.plan_meaning.specs.Act.{alone, control_of, controlled, controlled_as, ended_by, ends_where}
-use Rattle.plan_meaning.specs.Act.{action_of, found, go_one_way, leaps_where, print_ends, tested}
-use Rattle.plan_meaning.specs.Act.{voted_as}
-use Rattle.plan_meaning.specs.Loops.{lacks, looped, shared, tree_looped, wants}
-use Rattle.plan_meaning.specs.Messages.{delivered, remapped}
+use Rattle.needs_runs.specs.of_plan_meaning.Abreast.{Abreast, every, go_where, is_quiet}
+use Rattle.needs_runs.specs.of_plan_meaning.Act.{alone, control_of, controlled, controlled_as, ended_by, ends_where}
+use Rattle.needs_runs.specs.of_plan_meaning.Act.{action_of, found, go_one_way, leaps_where, print_ends, tested}
+use Rattle.needs_runs.specs.of_plan_meaning.Act.{voted_as}
+use Rattle.needs_runs.specs.of_plan_meaning.Loops.{lacks, looped, shared, tree_looped, wants}
+use Rattle.needs_runs.specs.of_plan_meaning.Messages.{delivered, remapped}
 use Rattle.plan_passes.proofs.AwaitLemmas.{Await, Ready, Wanted, looping, ready, ready_act, ready_step}
 use Rattle.plan_passes.proofs.RowLemmas.{no_flights}
 

@@ -29,7 +29,7 @@ use Rattle.grid_meaning.specs.Local.{processors}
 use Rattle.grid_meaning.specs.Place.{value_at}
 use Rattle.grid_meaning.specs.State.{IsSlot}
 use Rattle.grid_meaning.specs.Stored.{arrangement_of, box_of}
-use Rattle.plan_meaning.specs.Abreast.{Share}
+use Rattle.needs_runs.specs.of_plan_meaning.Abreast.{Share}
 use Rattle.needs_runs.specs.Agree.{HasLayout}
 use Rattle.needs_runs.proofs.OwnerLemmas.{KindsAs, boxed_steps, processors_are}
 use Rattle.needs_runs.proofs.PieceLemmas.{axes_many, box_there, boxed, components_many, cuts_are}

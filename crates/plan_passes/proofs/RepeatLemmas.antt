@@ -14,14 +14,14 @@ use Rattle.code_parts.specs.Early.{is_roomy}
 use Rattle.code_parts.specs.Exchanged.{is_among, is_exchange_row, stales}
 use Rattle.code_parts.specs.Uses.{changes}
 use Rattle.grid_meaning.specs.Local.{processors}
-use Rattle.plan_form.specs.Units.{Exchange, PlanUnit, Single}
+use Rattle.comm_combine.specs.of_plan_form.Units.{Exchange, PlanUnit, Single}
 use Rattle.comm_combine.specs.Repeats.{exchange_if_any, fresh_after, repeats_dropped, stale_items}
 use Rattle.comm_combine.specs.Repeats.{without_fresh}
 use Rattle.row_runs.specs.Segments.{Keeps}
 use Rattle.row_runs.specs.Straight.{Flow, Halts, OnTo, Tied, TiedHalt, TiedWrong, flow_behind, flow_then}
 use Rattle.row_runs.specs.Straight.{rewritten, through}
-use Rattle.plan_meaning.specs.Abreast.{Abreast}
-use Rattle.plan_meaning.specs.Act.{plan_run}
+use Rattle.needs_runs.specs.of_plan_meaning.Abreast.{Abreast}
+use Rattle.needs_runs.specs.of_plan_meaning.Act.{plan_run}
 use Rattle.needs_runs.specs.Agree.{HasLayout}
 use Rattle.plan_passes.specs.Threes.{HasThrees}
 use Rattle.plan_passes.specs.Units.{IsInUnits}

@@ -17,17 +17,17 @@ use Rattle.node_form.specs.declared.instructions.Instr.TheVariants as instr
 use Rattle.node_form.specs.declared.tables.Tables.{Tables}
 use Rattle.code_parts.specs.Stretch.{ends_stretch}
 use Rattle.code_parts.proofs.WalkLemmas.{both_left, both_right}
-use Rattle.flat_passes.specs.Kept.{BothLeap, BothPass, BothStop, EndsAlike, OldWrong}
-use Rattle.flat_passes.specs.Rewritten.{with_moved_goal}
+use Rattle.comm_combine.specs.of_flat_passes.Kept.{BothLeap, BothPass, BothStop, EndsAlike, OldWrong}
+use Rattle.comm_combine.specs.of_flat_passes.Rewritten.{with_moved_goal}
 use Rattle.grid_meaning.specs.Local.{processor_numbers, processors}
 use Rattle.row_orders.specs.Rows.{Flight}
 use Rattle.row_runs.specs.Run.{Effect, Does, Leaps, Passes}
 use Rattle.row_runs.specs.Straight.{IsStep, IsStraight, Stepping}
-use Rattle.plan_meaning.specs.Abreast.{Abreast, are_none, go_where, is_quiet}
-use Rattle.plan_meaning.specs.Act.{control_of, controlled, controlled_as, ends_where}
-use Rattle.plan_meaning.specs.Act.{go_one_way, is_way, leaps_where, registers_of}
-use Rattle.plan_meaning.specs.Act.{shares_on}
-use Rattle.plan_meaning.specs.Act.{tested}
+use Rattle.needs_runs.specs.of_plan_meaning.Abreast.{Abreast, are_none, go_where, is_quiet}
+use Rattle.needs_runs.specs.of_plan_meaning.Act.{control_of, controlled, controlled_as, ends_where}
+use Rattle.needs_runs.specs.of_plan_meaning.Act.{go_one_way, is_way, leaps_where, registers_of}
+use Rattle.needs_runs.specs.of_plan_meaning.Act.{shares_on}
+use Rattle.needs_runs.specs.of_plan_meaning.Act.{tested}
 use Rattle.plan_passes.proofs.AwaitLemmas.{Await, Ready, Wanted, await_act, ready, ready_act}
 use Rattle.plan_passes.proofs.ControlLemmas.{EndsThere, IsStraightly, NotSaid, StepsOn, straightly}
 

@@ -27,9 +27,9 @@ use Rattle.row_orders.specs.Rows.{ArePartners, taken_where, taking}
 use Rattle.row_orders.proofs.PartnerLemmas.{partners_by_words}
 use Rattle.row_runs.specs.Run.{Wrong}
 use Rattle.row_runs.specs.Straight.{Flow, Halts, OnTo}
-use Rattle.plan_meaning.specs.Abreast.{Abreast, Share, every, locals_of, of_processors, share_of}
-use Rattle.plan_meaning.specs.Abreast.{standing}
-use Rattle.plan_meaning.specs.Messages.{does_well, from_of, leaves_row, next_or, next_with}
+use Rattle.needs_runs.specs.of_plan_meaning.Abreast.{Abreast, Share, every, locals_of, of_processors, share_of}
+use Rattle.needs_runs.specs.of_plan_meaning.Abreast.{standing}
+use Rattle.needs_runs.specs.of_plan_meaning.Messages.{does_well, from_of, leaves_row, next_or, next_with}
 use Rattle.plan_passes.proofs.AwaitLemmas.{Await, Ready}
 use Rattle.plan_passes.proofs.FinishLemmas.{finish_row}
 use Rattle.plan_passes.proofs.StartLemmas.{sent_to, words_sent}

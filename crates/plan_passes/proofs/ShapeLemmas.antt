@@ -22,10 +22,10 @@ use Rattle.nest_meaning.specs.Alike.{Neither, PutLeaf, way_of}
 use Rattle.nest_meaning.specs.Nested.{Told, Ways, ways_of}
 use Rattle.nest_meaning.specs.Units.{units_of}
 use Rattle.nest_meaning.proofs.AlikeLemmas.{does_alike}
-use Rattle.plan_meaning.specs.Abreast.{Abreast, Share}
-use Rattle.plan_meaning.specs.Loops.{LacksPlace, Shared, Through, WantsTurn, part_shared, point_of}
-use Rattle.plan_meaning.specs.Loops.{share_behind, shared, tuple_next, tuples_shared, unit_next}
-use Rattle.plan_meaning.specs.Loops.{units_shared}
+use Rattle.needs_runs.specs.of_plan_meaning.Abreast.{Abreast, Share}
+use Rattle.needs_runs.specs.of_plan_meaning.Loops.{LacksPlace, Shared, Through, WantsTurn, part_shared, point_of}
+use Rattle.needs_runs.specs.of_plan_meaning.Loops.{share_behind, shared, tuple_next, tuples_shared, unit_next}
+use Rattle.needs_runs.specs.of_plan_meaning.Loops.{units_shared}
 use Rattle.plan_passes.proofs.WriteLemmas.{puts, shape}
 
 -- ---- members put values alone

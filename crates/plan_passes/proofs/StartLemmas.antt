@@ -19,11 +19,11 @@ use Rattle.grid_meaning.specs.Local.{Local}
 use Rattle.grid_meaning.specs.Place.{held_value, value_at, values_at}
 use Rattle.row_orders.specs.Rows.{Flight, alone_where, taking}
 use Rattle.row_runs.specs.Run.{Step}
-use Rattle.plan_meaning.specs.Abreast.{Abreast, Share, every, every_two, go_where, locals_of, share_of}
-use Rattle.plan_meaning.specs.Abreast.{standing}
-use Rattle.plan_meaning.specs.Messages.{begun, bytes, does_well, final_of, from_of}
-use Rattle.plan_meaning.specs.Messages.{leaves_row, middle_of, next_or, next_with, receivers}
-use Rattle.plan_meaning.specs.Messages.{senders, started, starts_alone, to_of, took, words_of}
+use Rattle.needs_runs.specs.of_plan_meaning.Abreast.{Abreast, Share, every, every_two, go_where, locals_of, share_of}
+use Rattle.needs_runs.specs.of_plan_meaning.Abreast.{standing}
+use Rattle.needs_runs.specs.of_plan_meaning.Messages.{begun, bytes, does_well, final_of, from_of}
+use Rattle.needs_runs.specs.of_plan_meaning.Messages.{leaves_row, middle_of, next_or, next_with, receivers}
+use Rattle.needs_runs.specs.of_plan_meaning.Messages.{senders, started, starts_alone, to_of, took, words_of}
 
 -- ---- stages of a start
 receivers_sends : (xs : List ℕ) → receivers (map Sends xs ++ Last ∷ []) ≡ xs

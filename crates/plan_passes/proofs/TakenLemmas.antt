@@ -23,7 +23,7 @@ use Rattle.grid_meaning.specs.Remap as remap
 use Rattle.grid_meaning.specs.Remap.{Want}
 use Rattle.grid_meaning.specs.Scan as scan
 use Rattle.row_orders.specs.Rows.{alone_where, taken_where, taking}
-use Rattle.plan_meaning.specs.Messages.{next_or}
+use Rattle.needs_runs.specs.of_plan_meaning.Messages.{next_or}
 use Rattle.plan_passes.proofs.WriteLemmas.{puts, shape}
 
 -- ---- arrays

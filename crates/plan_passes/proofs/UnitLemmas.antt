@@ -14,8 +14,8 @@ use Rattle.code_parts.specs.Early.{is_roomy}
 use Rattle.code_parts.specs.Exchanged.{is_exchange_row}
 use Rattle.code_parts.specs.Stretch.{ends_stretch}
 use Rattle.code_parts.specs.Uses.{items_of, rows_or_none}
-use Rattle.plan_form.specs.Units.{Exchange, PlanUnit, Single, exchanges_in, numbered_from, unit_of}
-use Rattle.plan_form.specs.Units.{unit_rows, units_of}
+use Rattle.comm_combine.specs.of_plan_form.Units.{Exchange, PlanUnit, Single, exchanges_in, numbered_from, unit_of}
+use Rattle.comm_combine.specs.of_plan_form.Units.{unit_rows, units_of}
 use Rattle.grid_meaning.specs.Collective.{Collective, TakesFrom, Last, others_where}
 use Rattle.grid_meaning.specs.Exchange.{word_count}
 use Rattle.grid_meaning.specs.Local.{Local}
@@ -24,12 +24,12 @@ use Rattle.row_runs.specs.Run.{Wrong, Effect, Does}
 use Rattle.row_runs.specs.Straight.{Flow, Halts, OnTo, TiedWrong, flow_behind, flow_step, flow_then}
 use Rattle.row_runs.specs.Straight.{through}
 use Rattle.row_runs.proofs.StraightLemmas.{through_append}
-use Rattle.plan_meaning.specs.Abreast.{Abreast, Share, every, go_where, locals_of, of_processors}
-use Rattle.plan_meaning.specs.Abreast.{share_of}
-use Rattle.plan_meaning.specs.Act.{found}
-use Rattle.plan_meaning.specs.Messages.{are_partners, does_well, finished_of, from_of, next_with}
-use Rattle.plan_meaning.specs.Messages.{begun, final_of, leaves_row, middle_of, next_or, receivers}
-use Rattle.plan_meaning.specs.Messages.{senders, started, to_of, took}
+use Rattle.needs_runs.specs.of_plan_meaning.Abreast.{Abreast, Share, every, go_where, locals_of, of_processors}
+use Rattle.needs_runs.specs.of_plan_meaning.Abreast.{share_of}
+use Rattle.needs_runs.specs.of_plan_meaning.Act.{found}
+use Rattle.needs_runs.specs.of_plan_meaning.Messages.{are_partners, does_well, finished_of, from_of, next_with}
+use Rattle.needs_runs.specs.of_plan_meaning.Messages.{begun, final_of, leaves_row, middle_of, next_or, receivers}
+use Rattle.needs_runs.specs.of_plan_meaning.Messages.{senders, started, to_of, took}
 use Rattle.plan_passes.specs.Units.{AreUnits, MoreExchange, MoreRow, NoUnits}
 use Rattle.plan_passes.proofs.AwaitLemmas.{Await, Ready, Wanted, await_act, ready_act, ready_step}
 use Rattle.plan_passes.proofs.CrossLemmas.{AsBefore}

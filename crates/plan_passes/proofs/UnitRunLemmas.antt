@@ -11,13 +11,13 @@ use Rattle.node_form.specs.declared.instructions.Instr.TheVariants as instr
 use Rattle.node_form.specs.declared.tables.Tables.{Tables}
 use Rattle.code_parts.specs.Exchanged.{is_exchange_row}
 use Rattle.code_parts.specs.Stretch.{ends_stretch, is_goal}
-use Rattle.flat_passes.specs.Kept.{BothLeap, BothPass, BothStop, EndsAlike, GoalsWithin, OldWrong, goal_of}
-use Rattle.flat_passes.specs.Rewritten.{has_goal, stretches_of, with_moved_goal}
-use Rattle.flat_passes.proofs.StretchLemmas.{IsCut, all_cut}
-use Rattle.plan_form.specs.Rewrite.{ended_by, rows_by}
-use Rattle.plan_form.specs.Units.{Exchange, PlanRow, PlanUnit, Single, exchanges_in, numbered_from}
-use Rattle.plan_form.specs.Units.{unit_rows, units_of}
-use Rattle.plan_form.proofs.PassLemmas.{exchanges_both, numbered_both, numbered_length}
+use Rattle.comm_combine.specs.of_flat_passes.Kept.{BothLeap, BothPass, BothStop, EndsAlike, GoalsWithin, OldWrong, goal_of}
+use Rattle.comm_combine.specs.of_flat_passes.Rewritten.{has_goal, stretches_of, with_moved_goal}
+use Rattle.comm_combine.proofs.of_flat_passes.StretchLemmas.{IsCut, all_cut}
+use Rattle.comm_combine.specs.of_plan_form.Rewrite.{ended_by, rows_by}
+use Rattle.comm_combine.specs.of_plan_form.Units.{Exchange, PlanRow, PlanUnit, Single, exchanges_in, numbered_from}
+use Rattle.comm_combine.specs.of_plan_form.Units.{unit_rows, units_of}
+use Rattle.comm_combine.proofs.of_plan_form.PassLemmas.{exchanges_both, numbered_both, numbered_length}
 use Rattle.row_runs.specs.Cut as cut
 use Rattle.row_runs.specs.Cut.{LastAlike, Stretch, all_rows, as_list, moved_by, rewritten_by}
 use Rattle.row_runs.specs.Cut.{rows_of, segments_by}

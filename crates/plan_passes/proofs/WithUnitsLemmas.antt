@@ -12,12 +12,12 @@ use Rattle.node_form.specs.declared.instructions.Instr.{Instr}
 use Rattle.node_form.specs.declared.instructions.Instr.TheVariants as instr
 use Rattle.node_form.specs.declared.tables.Tables.{Tables}
 use Rattle.code_parts.specs.Stretch.{ends_stretch, is_goal}
-use Rattle.flat_passes.specs.Kept.{GoalsWithin, goal_of}
-use Rattle.flat_passes.specs.Rewritten.{has_goal, stretches_of, with_moved_goal}
-use Rattle.plan_form.specs.Rewrite.{ended_by, rows_by, with_units}
-use Rattle.plan_form.specs.Units.{Other, PlanRow, PlanUnit, Single, exchanges_in, numbered_from}
-use Rattle.plan_form.specs.Units.{unit_of, unit_rows, units_of}
-use Rattle.plan_form.proofs.PassLemmas.{exchanges_both, numbered_both}
+use Rattle.comm_combine.specs.of_flat_passes.Kept.{GoalsWithin, goal_of}
+use Rattle.comm_combine.specs.of_flat_passes.Rewritten.{has_goal, stretches_of, with_moved_goal}
+use Rattle.comm_combine.specs.of_plan_form.Rewrite.{ended_by, rows_by, with_units}
+use Rattle.comm_combine.specs.of_plan_form.Units.{Other, PlanRow, PlanUnit, Single, exchanges_in, numbered_from}
+use Rattle.comm_combine.specs.of_plan_form.Units.{unit_of, unit_rows, units_of}
+use Rattle.comm_combine.proofs.of_plan_form.PassLemmas.{exchanges_both, numbered_both}
 use Rattle.row_runs.specs.Cut as cut
 use Rattle.row_runs.specs.Cut.{Stretch, all_rows, as_list, moved_by, passed, rewritten_by, rows_of}
 use Rattle.row_runs.specs.Cut.{segments_by}
@@ -25,8 +25,8 @@ use Rattle.row_runs.specs.Run.{runs}
 use Rattle.row_runs.specs.Segments.{Behind, Here, IsStart, Keeps, Segment, news}
 use Rattle.row_runs.specs.Straight.{Every}
 use Rattle.row_runs.proofs.CutLemmas.{cut_full, cut_rows, goals_are_starts}
-use Rattle.plan_meaning.specs.Abreast.{start_abreast}
-use Rattle.plan_meaning.specs.Act.{plan_run}
+use Rattle.needs_runs.specs.of_plan_meaning.Abreast.{start_abreast}
+use Rattle.needs_runs.specs.of_plan_meaning.Act.{plan_run}
 use Rattle.plan_passes.specs.Units.{IsInUnits}
 use Rattle.plan_passes.proofs.AwaitLemmas.{Await, Ready, Wanted, await_act, plan_awaits}
 use Rattle.plan_passes.proofs.EndLemmas.{EndAlone, EndClosing, EndLater, Ended, cut_ended, news_ended}

@@ -5,7 +5,7 @@ use Rattle.node_form.specs.declared.instructions.Instr.{Instr}
 use Rattle.node_form.specs.declared.instructions.Instr.TheVariants as instr
 use Rattle.node_form.specs.declared.tables.Tables.{Tables}
 use Rattle.code_parts.specs.Exchanged.{is_exchange_row}
-use Rattle.flat_passes.specs.Rewritten.{stretches_of}
+use Rattle.comm_combine.specs.of_flat_passes.Rewritten.{stretches_of}
 
 pub data AreUnits : List Instr → Type 0 where
   NoUnits : AreUnits []

@@ -9,7 +9,7 @@ ghost use Rattle.node_form.specs.declared.tables.Tables.{Tables as Code};
 ghost use Rattle.node_form.specs.Fits.{Fits};
 ghost use Rattle.code_parts.specs.Early.{is_roomy};
 ghost use Rattle.row_runs.specs.Segments.{Keeps};
-ghost use Rattle.plan_meaning.specs.Act.{plan_run};
+ghost use Rattle.needs_runs.specs.of_plan_meaning.Act.{plan_run};
 ghost use Rattle.comm_combine.specs.Merge.{neighbours_merged};
 ghost use Rattle.comm_combine.specs.Repeats.{repeats_dropped};
 ghost use Rattle.comm_early.specs.Send.{sent_early};

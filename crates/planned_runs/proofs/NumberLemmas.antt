@@ -23,12 +23,12 @@ use Rattle.row_runs.specs.Straight.{through}
 use Rattle.row_runs.proofs.StraightLemmas.{keeps_printed, walked_straight}
 use Rattle.grid_meaning.specs.Exchange as exchange
 use Rattle.plan_form.specs.Units.{PlanRow, StartOf, FinishOf, Other, exchanges_in, numbered_from}
-use Rattle.plan_meaning.specs.Abreast.{Abreast, is_quiet}
-use Rattle.plan_meaning.specs.Act.{ends_where, go_one_way, loop_does, row_does}
-use Rattle.plan_meaning.specs.Messages.{finished, finished_in, started}
+use Rattle.plan_passes.specs.of_plan_meaning.Abreast.{Abreast, is_quiet}
+use Rattle.plan_passes.specs.of_plan_meaning.Act.{ends_where, go_one_way, loop_does, row_does}
+use Rattle.plan_passes.specs.of_plan_meaning.Messages.{finished, finished_in, started}
 use Rattle.comm_needs.specs.Needs.{is_voted_on}
-use Rattle.needs_runs.specs.Planned.{planned_does, vote_where}
-use Rattle.needs_runs.proofs.HoldsLemmas.{both_true, every_all}
+use Rattle.plan_passes.specs.of_needs_runs.Planned.{planned_does, vote_where}
+use Rattle.plan_passes.proofs.of_needs_runs.HoldsLemmas.{both_true, every_all}
 use Rattle.plan_passes.proofs.AwaitLemmas.{Await, Ready, Wanted, await_act, loop_next, looping}
 use Rattle.plan_passes.proofs.AwaitLemmas.{next_as}
 use Rattle.plan_passes.proofs.AwaitLemmas.{ready, ready_step, wanted_stop}

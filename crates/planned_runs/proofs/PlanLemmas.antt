@@ -26,14 +26,14 @@ use Rattle.flat_passes.specs.Rewritten.{stretches_of}
 use Rattle.flat_passes.proofs.FlatRowLemmas.{does}
 use Rattle.plan_form.specs.Rewrite.{ended_by, rows_by}
 use Rattle.plan_form.specs.Units.{PlanRow, exchanges_in, numbered_from}
-use Rattle.plan_meaning.specs.Abreast.{start_abreast}
-use Rattle.plan_meaning.specs.Act.{plan_run}
+use Rattle.plan_passes.specs.of_plan_meaning.Abreast.{start_abreast}
+use Rattle.plan_passes.specs.of_plan_meaning.Act.{plan_run}
 use Rattle.comm_needs.specs.Needs.{planned, with_needs}
-use Rattle.needs_runs.specs.Agree.{HasLayout, HasThreeOf, MessageRows}
-use Rattle.needs_runs.specs.Planned.{AllRowsAgree, planned_does}
-use Rattle.needs_runs.specs.Sharable.{IsSharable, PlansKeepRuns}
-use Rattle.needs_runs.proofs.BeginLemmas.{begins}
-use Rattle.needs_runs.proofs.PlannedLemmas.{IsOfCode, planned_keeps}
+use Rattle.plan_passes.specs.of_needs_runs.Agree.{HasLayout, HasThreeOf, MessageRows}
+use Rattle.plan_passes.specs.of_needs_runs.Planned.{AllRowsAgree, planned_does}
+use Rattle.plan_passes.specs.of_needs_runs.Sharable.{IsSharable, PlansKeepRuns}
+use Rattle.plan_passes.proofs.of_needs_runs.BeginLemmas.{begins}
+use Rattle.plan_passes.proofs.of_needs_runs.PlannedLemmas.{IsOfCode, planned_keeps}
 use Rattle.loop_runs.proofs.LoopLemmas.{loops_agree}
 use Rattle.message_runs.proofs.EdgeRows.{edge_agrees}
 use Rattle.message_runs.proofs.FloodRows.{flood_agrees}

@@ -4,7 +4,7 @@
 //! a proof.
 #![tactic(auto)]
 
-ghost use Rattle.needs_runs.specs.Sharable.{PlansKeepRuns};
+ghost use Rattle.plan_passes.specs.of_needs_runs.Sharable.{PlansKeepRuns};
 
 /// The plan of a flat program shows what the flat program shows, on each grid, over links that hold
 /// a message, and for every bound on jumps and on the turns of loops in groups, unless the flat run

@@ -13,7 +13,7 @@ use Rattle.node_form.specs.Value as flat
 use Rattle.nest_meaning.specs.Nested as nest
 use Rattle.nest_meaning.specs.Nested.{Told, Fine, Zero, Wants, Ways}
 use Rattle.flat_form.specs.Loop.{Log, Puts, Joins, Point}
-use Rattle.array_puts.specs.Put.{IsSame, BothGive, BothDivide}
+use Rattle.array_runs.specs.of_array_puts.Put.{IsSame, BothGive, BothDivide}
 
 -- a log of puts of integers alone, into arrays of which something holds
 abbrev pub PutsAlone : (ℕ → Type 0) → Log → Type 0

@@ -12,8 +12,8 @@ use Rattle.node_form.specs.declared.tables.Tables.{Tables}
 use Rattle.nest_meaning.specs.Nested.{Told, Fine}
 use Rattle.flat_form.specs.Loop.{AllTold, AllFine, SomeZero, SomeWant, Column, Point, all_told, both_told}
 use Rattle.flat_form.specs.Whole.{Whole}
-use Rattle.zpl_lowering.specs.Where.{Stored}
-use Rattle.lowering_runs.specs.Seen.{Spot}
+use Rattle.array_runs.specs.of_zpl_lowering.Where.{Stored}
+use Rattle.array_runs.specs.of_lowering_runs.Seen.{Spot}
 use Rattle.point_runs.specs.Own.{own_store}
 use Rattle.point_runs.proofs.AlikeLemmas.{GoAlike, BothGo, BothTrap, BothWant}
 use Rattle.point_runs.proofs.MergeLemmas.{IsTarget, Left, NoneLeft, OneLeft, OneOut, columns}

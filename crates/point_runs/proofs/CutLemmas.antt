@@ -16,9 +16,9 @@ use Rattle.zpl_meaning.specs.Store.{array_at, with_array}
 use Rattle.zpl_meaning.specs.Points.{cut, at_tuple}
 use Rattle.flat_form.specs.Loop.{Log, Puts}
 use Rattle.flat_form.specs.Whole.{Whole}
-use Rattle.zpl_lowering.specs.Where.{Stored}
-use Rattle.lowering_runs.specs.Seen.{Spot, array_in, seen_store}
-use Rattle.lowering_runs.specs.Stands.{Rises, array_numbers}
+use Rattle.array_runs.specs.of_zpl_lowering.Where.{Stored}
+use Rattle.array_runs.specs.of_lowering_runs.Seen.{Spot, array_in, seen_store}
+use Rattle.array_runs.specs.of_lowering_runs.Stands.{Rises, array_numbers}
 use Rattle.point_runs.specs.Own.{value_behind, own_array, own_store}
 
 -- ---- one value

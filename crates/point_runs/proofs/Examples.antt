@@ -16,8 +16,8 @@ use Rattle.row_runs.specs.Run.{Goes, Stops, Ends}
 use Rattle.flat_form.specs.Loop.{Puts, looped}
 use Rattle.flat_form.specs.Row.{Member, OpenWhile, Put, CloseWhile}
 use Rattle.flat_form.specs.Whole.{Whole}
-use Rattle.zpl_lowering.specs.Where.{Stored}
-use Rattle.lowering_runs.specs.Seen.{seen_store}
+use Rattle.array_runs.specs.of_zpl_lowering.Where.{Stored}
+use Rattle.array_runs.specs.of_lowering_runs.Seen.{seen_store}
 use Rattle.point_runs.specs.Own.{own_store}
 
 abbrev line : ℤ → ℤ → Region

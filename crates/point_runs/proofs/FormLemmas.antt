@@ -43,16 +43,16 @@ use Rattle.flat_form.specs.Right.{can_read, can_write, has_places, writes_well}
 use Rattle.flat_form.specs.Whole.{Whole}
 use Rattle.flat_form.proofs.WordLemmas.{every_append}
 use Rattle.normal_runs.proofs.PlaceLemmas.{moved_none}
-use Rattle.zpl_lowering.specs.Where.{Stored, Slotted, Where, Next, slotted_at}
-use Rattle.zpl_lowering.specs.Slate as slate
-use Rattle.zpl_lowering.specs.Slate.{Settled, Slate, settled}
-use Rattle.zpl_lowering.specs.Reference.{Reference, at_place, refer_to, referred}
-use Rattle.zpl_lowering.specs.Hoist.{Free, hoisted}
-use Rattle.zpl_lowering.specs.Statement.{Elementwise, Inside, elementwise, put_member, put_thing, form_inside, stmt_inside, stmts_inside, arms_inside, arm_inside, otherwise_inside}
-use Rattle.lowering_runs.specs.Seen.{Spot, Sight, seen_place, seen_store, seen_thing}
-use Rattle.lowering_runs.specs.Stands.{IsHeld, IsSound, Stands}
-use Rattle.lowering_runs.proofs.ValueLemmas.{thing_seen}
-use Rattle.array_puts.specs.Put.{IsSame}
+use Rattle.array_runs.specs.of_zpl_lowering.Where.{Stored, Slotted, Where, Next, slotted_at}
+use Rattle.array_runs.specs.of_zpl_lowering.Slate as slate
+use Rattle.array_runs.specs.of_zpl_lowering.Slate.{Settled, Slate, settled}
+use Rattle.array_runs.specs.of_zpl_lowering.Reference.{Reference, at_place, refer_to, referred}
+use Rattle.array_runs.specs.of_zpl_lowering.Hoist.{Free, hoisted}
+use Rattle.array_runs.specs.of_zpl_lowering.Statement.{Elementwise, Inside, elementwise, put_member, put_thing, form_inside, stmt_inside, stmts_inside, arms_inside, arm_inside, otherwise_inside}
+use Rattle.array_runs.specs.of_lowering_runs.Seen.{Spot, Sight, seen_place, seen_store, seen_thing}
+use Rattle.array_runs.specs.of_lowering_runs.Stands.{IsHeld, IsSound, Stands}
+use Rattle.array_runs.proofs.of_lowering_runs.ValueLemmas.{thing_seen}
+use Rattle.array_runs.specs.of_array_puts.Put.{IsSame}
 use Rattle.array_runs.specs.Reads.{EachCovers, EachMatches}
 use Rattle.array_runs.specs.Gates.{IsThere, holds}
 use Rattle.array_runs.specs.Elementwise.{IsElement, IsElementwise, IsReadable}

@@ -7,3 +7,4 @@ pub mod MergeLemmas
 pub mod AllLemmas
 pub mod FormLemmas
 pub mod SplitLemmas
+pub use Rattle.array_runs.proofs as of_array_runs

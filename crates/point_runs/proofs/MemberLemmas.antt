@@ -27,8 +27,8 @@ use Rattle.flat_form.specs.Names.{group_words, group_reads, group_puts, group_to
 use Rattle.flat_form.specs.Loop.{Log, Puts, Point, log_ways, operands_at, unit_line}
 use Rattle.flat_form.specs.Right.{can_read, can_write}
 use Rattle.flat_form.specs.Whole.{Whole}
-use Rattle.zpl_lowering.specs.Statement.{otherwise_members}
-use Rattle.array_puts.specs.Put.{IsSame, BothGive, BothDivide}
+use Rattle.array_runs.specs.of_zpl_lowering.Statement.{otherwise_members}
+use Rattle.array_runs.specs.of_array_puts.Put.{IsSame, BothGive, BothDivide}
 use Rattle.array_runs.proofs.PartLemmas.{all_append}
 use Rattle.point_runs.proofs.AlikeLemmas.{GoAlike, BothGo, BothTrap, PutsAlone, FromAlike, TestAlike, point, last_alike, test_at, then_alike, tested_alike, while_alike, repeat_alike}
 

@@ -30,8 +30,8 @@ use Rattle.flat_form.specs.Loop.{Column, Log, Point, Puts, Joins, all_written, l
 use Rattle.flat_form.specs.States.{IsStoreOf}
 use Rattle.flat_form.specs.Whole.{Whole}
 use Rattle.normal_runs.proofs.PlaceLemmas.{Apart, set_apart, set_there, set_twice}
-use Rattle.zpl_lowering.specs.Where.{Stored}
-use Rattle.lowering_runs.specs.Seen.{Spot, array_in, seen_store}
+use Rattle.array_runs.specs.of_zpl_lowering.Where.{Stored}
+use Rattle.array_runs.specs.of_lowering_runs.Seen.{Spot, array_in, seen_store}
 use Rattle.array_runs.proofs.StoredLemmas.{index_of_found, zip_at}
 use Rattle.array_runs.proofs.LikeLemmas.{index_if, index_is, zip_new}
 use Rattle.point_runs.specs.Own.{value_behind, own_array, own_store}

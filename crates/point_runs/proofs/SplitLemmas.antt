@@ -52,22 +52,22 @@ use Rattle.flat_form.specs.Right.{all_begin, can_read, can_write}
 use Rattle.flat_form.specs.Whole.{Whole}
 use Rattle.flat_form.proofs.WordLemmas.{every_append}
 use Rattle.normal_runs.proofs.PlaceLemmas.{members_apart}
-use Rattle.zpl_lowering.specs.Where.{Slotted, Where, Next, slotted_at, line_of, reach_of as low_reach_of}
-use Rattle.zpl_lowering.specs.Reference.{Reference, mask_reference}
-use Rattle.zpl_lowering.specs.Hoist.{array_code, mask_code, mask_word}
-use Rattle.zpl_lowering.specs.Lowered.{Lowered}
-use Rattle.zpl_lowering.specs.Statement as low
-use Rattle.zpl_lowering.specs.Statement.{Lowering, Inside, form_inside, masked_members, shattered_over}
-use Rattle.lowering_runs.specs.Seen.{Spot, Sight, seen_place, seen_store}
-use Rattle.lowering_runs.specs.Run.{decide, does, step, straight}
-use Rattle.lowering_runs.specs.Agrees.{Agrees, Going, Trapping, Shattering}
-use Rattle.lowering_runs.specs.Stands.{HasRoom, IsLike, Stands}
-use Rattle.lowering_runs.specs.Goes.{World, Goes as GoesAs, context, lowering}
-use Rattle.lowering_runs.proofs.AgreeLemmas.{counting_agrees, trailed_agrees}
-use Rattle.lowering_runs.proofs.FitLemmas.{anew_goes, room_here}
-use Rattle.lowering_runs.proofs.RowLemmas.{like_hidden, set, set_step, settled_act}
-use Rattle.lowering_runs.proofs.SuitLemmas.{FormGoes, goes_more}
-use Rattle.array_puts.specs.Put.{IsMask}
+use Rattle.array_runs.specs.of_zpl_lowering.Where.{Slotted, Where, Next, slotted_at, line_of, reach_of as low_reach_of}
+use Rattle.array_runs.specs.of_zpl_lowering.Reference.{Reference, mask_reference}
+use Rattle.array_runs.specs.of_zpl_lowering.Hoist.{array_code, mask_code, mask_word}
+use Rattle.array_runs.specs.of_zpl_lowering.Lowered.{Lowered}
+use Rattle.array_runs.specs.of_zpl_lowering.Statement as low
+use Rattle.array_runs.specs.of_zpl_lowering.Statement.{Lowering, Inside, form_inside, masked_members, shattered_over}
+use Rattle.array_runs.specs.of_lowering_runs.Seen.{Spot, Sight, seen_place, seen_store}
+use Rattle.array_runs.specs.of_lowering_runs.Run.{decide, does, step, straight}
+use Rattle.array_runs.specs.of_lowering_runs.Agrees.{Agrees, Going, Trapping, Shattering}
+use Rattle.array_runs.specs.of_lowering_runs.Stands.{HasRoom, IsLike, Stands}
+use Rattle.array_runs.specs.of_lowering_runs.Goes.{World, Goes as GoesAs, context, lowering}
+use Rattle.array_runs.proofs.of_lowering_runs.AgreeLemmas.{counting_agrees, trailed_agrees}
+use Rattle.array_runs.proofs.of_lowering_runs.FitLemmas.{anew_goes, room_here}
+use Rattle.array_runs.proofs.of_lowering_runs.RowLemmas.{like_hidden, set, set_step, settled_act}
+use Rattle.array_runs.proofs.of_lowering_runs.SuitLemmas.{FormGoes, goes_more}
+use Rattle.array_runs.specs.of_array_puts.Put.{IsMask}
 use Rattle.array_runs.specs.Gates.{IsThere, holds, gate}
 use Rattle.array_runs.specs.Elementwise.{IsReadableMask}
 use Rattle.array_runs.proofs.GateLemmas.{needs_gate}

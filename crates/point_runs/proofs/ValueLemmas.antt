@@ -38,17 +38,17 @@ use Rattle.grid_meaning.specs.Place.{held_value, moved_by, value_at, where_held}
 use Rattle.flat_form.specs.Loop.{Log, Puts, Joins, logged, operands_at}
 use Rattle.flat_form.specs.Whole.{Whole}
 use Rattle.normal_runs.proofs.PlaceLemmas.{moved_none}
-use Rattle.zpl_lowering.specs.Where.{Stored, Slotted, Where, Next, slotted_at}
-use Rattle.zpl_lowering.specs.Hoist.{unary_code}
-use Rattle.zpl_lowering.specs.Words.{variable_code}
-use Rattle.zpl_lowering.specs.Reference.{referred}
-use Rattle.zpl_lowering.specs.Slate as slate
-use Rattle.zpl_lowering.specs.Slate.{Slate, named_slate, settled}
-use Rattle.lowering_runs.specs.Seen.{Spot, Sight, array_in, numbered, seen_currents, seen_place, seen_store, seen_thing, place_of}
-use Rattle.lowering_runs.specs.Scalars.{IsSameValue, BothGive as BothGive_, BothDivide as BothDivide_}
-use Rattle.lowering_runs.specs.Stands.{AreStored, IsHeld, IsKnown, IsSound, Stands}
-use Rattle.lowering_runs.proofs.ValueLemmas.{known_thing, place_same, thing_seen}
-use Rattle.array_puts.specs.Put.{IsSame, BothGive, BothDivide}
+use Rattle.array_runs.specs.of_zpl_lowering.Where.{Stored, Slotted, Where, Next, slotted_at}
+use Rattle.array_runs.specs.of_zpl_lowering.Hoist.{unary_code}
+use Rattle.array_runs.specs.of_zpl_lowering.Words.{variable_code}
+use Rattle.array_runs.specs.of_zpl_lowering.Reference.{referred}
+use Rattle.array_runs.specs.of_zpl_lowering.Slate as slate
+use Rattle.array_runs.specs.of_zpl_lowering.Slate.{Slate, named_slate, settled}
+use Rattle.array_runs.specs.of_lowering_runs.Seen.{Spot, Sight, array_in, numbered, seen_currents, seen_place, seen_store, seen_thing, place_of}
+use Rattle.array_runs.specs.of_lowering_runs.Scalars.{IsSameValue, BothGive as BothGive_, BothDivide as BothDivide_}
+use Rattle.array_runs.specs.of_lowering_runs.Stands.{AreStored, IsHeld, IsKnown, IsSound, Stands}
+use Rattle.array_runs.proofs.of_lowering_runs.ValueLemmas.{known_thing, place_same, thing_seen}
+use Rattle.array_runs.specs.of_array_puts.Put.{IsSame, BothGive, BothDivide}
 use Rattle.array_runs.specs.Gates.{holds}
 use Rattle.array_runs.specs.Elementwise.{IsReadable, IsElement, IsElementwise}
 use Rattle.array_runs.specs.Integers.{AreIntegers, HasIntegers}

@@ -6,8 +6,8 @@ use Rattle.zpl_meaning.specs.Store.{Store}
 use Rattle.zpl_meaning.specs.Points.{cut}
 use Rattle.flat_form.specs.Loop.{Log, Puts, Joins}
 use Rattle.flat_form.specs.Whole.{Whole}
-use Rattle.zpl_lowering.specs.Where.{Stored}
-use Rattle.lowering_runs.specs.Seen.{Spot, array_in, seen_store}
+use Rattle.array_runs.specs.of_zpl_lowering.Where.{Stored}
+use Rattle.array_runs.specs.of_lowering_runs.Seen.{Spot, array_in, seen_store}
 
 -- the value of an array behind a log, where it had a value before
 abbrev pub value_behind : Log → ℕ → ℤ → ℤ

@@ -7,7 +7,7 @@ use Rattle.zpl_meaning.specs.Store.{Thing, Scalar, ArrayAt, Fixed, thing_of}
 use Rattle.zpl_meaning.specs.Context.{Place, reach_of}
 use Rattle.zpl_meaning.specs.Points.{Part, Reads, Writes, form_parts}
 use Rattle.zpl_meaning.specs.Proper.{HasCurrent}
-use Rattle.zpl_lowering.specs.Where.{Slotted, Where, slotted_at}
+use Rattle.array_runs.specs.of_zpl_lowering.Where.{Slotted, Where, slotted_at}
 use Rattle.row_runs.specs.Straight.{Every}
 use Rattle.array_runs.specs.Floods.{IsElementwiseAs, IsReadableMaskAs, IsWritableAs}
 

@@ -4,8 +4,8 @@
 ghost use Rattle.std.specs.Prelude.{ℕ};
 ghost use Rattle.zpl_tree.specs.Syntax.{Arms, Expr, Form, If, Otherwise, Repeat, Stmts, While};
 ghost use Rattle.zpl_meaning.specs.Statement.{exec_form};
-ghost use Rattle.zpl_lowering.specs.Statement.{lowered_form};
-ghost use Rattle.lowering_runs.specs.Goes.{Goes, World};
+ghost use Rattle.array_runs.specs.of_zpl_lowering.Statement.{lowered_form};
+ghost use Rattle.array_runs.specs.of_lowering_runs.Goes.{Goes, World};
 ghost use Rattle.point_runs.specs.Shattered.{IsSplit, SplitLeaf};
 
 /// The code of a shattered `if`, `while` or `repeat` goes as the statement does, from each state

@@ -14,18 +14,18 @@ use Rattle.zpl_names.specs.Ranks.{is_index}
 use Rattle.zpl_binding.specs.Outcome as bound
 use Rattle.zpl_binding.specs.Outcome.{Outcome}
 use Rattle.zpl_binding.specs.Regions.{region_over, limited, behind, before, region_named}
-use Rattle.zpl_meaning.specs.Computed as mean
-use Rattle.zpl_meaning.specs.Computed.{both_then, computed_then}
-use Rattle.zpl_meaning.specs.Store.{Thing, Scalar, ArrayAt, Fixed, Store, thing_of}
-use Rattle.zpl_meaning.specs.Value as mean_value
-use Rattle.zpl_meaning.specs.Value.{value_of}
-use Rattle.zpl_meaning.specs.Context.{Place}
-use Rattle.zpl_meaning.specs.Regions.{computed_of, dim_in, dims_in, span_in, name_in, inner_over}
-use Rattle.flat_form.specs.Whole.{Whole}
-use Rattle.zpl_lowering.specs.Where.{Where}
-use Rattle.zpl_lowering.specs.Bracket.{fixed_value, both, constant_of, constant_dim, constant_dims, within, constant_span, constant_name, constant_region}
-use Rattle.lowering_runs.specs.Seen.{Sight, seen_thing, seen_place}
-use Rattle.lowering_runs.proofs.ValueLemmas.{thing_seen}
+use Rattle.array_runs.specs.of_zpl_meaning.Computed as mean
+use Rattle.array_runs.specs.of_zpl_meaning.Computed.{both_then, computed_then}
+use Rattle.array_runs.specs.of_zpl_meaning.Store.{Thing, Scalar, ArrayAt, Fixed, Store, thing_of}
+use Rattle.array_runs.specs.of_zpl_meaning.Value as mean_value
+use Rattle.array_runs.specs.of_zpl_meaning.Value.{value_of}
+use Rattle.array_runs.specs.of_zpl_meaning.Context.{Place}
+use Rattle.array_runs.specs.of_zpl_meaning.Regions.{computed_of, dim_in, dims_in, span_in, name_in, inner_over}
+use Rattle.array_runs.specs.of_flat_form.Whole.{Whole}
+use Rattle.array_runs.specs.of_zpl_lowering.Where.{Where}
+use Rattle.array_runs.specs.of_zpl_lowering.Bracket.{fixed_value, both, constant_of, constant_dim, constant_dims, within, constant_span, constant_name, constant_region}
+use Rattle.array_runs.specs.of_lowering_runs.Seen.{Sight, seen_thing, seen_place}
+use Rattle.array_runs.proofs.of_lowering_runs.ValueLemmas.{thing_seen}
 
 -- ---- options
 

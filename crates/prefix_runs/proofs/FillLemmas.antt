@@ -10,23 +10,23 @@ use Rattle.zpl_region.specs.declared.regions.Region.{Region}
 use Rattle.zpl_region.specs.Tests.{is_within_limit}
 use Rattle.zpl_binding.specs.Outcome.{Computed, value_or}
 use Rattle.zpl_binding.specs.Regions.{no_region}
-use Rattle.zpl_meaning.specs.Computed as mean
-use Rattle.zpl_meaning.specs.Computed.{computed_then}
+use Rattle.array_runs.specs.of_zpl_meaning.Computed as mean
+use Rattle.array_runs.specs.of_zpl_meaning.Computed.{computed_then}
 use Rattle.node_form.specs.declared.instructions.Instr.TheVariants as instr
 use Rattle.node_form.specs.declared.tables.Tables.{Tables}
 use Rattle.node_form.specs.Control.{formed_by}
 use Rattle.row_runs.specs.Run.{Step, Ends}
 use Rattle.row_runs.specs.Structured as code
 use Rattle.row_runs.specs.Structured.{Course, Over, by_step, rows_do}
-use Rattle.flat_form.specs.Row as row
-use Rattle.flat_form.specs.Row.{Row}
-use Rattle.flat_form.specs.Right.{is_settled}
-use Rattle.flat_form.specs.Whole.{Whole}
-use Rattle.zpl_lowering.specs.Bracket.{Opened, Form, formed}
-use Rattle.lowering_runs.specs.Run.{step, decide}
-use Rattle.lowering_runs.specs.Stands.{SlotsAt, AreDeclared}
-use Rattle.lowering_runs.proofs.NumberLemmas.{length_set, get_same, get_other}
-use Rattle.lowering_runs.proofs.PrintLemmas.{rows_append}
+use Rattle.array_runs.specs.of_flat_form.Row as row
+use Rattle.array_runs.specs.of_flat_form.Row.{Row}
+use Rattle.array_runs.specs.of_flat_form.Right.{is_settled}
+use Rattle.array_runs.specs.of_flat_form.Whole.{Whole}
+use Rattle.array_runs.specs.of_zpl_lowering.Bracket.{Opened, Form, formed}
+use Rattle.array_runs.specs.of_lowering_runs.Run.{step, decide}
+use Rattle.array_runs.specs.of_lowering_runs.Stands.{SlotsAt, AreDeclared}
+use Rattle.array_runs.proofs.of_lowering_runs.NumberLemmas.{length_set, get_same, get_other}
+use Rattle.array_runs.proofs.of_lowering_runs.PrintLemmas.{rows_append}
 use Rattle.prefix_runs.specs.Filled.{IsFilled}
 use Rattle.prefix_runs.proofs.ShapedLemmas.{filled, limit_step, form_step, at_limit, limited_is, shaped_once, shaped}
 

@@ -9,27 +9,27 @@ use Rattle.zpl_names.specs.Ranks.{dims_count, is_index}
 use Rattle.zpl_binding.specs.Outcome as bound
 use Rattle.zpl_binding.specs.Outcome.{Outcome, Computed, value_or}
 use Rattle.zpl_binding.specs.Regions.{no_region, behind, before, region_named}
-use Rattle.zpl_meaning.specs.Computed as mean
-use Rattle.zpl_meaning.specs.Store.{Store}
-use Rattle.zpl_meaning.specs.Context.{Place}
-use Rattle.zpl_meaning.specs.Proper.{HasCurrent}
-use Rattle.zpl_meaning.specs.Regions.{computed_of, span_in, name_in, inner_over}
+use Rattle.array_runs.specs.of_zpl_meaning.Computed as mean
+use Rattle.array_runs.specs.of_zpl_meaning.Store.{Store}
+use Rattle.array_runs.specs.of_zpl_meaning.Context.{Place}
+use Rattle.array_runs.specs.of_zpl_meaning.Proper.{HasCurrent}
+use Rattle.array_runs.specs.of_zpl_meaning.Regions.{computed_of, span_in, name_in, inner_over}
 use Rattle.node_form.specs.declared.instructions.Instr.TheVariants as instr
 use Rattle.node_form.specs.declared.tables.Tables.{Tables}
 use Rattle.row_runs.specs.Run.{Step}
 use Rattle.row_runs.specs.Structured as code
 use Rattle.row_runs.specs.Structured.{Course, by_step, rows_do}
-use Rattle.flat_form.specs.Row as row
-use Rattle.flat_form.specs.Row.{Row}
-use Rattle.flat_form.specs.Whole.{Whole}
-use Rattle.zpl_lowering.specs.Where.{Slotted, Where, Next, flood_of}
-use Rattle.zpl_lowering.specs.Bracket as low
-use Rattle.zpl_lowering.specs.Bracket.{Opened, Form, forms_of, formed, standing, named_region, region_slot, dims_flood, three_parts, parts_of, spanned, name_opened, computed, constant_region, one_row, fixed_or, bracket}
-use Rattle.lowering_runs.specs.Seen.{Sight, seen_place, seen_store}
-use Rattle.lowering_runs.specs.Run.{step, decide}
-use Rattle.lowering_runs.specs.Stands.{Stands, SlotsAt, IsSound, AreDeclared}
-use Rattle.lowering_runs.proofs.NumberLemmas.{get_same}
-use Rattle.lowering_runs.proofs.EntryLemmas.{fix_step}
+use Rattle.array_runs.specs.of_flat_form.Row as row
+use Rattle.array_runs.specs.of_flat_form.Row.{Row}
+use Rattle.array_runs.specs.of_flat_form.Whole.{Whole}
+use Rattle.array_runs.specs.of_zpl_lowering.Where.{Slotted, Where, Next, flood_of}
+use Rattle.array_runs.specs.of_zpl_lowering.Bracket as low
+use Rattle.array_runs.specs.of_zpl_lowering.Bracket.{Opened, Form, forms_of, formed, standing, named_region, region_slot, dims_flood, three_parts, parts_of, spanned, name_opened, computed, constant_region, one_row, fixed_or, bracket}
+use Rattle.array_runs.specs.of_lowering_runs.Seen.{Sight, seen_place, seen_store}
+use Rattle.array_runs.specs.of_lowering_runs.Run.{step, decide}
+use Rattle.array_runs.specs.of_lowering_runs.Stands.{Stands, SlotsAt, IsSound, AreDeclared}
+use Rattle.array_runs.proofs.of_lowering_runs.NumberLemmas.{get_same}
+use Rattle.array_runs.proofs.of_lowering_runs.EntryLemmas.{fix_step}
 use Rattle.prefix_runs.specs.Opens.{IsOpenedAs, IsGivenRegion, AreGivenPres, AreGivenPosts, OpenDims, OpensName, Opens}
 use Rattle.prefix_runs.proofs.PartLemmas.{dims_step}
 use Rattle.prefix_runs.proofs.ShapeLemmas.{flood_length, opened_itself}

@@ -10,14 +10,14 @@ use Rattle.node_form.specs.Control.{Registers, part_dim, part_dims, region_of, r
 use Rattle.node_form.specs.Control.{slot_dim, with_computed, with_row, with_slot}
 use Rattle.node_form.specs.Value.{Computed, Gives, and_then, mapped, read, scalar_operands, value_of}
 use Rattle.row_runs.specs.Run.{Step}
-use Rattle.flat_form.specs.Act.{controlled, without_rows}
-use Rattle.flat_form.specs.Row as row
-use Rattle.flat_form.specs.Row.{Words, Part, all_coded, part_coded, part_words}
-use Rattle.flat_form.specs.Right.{is_settled}
-use Rattle.flat_form.specs.Whole.{Whole, registers_of}
-use Rattle.flat_form.proofs.ReadLemmas.{drop_part, drop_second}
-use Rattle.lowering_runs.specs.Run.{straight, step}
-use Rattle.lowering_runs.proofs.RowLemmas.{settled_act}
+use Rattle.array_runs.specs.of_flat_form.Act.{controlled, without_rows}
+use Rattle.array_runs.specs.of_flat_form.Row as row
+use Rattle.array_runs.specs.of_flat_form.Row.{Words, Part, all_coded, part_coded, part_words}
+use Rattle.array_runs.specs.of_flat_form.Right.{is_settled}
+use Rattle.array_runs.specs.of_flat_form.Whole.{Whole, registers_of}
+use Rattle.array_runs.proofs.of_flat_form.ReadLemmas.{drop_part, drop_second}
+use Rattle.array_runs.specs.of_lowering_runs.Run.{straight, step}
+use Rattle.array_runs.proofs.of_lowering_runs.RowLemmas.{settled_act}
 
 get_drop : {X : Type 0} (xs : List X) (n : ℕ) (x : X) (rest : List X) → drop n xs ≡ x ∷ rest
     → slice_get xs n ≡ Some x

@@ -2,21 +2,21 @@
 use Rattle.std.proofs.Common.{ℕ, ◌+◌, List}
 use Rattle.zpl_tree.specs.Syntax.{Expr, Stmt, Form, Assign, Invoke, Block, If, While, Repeat, For, Border, Write, Return}
 use Rattle.zpl_names.specs.Counts.{own_nodes}
-use Rattle.zpl_meaning.specs.Context.{Setup, Place}
-use Rattle.zpl_meaning.specs.Statement as mean
-use Rattle.zpl_meaning.specs.Statement.{Context}
-use Rattle.zpl_lowering.specs.Where.{Where}
-use Rattle.zpl_lowering.specs.Statement as low
-use Rattle.zpl_lowering.specs.Statement.{Lowering}
-use Rattle.lowering_runs.specs.Seen.{seen_place}
-use Rattle.lowering_runs.specs.Goes.{World, Goes, TestsGo, ValuesGo}
-use Rattle.lowering_runs.specs.Called.{CallsAgree}
-use Rattle.lowering_runs.specs.Suits.{ScalarBound, ScalarTest, SuitsStmt, SuitsStmtBy}
-use Rattle.lowering_runs.specs.Leaves.{ScalarLeaf}
-use Rattle.lowering_runs.proofs.ControlLemmas.{scalar_tests}
-use Rattle.lowering_runs.proofs.HeadLemmas.{scalar_values}
-use Rattle.lowering_runs.proofs.SuitLemmas.{goes_more, either_goes, leaf_goes, FormGoes, suited_goes}
-use Rattle.lowering_runs.proofs.StatementLemmas.{scalar_leaves}
+use Rattle.array_runs.specs.of_zpl_meaning.Context.{Setup, Place}
+use Rattle.array_runs.specs.of_zpl_meaning.Statement as mean
+use Rattle.array_runs.specs.of_zpl_meaning.Statement.{Context}
+use Rattle.array_runs.specs.of_zpl_lowering.Where.{Where}
+use Rattle.array_runs.specs.of_zpl_lowering.Statement as low
+use Rattle.array_runs.specs.of_zpl_lowering.Statement.{Lowering}
+use Rattle.array_runs.specs.of_lowering_runs.Seen.{seen_place}
+use Rattle.array_runs.specs.of_lowering_runs.Goes.{World, Goes, TestsGo, ValuesGo}
+use Rattle.array_runs.specs.of_lowering_runs.Called.{CallsAgree}
+use Rattle.array_runs.specs.of_lowering_runs.Suits.{ScalarBound, ScalarTest, SuitsStmt, SuitsStmtBy}
+use Rattle.array_runs.specs.of_lowering_runs.Leaves.{ScalarLeaf}
+use Rattle.array_runs.proofs.of_lowering_runs.ControlLemmas.{scalar_tests}
+use Rattle.array_runs.proofs.of_lowering_runs.HeadLemmas.{scalar_values}
+use Rattle.array_runs.proofs.of_lowering_runs.SuitLemmas.{goes_more, either_goes, leaf_goes, FormGoes, suited_goes}
+use Rattle.array_runs.proofs.of_lowering_runs.StatementLemmas.{scalar_leaves}
 use Rattle.array_runs.specs.Floods.{IsArrayServed}
 use Rattle.array_runs.proofs.FloodLemmas.{served_goes}
 use Rattle.prefix_runs.specs.Under.{IsUnder}

@@ -20,7 +20,7 @@ use Rattle.zpl_binding.proofs.KeptLemmas.{Formed, formed-kept}
 use Rattle.node_form.specs.Control.{formed_by}
 use Rattle.node_form.specs.declared.instructions.RegionForm.{RegionForm}
 use Rattle.node_form.specs.declared.instructions.RegionForm.TheVariants as form
-use Rattle.zpl_lowering.specs.Where.{is_flood, flood_of}
+use Rattle.array_runs.specs.of_zpl_lowering.Where.{is_flood, flood_of}
 use Rattle.prefix_runs.specs.Opens.{IsOpenedAs}
 
 -- ---- within the limit

@@ -13,21 +13,21 @@ use Rattle.zpl_binding.specs.Outcome.{BindFault, UnknownConfig, ConfigType, Twic
 use Rattle.zpl_binding.specs.Vectors.{dir_of, three_components}
 use Rattle.zpl_binding.specs.Regions.{Known, limited, behind, before}
 use Rattle.zpl_binding.specs.Regions as bind
-use Rattle.zpl_meaning.specs.Computed as mean
-use Rattle.zpl_meaning.specs.Computed.{computed_then}
-use Rattle.zpl_meaning.specs.Regions.{fault_trap, computed_of, vector_in}
+use Rattle.array_runs.specs.of_zpl_meaning.Computed as mean
+use Rattle.array_runs.specs.of_zpl_meaning.Computed.{computed_then}
+use Rattle.array_runs.specs.of_zpl_meaning.Regions.{fault_trap, computed_of, vector_in}
 use Rattle.node_form.specs.declared.instructions.Instr.TheVariants as instr
 use Rattle.node_form.specs.declared.tables.Tables.{Tables}
 use Rattle.node_form.specs.Control as control
 use Rattle.node_form.specs.Control.{formed_by, with_row, with_slot}
 use Rattle.row_runs.specs.Run.{Step, Goes, Stops, Ends}
-use Rattle.flat_form.specs.Act.{controlled}
-use Rattle.flat_form.specs.Row as row
-use Rattle.flat_form.specs.Right.{is_settled}
-use Rattle.flat_form.specs.Whole.{Whole, registers_of}
-use Rattle.zpl_lowering.specs.Bracket.{Form, post_form, pre_form, post_forms, pre_forms, forms_of}
-use Rattle.lowering_runs.specs.Run.{straight, step}
-use Rattle.lowering_runs.proofs.RowLemmas.{settled_act}
+use Rattle.array_runs.specs.of_flat_form.Act.{controlled}
+use Rattle.array_runs.specs.of_flat_form.Row as row
+use Rattle.array_runs.specs.of_flat_form.Right.{is_settled}
+use Rattle.array_runs.specs.of_flat_form.Whole.{Whole, registers_of}
+use Rattle.array_runs.specs.of_zpl_lowering.Bracket.{Form, post_form, pre_form, post_forms, pre_forms, forms_of}
+use Rattle.array_runs.specs.of_lowering_runs.Run.{straight, step}
+use Rattle.array_runs.proofs.of_lowering_runs.RowLemmas.{settled_act}
 use Rattle.prefix_runs.specs.Opens.{IsOpenedAs, IsGiven, AreGivenPres, AreGivenPosts}
 use Rattle.prefix_runs.proofs.ShapeLemmas.{form_opened}
 

@@ -17,13 +17,13 @@ use Rattle.zpl_region.specs.Tests.{is_within_limit}
 use Rattle.zpl_tree.specs.Syntax.{Expr, DimText, Blank, Star, One, Span, DimTexts, NoDim, ThenDim}
 use Rattle.zpl_names.specs.Ranks.{dims_count}
 use Rattle.zpl_binding.specs.Regions.{dims_of, region_over, limited}
-use Rattle.zpl_meaning.specs.Computed as mean
-use Rattle.zpl_meaning.specs.Computed.{both_then, computed_then}
-use Rattle.zpl_meaning.specs.Store.{Store}
-use Rattle.zpl_meaning.specs.Value.{value_of as mean_value}
-use Rattle.zpl_meaning.specs.Context.{Place}
-use Rattle.zpl_meaning.specs.Proper.{HasCurrent}
-use Rattle.zpl_meaning.specs.Regions.{computed_of, dim_in, dims_in, span_in}
+use Rattle.array_runs.specs.of_zpl_meaning.Computed as mean
+use Rattle.array_runs.specs.of_zpl_meaning.Computed.{both_then, computed_then}
+use Rattle.array_runs.specs.of_zpl_meaning.Store.{Store}
+use Rattle.array_runs.specs.of_zpl_meaning.Value.{value_of as mean_value}
+use Rattle.array_runs.specs.of_zpl_meaning.Context.{Place}
+use Rattle.array_runs.specs.of_zpl_meaning.Proper.{HasCurrent}
+use Rattle.array_runs.specs.of_zpl_meaning.Regions.{computed_of, dim_in, dims_in, span_in}
 use Rattle.node_form.specs.declared.tables.Tables.{Tables}
 use Rattle.node_form.specs.Control.{Registers, region_of, with_computed, with_slot}
 use Rattle.node_form.specs.Expression.{words_of}
@@ -31,17 +31,17 @@ use Rattle.node_form.specs.Value as flat
 use Rattle.node_form.specs.Value.{and_then, mapped, read, scalar_operands, tree_value}
 use Rattle.node_form.proofs.ValueLemmas.{value_of-words_of}
 use Rattle.row_runs.specs.Run.{Step, Stops, Ends}
-use Rattle.flat_form.specs.Act.{controlled}
-use Rattle.flat_form.specs.Row.{Part}
-use Rattle.flat_form.specs.Whole.{Whole, registers_of}
-use Rattle.zpl_lowering.specs.Where.{Slotted, Where, Next, is_flood}
-use Rattle.zpl_lowering.specs.Words.{scalar_code}
-use Rattle.zpl_lowering.specs.Bracket.{part_of, parts_of, dim_flood, dims_flood, three_parts}
-use Rattle.lowering_runs.specs.Seen.{Sight, seen_place, seen_store}
-use Rattle.lowering_runs.specs.Run.{straight}
-use Rattle.lowering_runs.specs.Scalars.{IsSameValue, BothGive, BothDivide, IsScalarAt}
-use Rattle.lowering_runs.specs.Stands.{Stands, IsCurrent, IsSound}
-use Rattle.lowering_runs.proofs.ValueLemmas.{value_same}
+use Rattle.array_runs.specs.of_flat_form.Act.{controlled}
+use Rattle.array_runs.specs.of_flat_form.Row.{Part}
+use Rattle.array_runs.specs.of_flat_form.Whole.{Whole, registers_of}
+use Rattle.array_runs.specs.of_zpl_lowering.Where.{Slotted, Where, Next, is_flood}
+use Rattle.array_runs.specs.of_zpl_lowering.Words.{scalar_code}
+use Rattle.array_runs.specs.of_zpl_lowering.Bracket.{part_of, parts_of, dim_flood, dims_flood, three_parts}
+use Rattle.array_runs.specs.of_lowering_runs.Seen.{Sight, seen_place, seen_store}
+use Rattle.array_runs.specs.of_lowering_runs.Run.{straight}
+use Rattle.array_runs.specs.of_lowering_runs.Scalars.{IsSameValue, BothGive, BothDivide, IsScalarAt}
+use Rattle.array_runs.specs.of_lowering_runs.Stands.{Stands, IsCurrent, IsSound}
+use Rattle.array_runs.proofs.of_lowering_runs.ValueLemmas.{value_same}
 use Rattle.prefix_runs.specs.Opens.{OpensDim, OpenDims}
 use Rattle.prefix_runs.proofs.PartLemmas.{part_value, parts_value, spans}
 use Rattle.prefix_runs.proofs.ShapeLemmas.{formed_of, over_opened}

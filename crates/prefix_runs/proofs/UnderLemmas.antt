@@ -14,36 +14,36 @@ use Rattle.zpl_names.specs.Ranks.{inner_rank, mask_rank}
 use Rattle.zpl_names.specs.Shapes.{prefix_rank}
 use Rattle.zpl_binding.specs.Outcome.{Outcome as BoundOutcome, value_or}
 use Rattle.zpl_binding.specs.Regions.{Known, no_region}
-use Rattle.zpl_meaning.specs.Computed as mean_computed
-use Rattle.zpl_meaning.specs.Computed.{computed_then}
+use Rattle.array_runs.specs.of_zpl_meaning.Computed as mean_computed
+use Rattle.array_runs.specs.of_zpl_meaning.Computed.{computed_then}
 use Rattle.row_runs.specs.Straight.{Every}
-use Rattle.zpl_meaning.specs.Store.{Thing, Scalar, ArrayAt, Fixed, Store, no_array, thing_of}
-use Rattle.zpl_meaning.specs.Context.{Mask, Currents, Over, over_at, with_over, Edge, Place}
-use Rattle.zpl_meaning.specs.Proper.{HasCurrent, IsArrayRank}
-use Rattle.zpl_meaning.specs.Regions.{vector_in, inner_over, mask_thing, mask_in, base_in, edge_in}
-use Rattle.zpl_meaning.specs.Regions as mean_regions
-use Rattle.zpl_meaning.specs.Outcome as out
-use Rattle.zpl_meaning.specs.Outcome.{Outcome}
-use Rattle.zpl_meaning.specs.Statement as mean
-use Rattle.zpl_meaning.specs.Statement.{Context}
+use Rattle.array_runs.specs.of_zpl_meaning.Store.{Thing, Scalar, ArrayAt, Fixed, Store, no_array, thing_of}
+use Rattle.array_runs.specs.of_zpl_meaning.Context.{Mask, Currents, Over, over_at, with_over, Edge, Place}
+use Rattle.array_runs.specs.of_zpl_meaning.Proper.{HasCurrent, IsArrayRank}
+use Rattle.array_runs.specs.of_zpl_meaning.Regions.{vector_in, inner_over, mask_thing, mask_in, base_in, edge_in}
+use Rattle.array_runs.specs.of_zpl_meaning.Regions as mean_regions
+use Rattle.array_runs.specs.of_zpl_meaning.Outcome as out
+use Rattle.array_runs.specs.of_zpl_meaning.Outcome.{Outcome}
+use Rattle.array_runs.specs.of_zpl_meaning.Statement as mean
+use Rattle.array_runs.specs.of_zpl_meaning.Statement.{Context}
 use Rattle.node_form.specs.declared.tables.Tables.{Tables}
 use Rattle.row_runs.specs.Structured as code
 use Rattle.row_runs.specs.Structured.{Course, rows_do}
-use Rattle.flat_form.specs.States.{IsStoreOf}
-use Rattle.flat_form.specs.Whole.{Whole}
-use Rattle.zpl_lowering.specs.Where.{Stored, Slotted, SlotCurrents, SlotEdge, slotted_or, slotted_at, with_slotted, Where, Next, line_of}
-use Rattle.zpl_lowering.specs.Lowered.{Lowered, behind}
-use Rattle.zpl_lowering.specs.Bracket.{Opened, region_slot}
-use Rattle.zpl_lowering.specs.Statement as low
-use Rattle.zpl_lowering.specs.Statement.{Lowering, of_opened}
-use Rattle.lowering_runs.specs.Seen.{slot_in, Spot, Sight, numbered, seen_thing, seen_names, seen_over, seen_currents, seen_edge, seen_place, seen_store}
-use Rattle.lowering_runs.specs.Run.{step, decide, does}
-use Rattle.lowering_runs.specs.Agrees.{Agrees, Trapping}
-use Rattle.lowering_runs.specs.Stands.{IsBefore, IsTaken, IsTakenEdge, AreTaken, Stands, HasRoom, IsCurrent, IsHeld, IsSound, IsLike}
-use Rattle.lowering_runs.specs.Goes.{World, context, lowering, Goes, GoesTo}
-use Rattle.lowering_runs.proofs.AgreeLemmas.{alike_agrees}
-use Rattle.lowering_runs.proofs.ValueLemmas.{thing_seen}
-use Rattle.lowering_runs.proofs.FitLemmas.{IsCarried, anew_goes_to, currents_kept, held_on, stands_on, before_behind, keeps_all, room_coded, room_first, room_rest, room_here}
+use Rattle.array_runs.specs.of_flat_form.States.{IsStoreOf}
+use Rattle.array_runs.specs.of_flat_form.Whole.{Whole}
+use Rattle.array_runs.specs.of_zpl_lowering.Where.{Stored, Slotted, SlotCurrents, SlotEdge, slotted_or, slotted_at, with_slotted, Where, Next, line_of}
+use Rattle.array_runs.specs.of_zpl_lowering.Lowered.{Lowered, behind}
+use Rattle.array_runs.specs.of_zpl_lowering.Bracket.{Opened, region_slot}
+use Rattle.array_runs.specs.of_zpl_lowering.Statement as low
+use Rattle.array_runs.specs.of_zpl_lowering.Statement.{Lowering, of_opened}
+use Rattle.array_runs.specs.of_lowering_runs.Seen.{slot_in, Spot, Sight, numbered, seen_thing, seen_names, seen_over, seen_currents, seen_edge, seen_place, seen_store}
+use Rattle.array_runs.specs.of_lowering_runs.Run.{step, decide, does}
+use Rattle.array_runs.specs.of_lowering_runs.Agrees.{Agrees, Trapping}
+use Rattle.array_runs.specs.of_lowering_runs.Stands.{IsBefore, IsTaken, IsTakenEdge, AreTaken, Stands, HasRoom, IsCurrent, IsHeld, IsSound, IsLike}
+use Rattle.array_runs.specs.of_lowering_runs.Goes.{World, context, lowering, Goes, GoesTo}
+use Rattle.array_runs.proofs.of_lowering_runs.AgreeLemmas.{alike_agrees}
+use Rattle.array_runs.proofs.of_lowering_runs.ValueLemmas.{thing_seen}
+use Rattle.array_runs.proofs.of_lowering_runs.FitLemmas.{IsCarried, anew_goes_to, currents_kept, held_on, stands_on, before_behind, keeps_all, room_coded, room_first, room_rest, room_here}
 use Rattle.array_runs.proofs.CodedLemmas.{current_of, region_of}
 use Rattle.array_runs.proofs.StoredLemmas.{index_of_found}
 use Rattle.prefix_runs.specs.Opens.{IsOpenedAs, IsGivenRegion, Opens}

@@ -1,6 +1,6 @@
 -- What filling slots leaves alone.
 use Rattle.std.specs.Prelude.{◌≡◌, ℕ, ◌<◌, length, slice_get}
-use Rattle.flat_form.specs.Whole.{Whole}
+use Rattle.array_runs.specs.of_flat_form.Whole.{Whole}
 
 -- All but slots is as it was, and so are the slots below a number.
 pub record IsFilled (bottom : ℕ) (before after : Whole) : Type 0 where

@@ -2,3 +2,7 @@ pub mod Opens
 pub mod Filled
 pub mod Under
 pub mod Plain
+pub use Rattle.array_runs.specs.of_array_puts as of_array_puts
+pub use Rattle.array_runs.specs as of_array_runs
+pub use Rattle.array_runs.specs.of_lowering_runs as of_lowering_runs
+pub use Rattle.array_runs.specs.of_zpl_lowering as of_zpl_lowering

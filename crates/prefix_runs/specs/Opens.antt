@@ -8,11 +8,11 @@ use Rattle.zpl_names.specs.Ranks.{dims_count, is_index}
 use Rattle.zpl_binding.specs.Outcome.{Outcome, Gives, Fails, Computed, outcome_of}
 use Rattle.zpl_binding.specs.Vectors.{dir_of, three_components}
 use Rattle.zpl_binding.specs.Regions.{Known, region_named}
-use Rattle.zpl_meaning.specs.Context.{Place}
-use Rattle.zpl_meaning.specs.Proper.{HasCurrent}
-use Rattle.zpl_lowering.specs.Where.{flood_of}
-use Rattle.zpl_lowering.specs.Bracket.{region_slot}
-use Rattle.lowering_runs.specs.Scalars.{IsScalarAt}
+use Rattle.array_runs.specs.of_zpl_meaning.Context.{Place}
+use Rattle.array_runs.specs.of_zpl_meaning.Proper.{HasCurrent}
+use Rattle.array_runs.specs.of_zpl_lowering.Where.{flood_of}
+use Rattle.array_runs.specs.of_zpl_lowering.Bracket.{region_slot}
+use Rattle.array_runs.specs.of_lowering_runs.Scalars.{IsScalarAt}
 
 -- ---- regions
 

@@ -1,9 +1,9 @@
 -- What is asked of statements of scalars and of arrays that have no statements in them.
 use Rattle.std.specs.Prelude.{◌⊎◌, ℕ, List}
 use Rattle.zpl_tree.specs.Syntax.{Form, Assign, Invoke, Block, If, While, Repeat, For, Border, Write, Return}
-use Rattle.zpl_meaning.specs.Context.{Setup, Place}
-use Rattle.zpl_lowering.specs.Where.{Where}
-use Rattle.lowering_runs.specs.Leaves.{ScalarLeaf}
+use Rattle.array_runs.specs.of_zpl_meaning.Context.{Setup, Place}
+use Rattle.array_runs.specs.of_zpl_lowering.Where.{Where}
+use Rattle.array_runs.specs.of_lowering_runs.Leaves.{ScalarLeaf}
 use Rattle.array_runs.specs.Floods.{IsArrayServed}
 
 -- an array is assigned without operators over regions

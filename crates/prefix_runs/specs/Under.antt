@@ -3,15 +3,15 @@ use Rattle.std.specs.Prelude.{◌≡◌, ℕ, Bool, List, [], ◌∷◌, Some}
 use Rattle.zpl_region.specs.declared.regions.Region.{Region}
 use Rattle.zpl_tree.specs.Syntax.{Prefix}
 use Rattle.zpl_names.specs.Ranks.{inner_rank, mask_rank}
-use Rattle.zpl_meaning.specs.Computed.{Gives}
-use Rattle.zpl_meaning.specs.Store.{Store}
-use Rattle.zpl_meaning.specs.Context.{Over, Place}
-use Rattle.zpl_meaning.specs.Regions.{mask_in}
-use Rattle.zpl_meaning.specs.Regions as mean
-use Rattle.zpl_meaning.specs.Proper.{IsArrayRank}
-use Rattle.zpl_lowering.specs.Where.{Where}
-use Rattle.zpl_lowering.specs.Bracket.{Opened}
-use Rattle.zpl_lowering.specs.Statement as low
+use Rattle.array_runs.specs.of_zpl_meaning.Computed.{Gives}
+use Rattle.array_runs.specs.of_zpl_meaning.Store.{Store}
+use Rattle.array_runs.specs.of_zpl_meaning.Context.{Over, Place}
+use Rattle.array_runs.specs.of_zpl_meaning.Regions.{mask_in}
+use Rattle.array_runs.specs.of_zpl_meaning.Regions as mean
+use Rattle.array_runs.specs.of_zpl_meaning.Proper.{IsArrayRank}
+use Rattle.array_runs.specs.of_zpl_lowering.Where.{Where}
+use Rattle.array_runs.specs.of_zpl_lowering.Bracket.{Opened}
+use Rattle.array_runs.specs.of_zpl_lowering.Statement as low
 use Rattle.prefix_runs.specs.Opens.{IsOpenedAs, Opens}
 
 -- The bracket may be opened, and has a rank from 1 to 3, which is the prefix's.

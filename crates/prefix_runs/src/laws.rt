@@ -4,16 +4,16 @@
 ghost use Rattle.std.specs.Prelude.{ℕ, ◌+◌, Bool, List};
 ghost use Rattle.zpl_names.specs.Counts.{own_nodes};
 ghost use Rattle.zpl_tree.specs.Syntax.{Expr, Form, Prefix, Stmt};
-ghost use Rattle.zpl_meaning.specs.Context.{Place, Setup};
-ghost use Rattle.zpl_meaning.specs.Outcome.{Outcome};
-ghost use Rattle.zpl_meaning.specs.Statement.{Context, exec, exec_form, under};
-ghost use Rattle.zpl_meaning.specs.Store.{Store};
-ghost use Rattle.zpl_lowering.specs.Lowered.{Lowered};
-ghost use Rattle.zpl_lowering.specs.Statement.{Lowering, lowered, lowered_form, lowered_under};
-ghost use Rattle.zpl_lowering.specs.Where.{Next, Where};
-ghost use Rattle.lowering_runs.specs.Called.{CallsAgree};
-ghost use Rattle.lowering_runs.specs.Goes.{Goes, TestsGo, ValuesGo, World};
-ghost use Rattle.lowering_runs.specs.Suits.{SuitsStmt, SuitsStmtBy};
+ghost use Rattle.array_runs.specs.of_zpl_meaning.Context.{Place, Setup};
+ghost use Rattle.array_runs.specs.of_zpl_meaning.Outcome.{Outcome};
+ghost use Rattle.array_runs.specs.of_zpl_meaning.Statement.{Context, exec, exec_form, under};
+ghost use Rattle.array_runs.specs.of_zpl_meaning.Store.{Store};
+ghost use Rattle.array_runs.specs.of_zpl_lowering.Lowered.{Lowered};
+ghost use Rattle.array_runs.specs.of_zpl_lowering.Statement.{Lowering, lowered, lowered_form, lowered_under};
+ghost use Rattle.array_runs.specs.of_zpl_lowering.Where.{Next, Where};
+ghost use Rattle.array_runs.specs.of_lowering_runs.Called.{CallsAgree};
+ghost use Rattle.array_runs.specs.of_lowering_runs.Goes.{Goes, TestsGo, ValuesGo, World};
+ghost use Rattle.array_runs.specs.of_lowering_runs.Suits.{SuitsStmt, SuitsStmtBy};
 ghost use Rattle.prefix_runs.specs.Plain.{PlainLeaf};
 ghost use Rattle.prefix_runs.specs.Under.{IsUnder};
 

@@ -21,20 +21,20 @@ use Rattle.node_form.specs.Expression.{Expression}
 use Rattle.row_runs.specs.Straight.{Every}
 use Rattle.flat_form.specs.Whole.{Whole}
 use Rattle.flat_form.proofs.WordLemmas.{every_append}
-use Rattle.zpl_lowering.specs.Where.{Where, Next, slotted_at}
-use Rattle.zpl_lowering.specs.Words.{scalar_code}
-use Rattle.zpl_lowering.specs.Slate as slate
-use Rattle.zpl_lowering.specs.Slate.{Slate, Slates, NoSlate, ThenSlate, Placed, settled, settled_each}
-use Rattle.zpl_lowering.specs.Reference.{all_conforming, all_referred, conforming, referred}
-use Rattle.zpl_lowering.specs.Hoist as hoist
-use Rattle.zpl_lowering.specs.Hoist.{Free, all_hoisted, hoisted}
-use Rattle.zpl_lowering.specs.Statement as low
-use Rattle.lowering_runs.specs.Seen.{Sight, seen_place, seen_store}
-use Rattle.lowering_runs.specs.Scalars.{IsScalarAt}
-use Rattle.lowering_runs.specs.Stands.{IsHeld, IsSound, Stands}
-use Rattle.lowering_runs.proofs.BareLemmas.{settles}
-use Rattle.lowering_runs.specs.Values.{meant}
-use Rattle.lowering_runs.proofs.ValueLemmas.{scalar_unseen}
+use Rattle.array_runs.specs.of_zpl_lowering.Where.{Where, Next, slotted_at}
+use Rattle.array_runs.specs.of_zpl_lowering.Words.{scalar_code}
+use Rattle.array_runs.specs.of_zpl_lowering.Slate as slate
+use Rattle.array_runs.specs.of_zpl_lowering.Slate.{Slate, Slates, NoSlate, ThenSlate, Placed, settled, settled_each}
+use Rattle.array_runs.specs.of_zpl_lowering.Reference.{all_conforming, all_referred, conforming, referred}
+use Rattle.array_runs.specs.of_zpl_lowering.Hoist as hoist
+use Rattle.array_runs.specs.of_zpl_lowering.Hoist.{Free, all_hoisted, hoisted}
+use Rattle.array_runs.specs.of_zpl_lowering.Statement as low
+use Rattle.array_runs.specs.of_lowering_runs.Seen.{Sight, seen_place, seen_store}
+use Rattle.array_runs.specs.of_lowering_runs.Scalars.{IsScalarAt}
+use Rattle.array_runs.specs.of_lowering_runs.Stands.{IsHeld, IsSound, Stands}
+use Rattle.array_runs.proofs.of_lowering_runs.BareLemmas.{settles}
+use Rattle.array_runs.specs.of_lowering_runs.Values.{meant}
+use Rattle.array_runs.proofs.of_lowering_runs.ValueLemmas.{scalar_unseen}
 use Rattle.array_runs.specs.Gates.{IsThere, holds}
 use Rattle.array_runs.proofs.CodedLemmas.{coded, current_of}
 use Rattle.array_runs.proofs.FloodLemmas.{elementwise}

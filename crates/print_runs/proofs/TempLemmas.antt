@@ -45,16 +45,16 @@ use Rattle.flat_form.specs.Right.{can_read, can_write, each_matches, has_places,
 use Rattle.flat_form.specs.States.{IsStoreOf}
 use Rattle.flat_form.specs.Whole.{Whole}
 use Rattle.normal_runs.proofs.PlaceLemmas.{moved_none, set_apart}
-use Rattle.zpl_lowering.specs.Statement.{is_truth}
-use Rattle.zpl_lowering.specs.Tables.{temp_dims, temp_row}
-use Rattle.zpl_lowering.specs.Where as low
-use Rattle.zpl_lowering.specs.Where.{Stored, Where, Next}
-use Rattle.lowering_runs.specs.Run.{step, straight}
-use Rattle.lowering_runs.specs.Seen.{Spot, array_in, seen_store}
-use Rattle.lowering_runs.specs.Stands.{AreStored, IsLike, IsSound}
-use Rattle.lowering_runs.proofs.RowLemmas.{settled_act}
-use Rattle.array_puts.specs.Put.{IsPutting, IsSame, assigned, put_group, with_array_in}
-use Rattle.array_puts.proofs.PutLemmas.{put_assigns}
+use Rattle.array_runs.specs.of_zpl_lowering.Statement.{is_truth}
+use Rattle.array_runs.specs.of_zpl_lowering.Tables.{temp_dims, temp_row}
+use Rattle.array_runs.specs.of_zpl_lowering.Where as low
+use Rattle.array_runs.specs.of_zpl_lowering.Where.{Stored, Where, Next}
+use Rattle.array_runs.specs.of_lowering_runs.Run.{step, straight}
+use Rattle.array_runs.specs.of_lowering_runs.Seen.{Spot, array_in, seen_store}
+use Rattle.array_runs.specs.of_lowering_runs.Stands.{AreStored, IsLike, IsSound}
+use Rattle.array_runs.proofs.of_lowering_runs.RowLemmas.{settled_act}
+use Rattle.array_runs.specs.of_array_puts.Put.{IsPutting, IsSame, assigned, put_group, with_array_in}
+use Rattle.array_runs.proofs.of_array_puts.PutLemmas.{put_assigns}
 use Rattle.array_runs.specs.Floods.{three_floods}
 use Rattle.array_runs.proofs.AssignLemmas.{all_read}
 use Rattle.array_runs.proofs.ElementLemmas.{all_members}

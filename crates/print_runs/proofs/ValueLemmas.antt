@@ -51,26 +51,26 @@ use Rattle.flat_form.specs.Right.{can_read}
 use Rattle.flat_form.specs.States.{IsStoreOf}
 use Rattle.flat_form.specs.Whole.{Whole}
 use Rattle.normal_runs.proofs.PlaceLemmas.{set_apart, set_there}
-use Rattle.zpl_lowering.specs.Where as low_where
-use Rattle.zpl_lowering.specs.Where.{Slotted, Where, Next, slotted_at}
-use Rattle.zpl_lowering.specs.Words.{scalar_code}
-use Rattle.zpl_lowering.specs.Slate.{Placed}
-use Rattle.zpl_lowering.specs.Hoist.{hoisted, kept_rows}
-use Rattle.zpl_lowering.specs.Lowered.{free_at}
-use Rattle.zpl_lowering.specs.Statement as low
-use Rattle.zpl_lowering.specs.Statement.{Prints, is_truth, shown_at}
-use Rattle.zpl_lowering.specs.Tables.{temp_row}
-use Rattle.lowering_runs.specs.Run.{decide, step}
-use Rattle.lowering_runs.specs.Seen.{Sight, scalar_in, seen_place, seen_store}
-use Rattle.lowering_runs.specs.Scalars.{IsSameValue, BothGive, BothDivide, IsScalarAt}
-use Rattle.lowering_runs.specs.Stands.{IsLike, Stands, TempsAt}
-use Rattle.lowering_runs.proofs.BareLemmas.{settles}
-use Rattle.lowering_runs.proofs.FitLemmas.{place_kept, temps_rest}
-use Rattle.lowering_runs.proofs.NumberLemmas.{get_set_other, get_set_same}
-use Rattle.lowering_runs.proofs.PrintLemmas.{end_prints, line_end, printing, typed_step}
-use Rattle.lowering_runs.proofs.RowLemmas.{like_hidden, print_step, set, set_step, set_to}
-use Rattle.lowering_runs.proofs.ValueLemmas.{scalar_unseen, value_same}
-use Rattle.array_puts.specs.Put.{IsSame, assigned, put_group, with_array_in}
+use Rattle.array_runs.specs.of_zpl_lowering.Where as low_where
+use Rattle.array_runs.specs.of_zpl_lowering.Where.{Slotted, Where, Next, slotted_at}
+use Rattle.array_runs.specs.of_zpl_lowering.Words.{scalar_code}
+use Rattle.array_runs.specs.of_zpl_lowering.Slate.{Placed}
+use Rattle.array_runs.specs.of_zpl_lowering.Hoist.{hoisted, kept_rows}
+use Rattle.array_runs.specs.of_zpl_lowering.Lowered.{free_at}
+use Rattle.array_runs.specs.of_zpl_lowering.Statement as low
+use Rattle.array_runs.specs.of_zpl_lowering.Statement.{Prints, is_truth, shown_at}
+use Rattle.array_runs.specs.of_zpl_lowering.Tables.{temp_row}
+use Rattle.array_runs.specs.of_lowering_runs.Run.{decide, step}
+use Rattle.array_runs.specs.of_lowering_runs.Seen.{Sight, scalar_in, seen_place, seen_store}
+use Rattle.array_runs.specs.of_lowering_runs.Scalars.{IsSameValue, BothGive, BothDivide, IsScalarAt}
+use Rattle.array_runs.specs.of_lowering_runs.Stands.{IsLike, Stands, TempsAt}
+use Rattle.array_runs.proofs.of_lowering_runs.BareLemmas.{settles}
+use Rattle.array_runs.proofs.of_lowering_runs.FitLemmas.{place_kept, temps_rest}
+use Rattle.array_runs.proofs.of_lowering_runs.NumberLemmas.{get_set_other, get_set_same}
+use Rattle.array_runs.proofs.of_lowering_runs.PrintLemmas.{end_prints, line_end, printing, typed_step}
+use Rattle.array_runs.proofs.of_lowering_runs.RowLemmas.{like_hidden, print_step, set, set_step, set_to}
+use Rattle.array_runs.proofs.of_lowering_runs.ValueLemmas.{scalar_unseen, value_same}
+use Rattle.array_runs.specs.of_array_puts.Put.{IsSame, assigned, put_group, with_array_in}
 use Rattle.array_runs.specs.Floods.{IsElementwiseAs, three_floods}
 use Rattle.array_runs.proofs.CodedLemmas.{coded, current_of, region_of}
 use Rattle.array_runs.proofs.FloodLemmas.{current_floods, elementwise}

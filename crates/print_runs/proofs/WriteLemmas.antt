@@ -22,22 +22,22 @@ use Rattle.row_runs.specs.Structured as code
 use Rattle.row_runs.specs.Structured.{Course, rows_do}
 use Rattle.flat_form.specs.Row.{Row}
 use Rattle.flat_form.specs.Whole.{Whole}
-use Rattle.zpl_lowering.specs.Where.{Where, Next, line_of}
-use Rattle.zpl_lowering.specs.Slate as slate
-use Rattle.zpl_lowering.specs.Slate.{Placed, Settled, Slates, settled_each}
-use Rattle.zpl_lowering.specs.Reference.{all_referred, needs}
-use Rattle.zpl_lowering.specs.Hoist.{Hoisted, all_hoisted}
-use Rattle.zpl_lowering.specs.Lowered.{Lowered, Phased, followed, free_at, phases_of}
-use Rattle.zpl_lowering.specs.Statement as low
-use Rattle.zpl_lowering.specs.Statement.{Prints}
-use Rattle.lowering_runs.specs.Seen.{Sight, seen_place, seen_store}
-use Rattle.lowering_runs.specs.Run.{decide, does, step}
-use Rattle.lowering_runs.specs.Agrees.{Agrees, Going, Trapping}
-use Rattle.lowering_runs.specs.Stands.{HasRoom, IsLike, Stands, TempsAt}
-use Rattle.lowering_runs.specs.Goes.{World, Goes}
-use Rattle.lowering_runs.proofs.FitLemmas.{anew_goes}
-use Rattle.lowering_runs.proofs.PrintLemmas.{line_end, meant_items, rows_append}
-use Rattle.lowering_runs.proofs.SuitLemmas.{FormGoes, goes_more}
+use Rattle.array_runs.specs.of_zpl_lowering.Where.{Where, Next, line_of}
+use Rattle.array_runs.specs.of_zpl_lowering.Slate as slate
+use Rattle.array_runs.specs.of_zpl_lowering.Slate.{Placed, Settled, Slates, settled_each}
+use Rattle.array_runs.specs.of_zpl_lowering.Reference.{all_referred, needs}
+use Rattle.array_runs.specs.of_zpl_lowering.Hoist.{Hoisted, all_hoisted}
+use Rattle.array_runs.specs.of_zpl_lowering.Lowered.{Lowered, Phased, followed, free_at, phases_of}
+use Rattle.array_runs.specs.of_zpl_lowering.Statement as low
+use Rattle.array_runs.specs.of_zpl_lowering.Statement.{Prints}
+use Rattle.array_runs.specs.of_lowering_runs.Seen.{Sight, seen_place, seen_store}
+use Rattle.array_runs.specs.of_lowering_runs.Run.{decide, does, step}
+use Rattle.array_runs.specs.of_lowering_runs.Agrees.{Agrees, Going, Trapping}
+use Rattle.array_runs.specs.of_lowering_runs.Stands.{HasRoom, IsLike, Stands, TempsAt}
+use Rattle.array_runs.specs.of_lowering_runs.Goes.{World, Goes}
+use Rattle.array_runs.proofs.of_lowering_runs.FitLemmas.{anew_goes}
+use Rattle.array_runs.proofs.of_lowering_runs.PrintLemmas.{line_end, meant_items, rows_append}
+use Rattle.array_runs.proofs.of_lowering_runs.SuitLemmas.{FormGoes, goes_more}
 use Rattle.array_runs.specs.Gates.{gate}
 use Rattle.array_runs.proofs.GateLemmas.{needs_gate}
 use Rattle.array_runs.proofs.PartLemmas.{IsStill}

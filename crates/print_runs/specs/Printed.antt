@@ -6,8 +6,8 @@ use Rattle.zpl_names.specs.Kinds.{Rank}
 use Rattle.zpl_names.specs.Sites.{Printed}
 use Rattle.zpl_meaning.specs.Context.{Place, rank_in}
 use Rattle.zpl_meaning.specs.Proper.{HasCurrent}
-use Rattle.zpl_lowering.specs.Where.{Where, slotted_at}
-use Rattle.lowering_runs.specs.Scalars.{IsScalarAt}
+use Rattle.array_runs.specs.of_zpl_lowering.Where.{Where, slotted_at}
+use Rattle.array_runs.specs.of_lowering_runs.Scalars.{IsScalarAt}
 use Rattle.array_runs.specs.Floods.{IsElementwiseAs}
 
 abbrev pub HasNoFlood : List Bool → Type 0

@@ -4,8 +4,8 @@
 ghost use Rattle.std.specs.Prelude.{ℕ, Bool, List};
 ghost use Rattle.zpl_tree.specs.Syntax.{Form, Item, Write};
 ghost use Rattle.zpl_meaning.specs.Statement.{exec_form};
-ghost use Rattle.zpl_lowering.specs.Statement.{lowered_form};
-ghost use Rattle.lowering_runs.specs.Goes.{Goes, World};
+ghost use Rattle.array_runs.specs.of_zpl_lowering.Statement.{lowered_form};
+ghost use Rattle.array_runs.specs.of_lowering_runs.Goes.{Goes, World};
 ghost use Rattle.print_runs.specs.Printed.{ArePrinted, PrintLeaf};
 
 /// The code of a print goes as the print does, from each state that its place fits: all values are

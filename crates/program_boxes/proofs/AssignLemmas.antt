@@ -29,12 +29,12 @@ use Rattle.zpl_lowering.specs.Hoist as hoist
 use Rattle.zpl_lowering.specs.Reference.{Reference, refer_to, over_reference}
 use Rattle.zpl_lowering.specs.Lowered.{Lowered, rows_alone, behind, Phased, phased, phased_with, first_left, free_at}
 use Rattle.zpl_lowering.specs.Statement.{Calling, placed_in, put_row, lowered_to, value_exprs, lowered_invoke, with_values, value_rows, target_of, lowered_assign, set_row}
-use Rattle.lowering_fits.specs.Reach.{place_at}
-use Rattle.lowering_fits.specs.Standing.{calling_of}
-use Rattle.lowering_fits.proofs.PartLemmas.{AreRight}
-use Rattle.lowering_fits.proofs.MadeLemmas.{IsTame, proper_tame, settled_made}
-use Rattle.lowering_fits.proofs.MadeAssignLemmas.{IsWithin, IsCalling}
-use Rattle.lowering_fits.proofs.PointSiteLemmas.{actual_sites, actuals_split, IsNamed, variable_named, array_named as named_array}
+use Rattle.lowered_flat.specs.of_lowering_fits.Reach.{place_at}
+use Rattle.lowered_flat.specs.of_lowering_fits.Standing.{calling_of}
+use Rattle.lowered_flat.proofs.of_lowering_fits.PartLemmas.{AreRight}
+use Rattle.lowered_flat.proofs.of_lowering_fits.MadeLemmas.{IsTame, proper_tame, settled_made}
+use Rattle.lowered_flat.proofs.of_lowering_fits.MadeAssignLemmas.{IsWithin, IsCalling}
+use Rattle.lowered_flat.proofs.of_lowering_fits.PointSiteLemmas.{actual_sites, actuals_split, IsNamed, variable_named, array_named as named_array}
 use Rattle.stored_boxes.specs.Reads as told
 use Rattle.stored_boxes.specs.Reads.{IsReadAs, copied, copy_shifts, own_shifts}
 use Rattle.stored_boxes.proofs.ReadLemmas.{noted_behind, noted_both as both_noted, settled_noted}

@@ -29,11 +29,11 @@ use Rattle.grid_meaning.specs.Stored as layout
 use Rattle.zpl_lowering.specs.Hoist.{Shifted, shifts_of as shifts_noted}
 use Rattle.zpl_lowering.specs.Reference.{shift_in, vector_over}
 use Rattle.zpl_lowering.specs.Tables.{stored_row, stored_rows}
-use Rattle.lowering_fits.specs.Slates.{IsLevel}
-use Rattle.lowering_fits.specs.Storages.{AllStorages, IsStorage}
-use Rattle.lowering_fits.proofs.BracketLemmas.{LimitsAreTold}
-use Rattle.lowering_fits.proofs.FrameLemmas.{boxed_steps}
-use Rattle.lowering_fits.proofs.FringeLemmas.{copy_level}
+use Rattle.lowered_flat.specs.of_lowering_fits.Slates.{IsLevel}
+use Rattle.lowered_flat.specs.of_lowering_fits.Storages.{AllStorages, IsStorage}
+use Rattle.lowered_flat.proofs.of_lowering_fits.BracketLemmas.{LimitsAreTold}
+use Rattle.lowered_flat.proofs.of_lowering_fits.FrameLemmas.{boxed_steps}
+use Rattle.lowered_flat.proofs.of_lowering_fits.FringeLemmas.{copy_level}
 use Rattle.zpl_claims.specs.Boxes.{box_of, box_read, copy_box, shifts_of}
 use Rattle.stored_boxes.specs.Declared.{declared_home, declared_storage}
 use Rattle.stored_boxes.specs.Different.{AreDifferent}

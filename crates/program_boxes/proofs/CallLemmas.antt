@@ -35,29 +35,29 @@ use Rattle.zpl_lowering.specs.Lowered.{Lowered}
 use Rattle.zpl_lowering.specs.Program.{Entry, Framed, body_code, call_code, in_call, out_of_call, reads_round, routine_code, where_in}
 use Rattle.zpl_lowering.specs.Statement.{Calling, given_to, lowered}
 use Rattle.zpl_lowering.specs.Where.{Next, Numbers, Where}
-use Rattle.lowering_fits.specs.Declarations.{FitsProgram}
-use Rattle.lowering_fits.specs.Reach.{AreGlobals, FitNames, place_at}
-use Rattle.lowering_fits.specs.Slates.{FitsVector}
-use Rattle.lowering_fits.specs.Standing.{calling_of}
-use Rattle.lowering_fits.specs.Whole.{body_frames}
-use Rattle.lowering_fits.proofs.PartLemmas.{AreRight}
-use Rattle.lowering_fits.proofs.TallyLemmas.{round, tally, reads_are}
-use Rattle.lowering_fits.proofs.MadeAssignLemmas.{IsCalling}
-use Rattle.lowering_fits.proofs.MadeCallLemmas as made
-use Rattle.lowering_fits.proofs.MadeCallLemmas.{IsCallFrom, IsCallee, IsGood, callee_of, callee_visited, good_sites}
-use Rattle.lower_numbers.specs.Arrays.{param_arrays}
-use Rattle.lowering_fits.proofs.MadeFrameLemmas.{AreFine, given_copies}
-use Rattle.lowering_fits.proofs.MadeProgramLemmas.{GivensBelow, givens_below, givens_fine}
-use Rattle.lowering_fits.proofs.NamedLemmas.{AllBelow}
-use Rattle.lowering_fits.proofs.KeptLemmas.{AreGivenOf}
-use Rattle.lowering_fits.proofs.ReachLemmas.{FewScalars, givens_of}
-use Rattle.lowering_fits.proofs.NumberedLemmas.{any_vars}
+use Rattle.lowered_flat.specs.of_lowering_fits.Declarations.{FitsProgram}
+use Rattle.lowered_flat.specs.of_lowering_fits.Reach.{AreGlobals, FitNames, place_at}
+use Rattle.lowered_flat.specs.of_lowering_fits.Slates.{FitsVector}
+use Rattle.lowered_flat.specs.of_lowering_fits.Standing.{calling_of}
+use Rattle.lowered_flat.specs.of_lowering_fits.Whole.{body_frames}
+use Rattle.lowered_flat.proofs.of_lowering_fits.PartLemmas.{AreRight}
+use Rattle.lowered_flat.proofs.of_lowering_fits.TallyLemmas.{round, tally, reads_are}
+use Rattle.lowered_flat.proofs.of_lowering_fits.MadeAssignLemmas.{IsCalling}
+use Rattle.lowered_flat.proofs.of_lowering_fits.MadeCallLemmas as made
+use Rattle.lowered_flat.proofs.of_lowering_fits.MadeCallLemmas.{IsCallFrom, IsCallee, IsGood, callee_of, callee_visited, good_sites}
+use Rattle.lowered_flat.specs.of_lower_numbers.Arrays.{param_arrays}
+use Rattle.lowered_flat.proofs.of_lowering_fits.MadeFrameLemmas.{AreFine, given_copies}
+use Rattle.lowered_flat.proofs.of_lowering_fits.MadeProgramLemmas.{GivensBelow, givens_below, givens_fine}
+use Rattle.lowered_flat.proofs.of_lowering_fits.NamedLemmas.{AllBelow}
+use Rattle.lowered_flat.proofs.of_lowering_fits.KeptLemmas.{AreGivenOf}
+use Rattle.lowered_flat.proofs.of_lowering_fits.ReachLemmas.{FewScalars, givens_of}
+use Rattle.lowered_flat.proofs.of_lowering_fits.NumberedLemmas.{any_vars}
 use Rattle.lowered_flat.specs.Apart.{NamesStandApart}
-use Rattle.array_numbers.specs.Calls.{Called, StandFrom}
-use Rattle.array_numbers.specs.Numbering.{IsReached}
-use Rattle.array_numbers.proofs.CallLemmas.{are_given, are_parameters, each_of, parameters_of, AreParameters}
-use Rattle.array_numbers.proofs.TextLemmas.{call_taken}
-use Rattle.array_numbers.proofs.WalkLemmas.{AreGiven, formal_of}
+use Rattle.stored_boxes.specs.of_array_numbers.Calls.{Called, StandFrom}
+use Rattle.stored_boxes.specs.of_array_numbers.Numbering.{IsReached}
+use Rattle.stored_boxes.proofs.of_array_numbers.CallLemmas.{are_given, are_parameters, each_of, parameters_of, AreParameters}
+use Rattle.stored_boxes.proofs.of_array_numbers.TextLemmas.{call_taken}
+use Rattle.stored_boxes.proofs.of_array_numbers.WalkLemmas.{AreGiven, formal_of}
 use Rattle.stored_boxes.specs.Declared.{IsDeclared, declared_storage}
 use Rattle.stored_boxes.specs.Different.{AreDifferent}
 use Rattle.stored_boxes.specs.Reads.{copied, copies_in, shifts_in}

@@ -14,9 +14,9 @@ use Rattle.zpl_lowering.specs.Where.{Next}
 use Rattle.zpl_lowering.specs.Lowered.{Lowered, behind, rows_alone}
 use Rattle.zpl_lowering.specs.Statement.{Calling, Given, Valued, Copied, Referring, lowered}
 use Rattle.zpl_lowering.specs.Program.{Entry, Framed, body_code, clear_row, givens_code, locals_code, made_copy, names_code, where_in, with_array, with_scalar, zero_row}
-use Rattle.lowering_fits.specs.Whole.{body_frames, given_frames, local_frames, name_frames}
-use Rattle.array_numbers.specs.Numbering.{Numbering, SoundVars, SoundOver}
-use Rattle.array_numbers.proofs.WalkLemmas.{AreGiven, ByArray, ByCopy, ByName, ByValue, IsGiven, Parameter, formal_of}
+use Rattle.lowered_flat.specs.of_lowering_fits.Whole.{body_frames, given_frames, local_frames, name_frames}
+use Rattle.stored_boxes.specs.of_array_numbers.Numbering.{Numbering, SoundVars, SoundOver}
+use Rattle.stored_boxes.proofs.of_array_numbers.WalkLemmas.{AreGiven, ByArray, ByCopy, ByName, ByValue, IsGiven, Parameter, formal_of}
 use Rattle.stored_boxes.specs.Declared.{IsDeclared, declared_storage}
 use Rattle.program_boxes.specs.Own.{storages_of}
 

@@ -15,8 +15,8 @@ use Rattle.zpl_names.specs.Expansion.{ExpandedArray, array_of_entry}
 use Rattle.zpl_binding.specs.Regions.{Known}
 use Rattle.zpl_binding.specs.Storages.{Border}
 use Rattle.zpl_meaning.specs.Variables.{Frame, with_name, with_names, with_variables, with_values, with_declarations, empty_frame}
-use Rattle.array_numbers.specs.Numbering.{IsFixedKind, SoundOver, SoundVars, SoundDecls}
-use Rattle.array_numbers.proofs.GlobalLemmas.{array_entry}
+use Rattle.stored_boxes.specs.of_array_numbers.Numbering.{IsFixedKind, SoundOver, SoundVars, SoundDecls}
+use Rattle.stored_boxes.proofs.of_array_numbers.GlobalLemmas.{array_entry}
 use Rattle.stored_boxes.specs.Declared.{IsDeclared, declared_storage}
 use Rattle.program_boxes.specs.Own.{storages_of}
 

@@ -18,13 +18,13 @@ use Rattle.zpl_meaning.specs.Program.{first_frame, setup_of}
 use Rattle.zpl_meaning.specs.Store.{Thing, Scalar, ArrayAt, Fixed, thing_of}
 use Rattle.zpl_lowering.specs.Where.{Stored}
 use Rattle.zpl_lowering.specs.Program.{Framed, global_numbers}
-use Rattle.lowering_fits.specs.Reach.{named_thing}
-use Rattle.lowering_fits.proofs.NamedLemmas.{AllBelow, OptBelow}
+use Rattle.lowered_flat.specs.of_lowering_fits.Reach.{named_thing}
+use Rattle.lowered_flat.proofs.of_lowering_fits.NamedLemmas.{AllBelow, OptBelow}
 use Rattle.lowered_flat.specs.Apart.{NamesStandApart}
-use Rattle.array_numbers.specs.Calls.{AreStanding, IsCallOf}
-use Rattle.array_numbers.specs.Numbering.{Numbering, IsFixedThing, IsGlobal, GlobalScalar, GlobalArray, GlobalOther, IsReached, ReachedScalar, ReachedArray, ReachedOther}
-use Rattle.array_numbers.proofs.CallLemmas.{named}
-use Rattle.array_numbers.proofs.NumberLemmas.{IsStanding, globals_first, standing, stands_there}
+use Rattle.stored_boxes.specs.of_array_numbers.Calls.{AreStanding, IsCallOf}
+use Rattle.stored_boxes.specs.of_array_numbers.Numbering.{Numbering, IsFixedThing, IsGlobal, GlobalScalar, GlobalArray, GlobalOther, IsReached, ReachedScalar, ReachedArray, ReachedOther}
+use Rattle.stored_boxes.proofs.of_array_numbers.CallLemmas.{named}
+use Rattle.stored_boxes.proofs.of_array_numbers.NumberLemmas.{IsStanding, globals_first, standing, stands_there}
 use Rattle.stored_boxes.specs.Declared.{IsDeclared}
 use Rattle.stored_boxes.specs.Different.{AreDifferent}
 use Rattle.stored_boxes.specs.Reads.{IsNoArray, IsReadAs, ReadArray, ReadNothing, shifts_in}

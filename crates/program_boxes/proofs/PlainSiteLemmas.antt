@@ -8,8 +8,8 @@ use Rattle.zpl_names.specs.Ranks.{own_rank, inner_rank, is_index, mask_rank}
 use Rattle.zpl_names.specs.Sites.{Reach, Role, Actual, Bound, Component, Operand, whole_rank, in_vector, over_source, under_prefix, Site, AtWhole, AtExpr, AtMask, actuals_sites, index_sites, expr_sites, exprs_sites, dir_sites, components_sites, prefixes_sites, region_sites, posts_sites, dims_sites, dim_sites, whole_sites}
 use Rattle.zpl_names.specs.Accepted.{HasNoFault}
 use Rattle.zpl_meaning.proofs.DepthLemmas.{Each, each_left, each_right}
-use Rattle.lowering_fits.proofs.TallyLemmas.{called, calls_append, tally}
-use Rattle.lowering_fits.proofs.PointSiteLemmas.{actual_sites, actuals_split}
+use Rattle.lowered_flat.proofs.of_lowering_fits.TallyLemmas.{called, calls_append, tally}
+use Rattle.lowered_flat.proofs.of_lowering_fits.PointSiteLemmas.{actual_sites, actuals_split}
 
 -- no call is made there
 pub record IsPlain (sites : List Site) : Type 0 where

@@ -35,17 +35,17 @@ use Rattle.zpl_lowering.specs.Lowered.{Lowered, behind}
 use Rattle.zpl_lowering.specs.Program.{Entry, call_code, entry_calling, entry_code, first_next, global_numbers, globals_made, in_call, lowered_program, reads_round, routine_code}
 use Rattle.zpl_lowering.specs.Statement.{Calling}
 use Rattle.zpl_lowering.specs.Where.{Next}
-use Rattle.lowering_fits.specs.Declarations.{FitsProgram}
-use Rattle.lowering_fits.specs.Slates.{FitsVector}
-use Rattle.lowering_fits.specs.Whole.{body_frames}
-use Rattle.lowering_fits.proofs.PartLemmas.{AreRight}
-use Rattle.lowering_fits.proofs.NumberedLemmas.{any_vars}
-use Rattle.lowering_fits.proofs.GlobalsLemmas.{globals_fit}
-use Rattle.lowering_fits.proofs.KeptLemmas.{AreGivenOf}
-use Rattle.lowering_fits.proofs.MadeWholeLemmas.{entry_is_bare, entry_is_there, entry_more, entry_visited}
+use Rattle.lowered_flat.specs.of_lowering_fits.Declarations.{FitsProgram}
+use Rattle.lowered_flat.specs.of_lowering_fits.Slates.{FitsVector}
+use Rattle.lowered_flat.specs.of_lowering_fits.Whole.{body_frames}
+use Rattle.lowered_flat.proofs.of_lowering_fits.PartLemmas.{AreRight}
+use Rattle.lowered_flat.proofs.of_lowering_fits.NumberedLemmas.{any_vars}
+use Rattle.lowered_flat.proofs.of_lowering_fits.GlobalsLemmas.{globals_fit}
+use Rattle.lowered_flat.proofs.of_lowering_fits.KeptLemmas.{AreGivenOf}
+use Rattle.lowered_flat.proofs.of_lowering_fits.MadeWholeLemmas.{entry_is_bare, entry_is_there, entry_more, entry_visited}
 use Rattle.lowered_flat.specs.Apart.{NamesStandApart}
-use Rattle.array_numbers.specs.Calls.{Entered}
-use Rattle.array_numbers.proofs.GlobalLemmas.{array_entry}
+use Rattle.stored_boxes.specs.of_array_numbers.Calls.{Entered}
+use Rattle.stored_boxes.proofs.of_array_numbers.GlobalLemmas.{array_entry}
 use Rattle.stored_boxes.specs.Declared.{declared_storage}
 use Rattle.stored_boxes.specs.Different.{AreDifferent}
 use Rattle.stored_boxes.specs.Reads.{copies_in, shifts_in}

@@ -16,9 +16,9 @@ use Rattle.zpl_meaning.specs.Store.{Environment, Thing, Scalar, ArrayAt, Fixed, 
 use Rattle.zpl_meaning.specs.Proper.{IsArray, IsProper, AreProper, IsProperInner, IsPointForm}
 use Rattle.zpl_meaning.proofs.DepthLemmas.{Each, each_left, each_right}
 use Rattle.meaning_ranks.specs.Ranked.{IsPointFormOf}
-use Rattle.lowering_fits.proofs.TallyLemmas.{round, called, tally, IsSilent, IsTameInner, dir_silent, region_silent}
-use Rattle.lowering_fits.proofs.MadeLemmas.{inner_tame}
-use Rattle.lowering_fits.proofs.PointSiteLemmas as point
+use Rattle.lowered_flat.proofs.of_lowering_fits.TallyLemmas.{round, called, tally, IsSilent, IsTameInner, dir_silent, region_silent}
+use Rattle.lowered_flat.proofs.of_lowering_fits.MadeLemmas.{inner_tame}
+use Rattle.lowered_flat.proofs.of_lowering_fits.PointSiteLemmas as point
 use Rattle.stored_boxes.specs.Reads as told
 use Rattle.stored_boxes.specs.Reads.{IsArrayThere}
 use Rattle.program_boxes.proofs.StillLemmas.{moved, IsStill, dir_still, region_still, form_still}

@@ -41,13 +41,13 @@ use Rattle.node_form.specs.Fits.{IsRank}
 use Rattle.zpl_lowering.specs.Program.{Entry as CallEntry, Framed}
 use Rattle.zpl_lowering.specs.Statement.{Calling}
 use Rattle.zpl_lowering.specs.Where.{Next, Stored}
-use Rattle.lowering_fits.specs.Declarations.{FitsProgram}
-use Rattle.lowering_fits.specs.Reach.{AreGlobals, FitNames, FitsName, IsStoredAs}
-use Rattle.lowering_fits.specs.Slates.{FitsVector}
-use Rattle.lowering_fits.specs.Whole.{body_frames, given_frames}
-use Rattle.lowering_fits.proofs.CallsFitLemmas.{globals_grow}
-use Rattle.lowering_fits.proofs.KeptLemmas.{AreGivenOf, AreKept, HasKept, Nothing, formals_kept, grows_none, locals_kept}
-use Rattle.lowering_fits.proofs.ReachLemmas.{FewScalars, names_fit, scalars_few}
+use Rattle.lowered_flat.specs.of_lowering_fits.Declarations.{FitsProgram}
+use Rattle.lowered_flat.specs.of_lowering_fits.Reach.{AreGlobals, FitNames, FitsName, IsStoredAs}
+use Rattle.lowered_flat.specs.of_lowering_fits.Slates.{FitsVector}
+use Rattle.lowered_flat.specs.of_lowering_fits.Whole.{body_frames, given_frames}
+use Rattle.lowered_flat.proofs.of_lowering_fits.CallsFitLemmas.{globals_grow}
+use Rattle.lowered_flat.proofs.of_lowering_fits.KeptLemmas.{AreGivenOf, AreKept, HasKept, Nothing, formals_kept, grows_none, locals_kept}
+use Rattle.lowered_flat.proofs.of_lowering_fits.ReachLemmas.{FewScalars, names_fit, scalars_few}
 use Rattle.stored_boxes.specs.Declared.{declared_storage}
 use Rattle.stored_boxes.specs.Reads.{IsReadAs, ReadArray, ReadNothing, copies_in, shifts_in}
 use Rattle.program_boxes.specs.Fair.{AreFair, AreFairCopies, HasRank, IsFairCopy}

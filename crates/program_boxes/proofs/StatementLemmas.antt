@@ -31,10 +31,10 @@ use Rattle.zpl_lowering.specs.Slate.{Placed, Slates, settled, settled_each}
 use Rattle.zpl_lowering.specs.Slate as settle
 use Rattle.zpl_lowering.specs.Lowered.{Lowered, rows_alone, behind, joined, both, followed, phased, first_left}
 use Rattle.zpl_lowering.specs.Statement.{Calling, Lowering, placed_in, Testing, test_of, with_values, value_rows, lowered_borders, is_border, prefix_opened, current_for, under_prefix, of_opened, is_last, lowered_under, head_exprs, counter_from, counted, lowered_for, scalar_of, set_row, printed_exprs, items_of, of_prints, lowered_write, shattered, choose_code, chosen, when, while_code, repeat_code, ends_arms, lowered, lowered_all, lowered_form, lowered_arms, lowered_arm, lowered_otherwise}
-use Rattle.lowering_fits.specs.Reach.{place_at}
-use Rattle.lowering_fits.proofs.PartLemmas.{AreRight, contains_first, contains_later, contains_left, contains_right}
-use Rattle.lowering_fits.proofs.MadeLemmas.{inner_tame}
-use Rattle.lowering_fits.proofs.MadeAssignLemmas.{IsWithin}
+use Rattle.lowered_flat.specs.of_lowering_fits.Reach.{place_at}
+use Rattle.lowered_flat.proofs.of_lowering_fits.PartLemmas.{AreRight, contains_first, contains_later, contains_left, contains_right}
+use Rattle.lowered_flat.proofs.of_lowering_fits.MadeLemmas.{inner_tame}
+use Rattle.lowered_flat.proofs.of_lowering_fits.MadeAssignLemmas.{IsWithin}
 use Rattle.stored_boxes.specs.Reads.{IsReadAs}
 use Rattle.program_boxes.proofs.OwnLemmas.{HaveNothing, Owns, before_own, behind_own, in_order, joined_own, no_sites, nothing_both, nothing_own, recoded_own, silent_own}
 use Rattle.program_boxes.proofs.QuietLemmas.{form_nothing, region_nothing}

@@ -18,8 +18,8 @@ use Rattle.zpl_meaning.specs.Proper.{HasValue, IsPoint, ArePoints, IsPointForm, 
 use Rattle.zpl_meaning.proofs.DepthLemmas.{Each, each_left, each_right}
 use Rattle.zpl_meaning.proofs.ProperLemmas.{taken}
 use Rattle.meaning_ranks.specs.Ranked.{IsPointOf, ArePointsOf, IsPointFormOf, ArePointArmsOf, IsPointElseOf}
-use Rattle.lowering_fits.proofs.TallyLemmas.{tally, IsTameDim, AreTameDims, IsTameInner}
-use Rattle.lowering_fits.proofs.PointSiteLemmas.{actual_sites, IsNamed}
+use Rattle.lowered_flat.proofs.of_lowering_fits.TallyLemmas.{tally, IsTameDim, AreTameDims, IsTameInner}
+use Rattle.lowered_flat.proofs.of_lowering_fits.PointSiteLemmas.{actual_sites, IsNamed}
 
 -- ---- tallies
 

@@ -25,14 +25,14 @@ use Rattle.grid_meaning.specs.Stored.{arrangement_of}
 use Rattle.zpl_lowering.specs.Lowered.{Lowered}
 use Rattle.zpl_lowering.specs.Program.{lowered_program}
 use Rattle.zpl_lowering.specs.Tables.{empty_tables, flat_tables, stored_rows}
-use Rattle.lowering_fits.specs.Declarations.{FitsProgram}
-use Rattle.lowering_fits.specs.Slates.{FitsVector}
-use Rattle.lowering_fits.specs.Storages.{AllStorages}
-use Rattle.lowering_fits.proofs.BracketLemmas.{LimitsAreTold}
-use Rattle.lowering_fits.proofs.DeclaredLemmas.{own_kinds, ranks_of}
-use Rattle.lowering_fits.proofs.PartLemmas.{AreRight}
-use Rattle.lowering_fits.proofs.ScopeLemmas.{dirs_by}
-use Rattle.lowering_fits.proofs.VectorLemmas.{vector_by}
+use Rattle.lowered_flat.specs.of_lowering_fits.Declarations.{FitsProgram}
+use Rattle.lowered_flat.specs.of_lowering_fits.Slates.{FitsVector}
+use Rattle.lowered_flat.specs.of_lowering_fits.Storages.{AllStorages}
+use Rattle.lowered_flat.proofs.of_lowering_fits.BracketLemmas.{LimitsAreTold}
+use Rattle.lowered_flat.proofs.of_lowering_fits.DeclaredLemmas.{own_kinds, ranks_of}
+use Rattle.lowered_flat.proofs.of_lowering_fits.PartLemmas.{AreRight}
+use Rattle.lowered_flat.proofs.of_lowering_fits.ScopeLemmas.{dirs_by}
+use Rattle.lowered_flat.proofs.of_lowering_fits.VectorLemmas.{vector_by}
 use Rattle.lowered_flat.specs.Apart.{NamesStandApart}
 use Rattle.zpl_claims.specs.Boxes.{boxes_of}
 use Rattle.stored_boxes.specs.Declared.{declared_home}

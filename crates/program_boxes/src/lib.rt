@@ -10,3 +10,4 @@ pub use laws::{
     boxes_are_stored, boxes_of_texts_are_stored, code_has_what_is_expanded,
     parsed_texts_are_told_apart,
 };
+pub use lowered_flat;

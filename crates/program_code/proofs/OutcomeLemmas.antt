@@ -17,8 +17,8 @@ use Rattle.zpl_lower.specs.declared.faults.LowerFault.{LowerFault}
 use Rattle.zpl_lower.specs.declared.faults.LowerFault.TheVariants as lower_fault
 use Rattle.temp_norm.specs.Normalised.{normalised}
 use Rattle.bound_check.specs.Checked.{checked}
-use Rattle.fuse_contract.specs.Fusing.{fused}
-use Rattle.fuse_contract.specs.Contracting.{contracted}
+use Rattle.zpl_compile.specs.of_fuse_contract.Fusing.{fused}
+use Rattle.zpl_compile.specs.of_fuse_contract.Contracting.{contracted}
 use Rattle.comm_needs.specs.Needs.{planned}
 use Rattle.comm_combine.specs.Repeats.{repeats_dropped}
 use Rattle.comm_combine.specs.Merge.{neighbours_merged}

@@ -15,8 +15,8 @@ ghost use Rattle.lowered_flat.specs.Apart.{NamesStandApart};
 ghost use Rattle.zpl_claims.specs.Build.{Build};
 ghost use Rattle.zpl_compile.specs.Compile.{compiled};
 
+use lowered_flat::lowering_fits::lowered_programs_fit;
 use lowered_flat::{declarations_fit, lowered_programs_are_flat};
-use lowering_fits::lowered_programs_fit;
 
 /// What the lowered tables of a program without faults, with settings that it accepts, read with a
 /// shift is stored.

@@ -8,4 +8,5 @@ mod programs;
 pub use faults::CompileFault;
 pub use flat_code::Build;
 pub use laws::{compiled_programs_fit, lowered_shifts_are_stored};
+pub use lowered_flat;
 pub use programs::compile;

@@ -7,10 +7,10 @@ use Rattle.call_heights.specs.Refutes.{Refutes}
 use Rattle.call_heights.specs.declared.graph.CallFault.{CallFault}
 use Rattle.call_heights.specs.declared.graph.CallFault.TheVariants.{Cycle, Deep, NoMemory}
 use Rattle.call_heights.specs.declared.graph.Edge.{Edge}
-use Rattle.routine_walks.specs.Numbers.{node_of}
-use Rattle.routine_walks.specs.Texts.{IsText, names_in}
-use Rattle.routine_walks.specs.declared.texts.Text.{Text}
-use Rattle.routine_walks.proofs.TextLemmas.{texts-in}
+use Rattle.text_routines.specs.of_routine_walks.Numbers.{node_of}
+use Rattle.text_routines.specs.of_routine_walks.Texts.{IsText, names_in}
+use Rattle.text_routines.specs.of_routine_walks.declared.texts.Text.{Text}
+use Rattle.text_routines.proofs.of_routine_walks.TextLemmas.{texts-in}
 use Rattle.rank_types.specs.Calls.{HasHeights, IsGraph}
 use Rattle.rank_types.specs.Faults.{Holds, call_for}
 use Rattle.rank_types.specs.Names.{AreDistinct}

@@ -12,8 +12,8 @@ use Rattle.zpl_names.proofs.ListLemmas.{Among, among_from_Contains, Contains-fro
 use Rattle.call_heights.specs.declared.graph.Edge.{Edge}
 use Rattle.call_heights.specs.Calls as graph
 use Rattle.call_heights.specs.Calls.{IsCycle, IsDeep, IsInside, IsShallow, edges_at, items_of}
-use Rattle.routine_walks.specs.Numbers.{node_of}
-use Rattle.routine_walks.proofs.NodeLemmas.{found-node, node-within, same-node, texts_of}
+use Rattle.text_routines.specs.of_routine_walks.Numbers.{node_of}
+use Rattle.text_routines.proofs.of_routine_walks.NodeLemmas.{found-node, node-within, same-node, texts_of}
 use Rattle.rank_types.specs.Calls.{HasHeights, IsGraph, edge_for, edges_for}
 use Rattle.rank_types.specs.Names.{AreDistinct}
 use Rattle.rank_types.proofs.RowLemmas.{distinct-node}

@@ -13,15 +13,15 @@ use Rattle.zpl_names.specs.Sites.{Site, call_of, routine_sites}
 use Rattle.site_faults.specs.Findings.{Found, State, after}
 use Rattle.site_faults.specs.Reach.{call_site_of}
 use Rattle.site_faults.specs.declared.findings.Called.{Called}
-use Rattle.text_walk.proofs.Meaning.{walked-calls}
-use Rattle.text_names.specs.Found.{goes_on}
-use Rattle.text_names.proofs.DeclareLemmas.{goes-append}
+use Rattle.text_routines.proofs.of_text_walk.Meaning.{walked-calls}
+use Rattle.text_routines.specs.of_text_names.Found.{goes_on}
+use Rattle.text_routines.proofs.of_text_names.DeclareLemmas.{goes-append}
 use Rattle.call_heights.specs.declared.graph.Edge.{Edge}
-use Rattle.routine_walks.specs.declared.texts.Routine.{Routine}
-use Rattle.routine_walks.specs.declared.texts.Text.{Text}
-use Rattle.routine_walks.specs.Texts.{IsText, names_in, routine_of, sites_over}
-use Rattle.routine_walks.specs.Numbers.{node_of}
-use Rattle.routine_walks.proofs.TextLemmas.{sites-are}
+use Rattle.text_routines.specs.of_routine_walks.declared.texts.Routine.{Routine}
+use Rattle.text_routines.specs.of_routine_walks.declared.texts.Text.{Text}
+use Rattle.text_routines.specs.of_routine_walks.Texts.{IsText, names_in, routine_of, sites_over}
+use Rattle.text_routines.specs.of_routine_walks.Numbers.{node_of}
+use Rattle.text_routines.proofs.of_routine_walks.TextLemmas.{sites-are}
 use Rattle.rank_types.specs.Calls.{IsGraph, edge_for, edges_for, statement_sites}
 
 pub take-all : {A : Type 0} (xs : List A) (n : ℕ) → length xs ≤ n → take n xs ≡ xs

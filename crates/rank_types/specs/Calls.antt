@@ -8,7 +8,7 @@ use Rattle.zpl_names.specs.Sites.{CallSite, Site, calls_under, routine_sites, te
 use Rattle.zpl_names.specs.Reached.{IsClosed, IsHeight, longest_chain, sites_at}
 use Rattle.zpl_names.specs.Accepted.{region_faults, site_faults}
 use Rattle.call_heights.specs.declared.graph.Edge.{Edge}
-use Rattle.routine_walks.specs.Numbers.{node_of}
+use Rattle.text_routines.specs.of_routine_walks.Numbers.{node_of}
 
 -- the sites of all procedures' statements
 abbrev pub statement_sites : Program → List Site

@@ -5,8 +5,8 @@ use Rattle.zpl_names.specs.Accepted as kind
 use Rattle.zpl_names.specs.Accepted.{HasFault}
 use Rattle.site_faults.specs.declared.findings.FaultKind.{FaultKind}
 use Rattle.site_faults.specs.declared.findings.FaultKind.TheVariants as found
-use Rattle.text_names.specs.declared.stops.Stop.{Stop}
-use Rattle.text_names.specs.declared.stops.Stop.TheVariants as stop
+use Rattle.text_routines.specs.of_text_names.declared.stops.Stop.{Stop}
+use Rattle.text_routines.specs.of_text_names.declared.stops.Stop.TheVariants as stop
 use Rattle.call_heights.specs.declared.graph.CallFault.{CallFault}
 use Rattle.call_heights.specs.declared.graph.CallFault.TheVariants as calls
 use Rattle.rank_types.specs.declared.faults.Fault.{Fault}

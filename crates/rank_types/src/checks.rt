@@ -4,9 +4,9 @@ ghost use Rattle.zpl_tree.specs.View.{syntax_of};
 ghost use Rattle.zpl_names.specs.Accepted.{IsFaultless, is_entry, no_entry};
 ghost use Rattle.zpl_names.specs.Declared.{entry_of};
 ghost use Rattle.site_faults.specs.Found.{found_in};
-ghost use Rattle.text_names.specs.Found.{goes_on};
-ghost use Rattle.text_names.specs.Text.{declared_sites};
-ghost use Rattle.routine_walks.specs.Texts.{IsText, names_in};
+ghost use Rattle.text_routines.specs.of_text_names.Found.{goes_on};
+ghost use Rattle.text_routines.specs.of_text_names.Text.{declared_sites};
+ghost use Rattle.text_routines.specs.of_routine_walks.Texts.{IsText, names_in};
 ghost use Rattle.rank_types.specs.Calls.{HasHeights, HasNoTextFault, HasPairs, IsGraph};
 ghost use Rattle.rank_types.specs.Faults.{Holds, call_for, fault_for};
 ghost use Rattle.rank_types.specs.Judges.{HasDistinctNames, IsFoundDeclared, Judges};
@@ -16,9 +16,9 @@ use crate::faults::Fault;
 use crate::statements::statements_of;
 use call_heights::{CallFault, Edge, heights_of};
 use reached_regions::region_fault;
-use routine_walks::Text;
 use site_faults::{FaultKind, Found};
 use std::alloc::Global;
+use text_routines::routine_walks::Text;
 
 /// The most procedures that a chain of calls from the entry procedure on may have.
 const LONGEST_CHAIN: usize = 32;

@@ -5,23 +5,23 @@ use Rattle.std.specs.List.{AllZip}
 use Rattle.std.specs.Ordering.{int_eq}
 use Rattle.std.specs.Int.{int_max, int_min}
 use Rattle.std.proofs.lemmas.Int.{clamps, ints}
-use Rattle.zpl_nums.specs.declared.ends.Border.{Border}
-use Rattle.zpl_nums.specs.declared.ends.Border.TheVariants.{Wrap, Reflect}
-use Rattle.zpl_region.specs.declared.dims.Dim.{Dim}
-use Rattle.zpl_region.specs.declared.dims.Dim.TheVariants.{Range, Flood}
-use Rattle.zpl_region.specs.declared.regions.Region.{Region}
-use Rattle.zpl_region.specs.Dim.{coordinates, dim_outside_of, extent}
-use Rattle.zpl_region.specs.Region.{components, each, members, tuples}
-use Rattle.zpl_region.proofs.ListLemmas.{cases_order_z, int_eq-false, int_lt-false, int_lt-true, le_from_test}
-use Rattle.zpl_arrays.specs.Border.{dim_border_source}
-use Rattle.grid_layout.specs.declared.axes.Axis.{Axis}
-use Rattle.grid_layout.specs.Block.{block_first, block_last, block_of}
-use Rattle.grid_layout.specs.declared.blocks.Blocks.{Blocks}
-use Rattle.grid_layout.specs.Grid.{blocks_at, cuts, processors_of}
-use Rattle.grid_layout.specs.Layout.{axes_at, each_bound}
-use Rattle.grid_layout.specs.Piece.{each_owned, nothing, owned_dim, part}
-use Rattle.grid_layout.proofs.PartLemmas.{AreBelow, blocks_length, eq_from_test}
-use Rattle.grid_layout.proofs.ThreeLemmas.{by_three}
+use Rattle.move_plan.specs.of_zpl_nums.declared.ends.Border.{Border}
+use Rattle.move_plan.specs.of_zpl_nums.declared.ends.Border.TheVariants.{Wrap, Reflect}
+use Rattle.move_plan.specs.of_zpl_region.declared.dims.Dim.{Dim}
+use Rattle.move_plan.specs.of_zpl_region.declared.dims.Dim.TheVariants.{Range, Flood}
+use Rattle.move_plan.specs.of_zpl_region.declared.regions.Region.{Region}
+use Rattle.move_plan.specs.of_zpl_region.Dim.{coordinates, dim_outside_of, extent}
+use Rattle.move_plan.specs.of_zpl_region.Region.{components, each, members, tuples}
+use Rattle.move_plan.proofs.of_zpl_region.ListLemmas.{cases_order_z, int_eq-false, int_lt-false, int_lt-true, le_from_test}
+use Rattle.move_plan.specs.of_zpl_arrays.Border.{dim_border_source}
+use Rattle.move_plan.specs.of_grid_layout.declared.axes.Axis.{Axis}
+use Rattle.move_plan.specs.of_grid_layout.Block.{block_first, block_last, block_of}
+use Rattle.move_plan.specs.of_grid_layout.declared.blocks.Blocks.{Blocks}
+use Rattle.move_plan.specs.of_grid_layout.Grid.{blocks_at, cuts, processors_of}
+use Rattle.move_plan.specs.of_grid_layout.Layout.{axes_at, each_bound}
+use Rattle.move_plan.specs.of_grid_layout.Piece.{each_owned, nothing, owned_dim, part}
+use Rattle.move_plan.proofs.of_grid_layout.PartLemmas.{AreBelow, blocks_length, eq_from_test}
+use Rattle.move_plan.proofs.of_grid_layout.ThreeLemmas.{by_three}
 use Rattle.move_plan.specs.BorderPiece.{border_piece_in, dim_border_piece, each_border_piece, target_bounds}
 use Rattle.reach_plan.specs.Edge.{HasSome, back_of, dim_edge}
 use Rattle.reach_plan.specs.Reach.{LiesIn}

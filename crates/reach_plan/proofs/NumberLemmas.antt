@@ -2,8 +2,8 @@
 use Rattle.std.proofs.Common.{◌≡◌, refl, sym, ap, subst, arith, ℕ, zero, suc, ◌+◌, ◌*◌, ◌/◌, ◌%◌, ◌<◌, ◌≤◌, ◌⊎◌, inl, inr}
 use Rattle.std.proofs.Math.Nat.{mul-le-mul_right}
 use Rattle.std.proofs.lemmas.Bool.{cases_lt}
-use Rattle.grid_layout.proofs.BlockLemmas.{div_below_by}
-use Rattle.grid_layout.proofs.ThreeLemmas.{le_product}
+use Rattle.move_plan.proofs.of_grid_layout.BlockLemmas.{div_below_by}
+use Rattle.move_plan.proofs.of_grid_layout.ThreeLemmas.{le_product}
 
 -- q has the blocks a, b and c, where a plane has p numbers and a row k
 pub record Placed (p k q a b c : ℕ) : Type 0 where

@@ -4,23 +4,23 @@ use Rattle.std.specs.List.{AllZip}
 use Rattle.std.specs.Prelude.{flat_map, if◌then◌else◌}
 use Rattle.std.proofs.lemmas.Int.{ints}
 use Rattle.std.proofs.lemmas.List.Elements.{All-cons, All-head, All-tail}
-use Rattle.zpl_region.specs.declared.dims.Dim.{Dim}
-use Rattle.zpl_region.specs.declared.dims.Dim.TheVariants.{Range, Flood}
-use Rattle.zpl_region.specs.declared.regions.Region.{Region}
-use Rattle.zpl_region.specs.Dim.{IsUpTo, coordinates}
-use Rattle.zpl_region.specs.Ends.{has_none}
-use Rattle.zpl_region.specs.Hull.{emptied}
-use Rattle.zpl_region.specs.Region.{components, members, tuples}
-use Rattle.grid_layout.specs.declared.axes.Axis.{Axis}
-use Rattle.grid_layout.specs.declared.blocks.Blocks.{Blocks}
-use Rattle.grid_layout.specs.declared.boxes.ArrayBox.{ArrayBox}
-use Rattle.grid_layout.specs.Grid.{blocks_at, cuts, processors_of}
-use Rattle.grid_layout.specs.Layout.{AreBlocks, HasThree, axes_at, each_held, held_of, or_emptied}
-use Rattle.grid_layout.specs.Piece.{each_needed, each_owned, needed_dim, owned_dim, piece_in}
-use Rattle.grid_layout.proofs.OwnerLemmas.{AreCuts, are_cuts, axes_three}
-use Rattle.grid_layout.proofs.PartLemmas.{AreBelow, blocks_are_below, blocks_length}
-use Rattle.grid_layout.proofs.SoundLemmas.{components_length, emptied_length}
-use Rattle.grid_layout.proofs.ThreeLemmas.{by_three, helds_told, three_same}
+use Rattle.move_plan.specs.of_zpl_region.declared.dims.Dim.{Dim}
+use Rattle.move_plan.specs.of_zpl_region.declared.dims.Dim.TheVariants.{Range, Flood}
+use Rattle.move_plan.specs.of_zpl_region.declared.regions.Region.{Region}
+use Rattle.move_plan.specs.of_zpl_region.Dim.{IsUpTo, coordinates}
+use Rattle.move_plan.specs.of_zpl_region.Ends.{has_none}
+use Rattle.move_plan.specs.of_zpl_region.Hull.{emptied}
+use Rattle.move_plan.specs.of_zpl_region.Region.{components, members, tuples}
+use Rattle.move_plan.specs.of_grid_layout.declared.axes.Axis.{Axis}
+use Rattle.move_plan.specs.of_grid_layout.declared.blocks.Blocks.{Blocks}
+use Rattle.move_plan.specs.of_grid_layout.declared.boxes.ArrayBox.{ArrayBox}
+use Rattle.move_plan.specs.of_grid_layout.Grid.{blocks_at, cuts, processors_of}
+use Rattle.move_plan.specs.of_grid_layout.Layout.{AreBlocks, HasThree, axes_at, each_held, held_of, or_emptied}
+use Rattle.move_plan.specs.of_grid_layout.Piece.{each_needed, each_owned, needed_dim, owned_dim, piece_in}
+use Rattle.move_plan.proofs.of_grid_layout.OwnerLemmas.{AreCuts, are_cuts, axes_three}
+use Rattle.move_plan.proofs.of_grid_layout.PartLemmas.{AreBelow, blocks_are_below, blocks_length}
+use Rattle.move_plan.proofs.of_grid_layout.SoundLemmas.{components_length, emptied_length}
+use Rattle.move_plan.proofs.of_grid_layout.ThreeLemmas.{by_three, helds_told, three_same}
 use Rattle.reach_plan.specs.declared.reaches.Reach.{Reach}
 use Rattle.reach_plan.specs.declared.reaches.Span.{Span}
 use Rattle.reach_plan.specs.Reach.{LiesIn, LiesInReach}

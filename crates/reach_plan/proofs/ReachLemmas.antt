@@ -2,8 +2,8 @@
 use Rattle.std.proofs.Common.{◌≡◌, refl, sym, ap, subst, arith, ℕ, zero, suc, ◌+◌, ◌*◌, ◌/◌, ◌%◌, ◌<◌, ◌≤◌, List, [], ◌∷◌, length, get_or, All}
 use Rattle.std.specs.List.{AllZip}
 use Rattle.std.proofs.Math.Nat.{mul-le-mul_right}
-use Rattle.grid_layout.specs.Grid.{blocks_at, product}
-use Rattle.grid_layout.proofs.ThreeLemmas.{by_three, le_product}
+use Rattle.move_plan.specs.of_grid_layout.Grid.{blocks_at, product}
+use Rattle.move_plan.proofs.of_grid_layout.ThreeLemmas.{by_three, le_product}
 use Rattle.reach_plan.specs.declared.reaches.Span.{Span}
 use Rattle.reach_plan.specs.Reach.{LiesIn}
 use Rattle.reach_plan.proofs.NumberLemmas.{Placed, placed}

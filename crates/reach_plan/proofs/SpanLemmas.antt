@@ -8,17 +8,17 @@ use Rattle.std.proofs.lemmas.Bool.{cases_lt}
 use Rattle.std.proofs.lemmas.Bool.Decides.{Decides-int_eq}
 use Rattle.std.specs.Ordering.{int_eq}
 use Rattle.std.proofs.lemmas.Int.{clamps, ints}
-use Rattle.zpl_region.specs.declared.dims.Dim.{Dim}
-use Rattle.zpl_region.specs.declared.dims.Dim.TheVariants.{Range, Flood}
-use Rattle.zpl_region.specs.Dim.{coordinates, dim_moved}
-use Rattle.zpl_region.specs.Ends.{coordinate_count}
-use Rattle.zpl_region.proofs.ListLemmas.{le_from_test}
-use Rattle.grid_layout.specs.declared.axes.Axis.{Axis}
-use Rattle.grid_layout.specs.Block.{block_first, block_last, block_of, block_start}
-use Rattle.grid_layout.specs.Piece.{IsRange, needed_dim, nothing, owned_dim, part, place_dim}
-use Rattle.grid_layout.proofs.BlockLemmas.{IsLastBegun, fails_from_test, found, last_of_more}
-use Rattle.grid_layout.proofs.PartLemmas.{eq_from_test}
-use Rattle.grid_layout.proofs.ThreeLemmas.{rebuilt, three, three_same}
+use Rattle.move_plan.specs.of_zpl_region.declared.dims.Dim.{Dim}
+use Rattle.move_plan.specs.of_zpl_region.declared.dims.Dim.TheVariants.{Range, Flood}
+use Rattle.move_plan.specs.of_zpl_region.Dim.{coordinates, dim_moved}
+use Rattle.move_plan.specs.of_zpl_region.Ends.{coordinate_count}
+use Rattle.move_plan.proofs.of_zpl_region.ListLemmas.{le_from_test}
+use Rattle.move_plan.specs.of_grid_layout.declared.axes.Axis.{Axis}
+use Rattle.move_plan.specs.of_grid_layout.Block.{block_first, block_last, block_of, block_start}
+use Rattle.move_plan.specs.of_grid_layout.Piece.{IsRange, needed_dim, nothing, owned_dim, part, place_dim}
+use Rattle.move_plan.proofs.of_grid_layout.BlockLemmas.{IsLastBegun, fails_from_test, found, last_of_more}
+use Rattle.move_plan.proofs.of_grid_layout.PartLemmas.{eq_from_test}
+use Rattle.move_plan.proofs.of_grid_layout.ThreeLemmas.{rebuilt, three, three_same}
 use Rattle.reach_plan.specs.declared.reaches.Span.{Span}
 use Rattle.reach_plan.specs.Reach.{LiesIn}
 use Rattle.reach_plan.specs.Span.{dim_span, each_span, moved_span}

@@ -1,12 +1,12 @@
 -- One dimension of the piece of a border that a receiver sets from an owner's values.
 use Rattle.std.specs.Prelude.{ℕ, ◌<◌, ℤ, neg_ℤ, length}
-use Rattle.zpl_nums.specs.declared.ends.Border.{Border}
-use Rattle.zpl_nums.specs.declared.ends.Border.TheVariants.{Wrap, Reflect}
-use Rattle.zpl_region.specs.declared.dims.Dim.{Dim}
-use Rattle.zpl_region.specs.Dim.{coordinates, dim_outside_of}
-use Rattle.grid_layout.specs.declared.axes.Axis.{Axis}
-use Rattle.grid_layout.specs.Block.{block_first, block_last}
-use Rattle.grid_layout.specs.Piece.{owned_dim}
+use Rattle.move_plan.specs.of_zpl_nums.declared.ends.Border.{Border}
+use Rattle.move_plan.specs.of_zpl_nums.declared.ends.Border.TheVariants.{Wrap, Reflect}
+use Rattle.move_plan.specs.of_zpl_region.declared.dims.Dim.{Dim}
+use Rattle.move_plan.specs.of_zpl_region.Dim.{coordinates, dim_outside_of}
+use Rattle.move_plan.specs.of_grid_layout.declared.axes.Axis.{Axis}
+use Rattle.move_plan.specs.of_grid_layout.Block.{block_first, block_last}
+use Rattle.move_plan.specs.of_grid_layout.Piece.{owned_dim}
 use Rattle.move_plan.specs.BorderPiece.{dim_border_piece}
 
 -- of n blocks, the owner has the block c, and the receiver the block k

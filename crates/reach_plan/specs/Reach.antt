@@ -1,7 +1,7 @@
 -- Blocks next to each other in each dimension, and which processors have them.
 use Rattle.std.specs.Prelude.{ℕ, ◌≤◌, List, All}
 use Rattle.std.specs.List.{AllZip}
-use Rattle.grid_layout.specs.Grid.{blocks_at, product}
+use Rattle.move_plan.specs.of_grid_layout.Grid.{blocks_at, product}
 use Rattle.reach_plan.specs.declared.reaches.Reach.{Reach}
 use Rattle.reach_plan.specs.declared.reaches.Span.{Span}
 

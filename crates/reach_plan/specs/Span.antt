@@ -1,10 +1,10 @@
 -- Which blocks of a dimension can have places for those of a block, or need some of its places.
 use Rattle.std.specs.Prelude.{ℕ, ◌-◌, ℤ, pos, ◌+ℤ◌, min, max, if◌then◌else◌, List, [], ◌∷◌}
 use Rattle.std.specs.Ordering.{int_eq}
-use Rattle.zpl_region.specs.declared.dims.Dim.{Dim}
-use Rattle.zpl_region.specs.declared.dims.Dim.TheVariants.{Range, Flood}
-use Rattle.grid_layout.specs.declared.axes.Axis.{Axis}
-use Rattle.grid_layout.specs.Block.{block_first, block_last, block_of}
+use Rattle.move_plan.specs.of_zpl_region.declared.dims.Dim.{Dim}
+use Rattle.move_plan.specs.of_zpl_region.declared.dims.Dim.TheVariants.{Range, Flood}
+use Rattle.move_plan.specs.of_grid_layout.declared.axes.Axis.{Axis}
+use Rattle.move_plan.specs.of_grid_layout.Block.{block_first, block_last, block_of}
 use Rattle.reach_plan.specs.declared.reaches.Span.{Span}
 
 -- the blocks that block c meets when it is moved by d, and block c itself

@@ -1,9 +1,9 @@
 //! How the dimensions of a rank are cut into blocks.
 ghost use Rattle.std.specs.Prelude.{◌≡◌, ◌≤◌, ◌<◌, All};
 ghost use Rattle.std.specs.List.{AllZip};
-ghost use Rattle.grid_layout.specs.Grid.{blocks_at, cuts, processors_of, product};
+ghost use Rattle.move_plan.specs.of_grid_layout.Grid.{blocks_at, cuts, processors_of, product};
 
-use grid_layout::Grid;
+use move_plan::grid_layout::Grid;
 
 /// Into how many blocks each dimension of a rank is cut: past the rank, one.
 pub(crate) fn cuts(grid: &Grid, rank: u8) -> [u32; 3]

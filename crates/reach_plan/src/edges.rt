@@ -1,12 +1,12 @@
 //! The blocks that have the sources of a border, and those that have its targets.
 ghost use Rattle.std.specs.Prelude.{◌≡◌, ◌≢◌, ◌≤◌, ◌<◌, ℕ, ℤ, pos, All, length};
 ghost use Rattle.std.specs.Int.{int_max, int_min};
-ghost use Rattle.zpl_arrays.specs.Border.{dim_border_source};
-ghost use Rattle.zpl_region.specs.declared.dims.Dim.TheVariants as variant;
-ghost use Rattle.zpl_region.specs.Dim.{IsDim, IsDimWithinLimit, IsUpTo, dim_outside_of};
-ghost use Rattle.zpl_region.specs.Region.{IsRegion, members};
-ghost use Rattle.grid_layout.specs.Grid.{processors_of};
-ghost use Rattle.grid_layout.specs.Layout.{AreBlocks, IsAxis};
+ghost use Rattle.move_plan.specs.of_zpl_arrays.Border.{dim_border_source};
+ghost use Rattle.move_plan.specs.of_zpl_region.declared.dims.Dim.TheVariants as variant;
+ghost use Rattle.move_plan.specs.of_zpl_region.Dim.{IsDim, IsDimWithinLimit, IsUpTo, dim_outside_of};
+ghost use Rattle.move_plan.specs.of_zpl_region.Region.{IsRegion, members};
+ghost use Rattle.move_plan.specs.of_grid_layout.Grid.{processors_of};
+ghost use Rattle.move_plan.specs.of_grid_layout.Layout.{AreBlocks, IsAxis};
 ghost use Rattle.move_plan.specs.BorderPiece.{border_piece_in};
 ghost use Rattle.reach_plan.specs.Edge.{HasSome, back_of, dim_edge};
 ghost use Rattle.reach_plan.specs.Reach.{IsReach, LiesIn, LiesInReach};
@@ -14,10 +14,10 @@ ghost use Rattle.reach_plan.specs.Reach.{IsReach, LiesIn, LiesInReach};
 use crate::cuts::{blocks_at, cuts};
 use crate::reaches::{Reach, Span};
 use crate::spans::axes_at;
-use grid_layout::{Axis, Blocks, components};
-use zpl_arrays::border_coordinate;
-use zpl_nums::Border;
-use zpl_region::{Dim, Region, Vec3};
+use move_plan::grid_layout::{Axis, Blocks, components};
+use move_plan::zpl_arrays::border_coordinate;
+use move_plan::zpl_nums::Border;
+use move_plan::zpl_region::{Dim, Region, Vec3};
 
 /// From where to where the `d` positions beside two bounds lie.
 fn beside(lo: i64, hi: i64, d: i64) -> (i64, i64)

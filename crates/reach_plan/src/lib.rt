@@ -8,5 +8,6 @@ mod reaches;
 mod spans;
 
 pub use edges::{sources_for, targets_of};
+pub use move_plan;
 pub use reaches::{Reach, Span};
 pub use spans::{needers_of, owners_for};

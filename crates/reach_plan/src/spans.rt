@@ -1,17 +1,17 @@
 //! The blocks that a processor's block meets when it is moved.
 ghost use Rattle.std.specs.Prelude.{◌≡◌, ◌≤◌, ◌<◌, ℕ, All, length};
-ghost use Rattle.zpl_region.specs.Dim.{IsUpTo};
-ghost use Rattle.zpl_region.specs.Region.{IsRegion, members};
-ghost use Rattle.grid_layout.specs.Grid.{blocks_at, cuts, processors_of};
-ghost use Rattle.grid_layout.specs.Layout.{AreAxes, AreBlocks, IsAxis, axes_at};
-ghost use Rattle.grid_layout.specs.Piece.{piece_of};
+ghost use Rattle.move_plan.specs.of_zpl_region.Dim.{IsUpTo};
+ghost use Rattle.move_plan.specs.of_zpl_region.Region.{IsRegion, members};
+ghost use Rattle.move_plan.specs.of_grid_layout.Grid.{blocks_at, cuts, processors_of};
+ghost use Rattle.move_plan.specs.of_grid_layout.Layout.{AreAxes, AreBlocks, IsAxis, axes_at};
+ghost use Rattle.move_plan.specs.of_grid_layout.Piece.{piece_of};
 ghost use Rattle.reach_plan.specs.Reach.{IsReach, LiesInReach};
 ghost use Rattle.reach_plan.specs.Span.{dim_span, each_span};
 
 use crate::cuts::{blocks_at, cuts};
 use crate::reaches::{Reach, Span};
-use grid_layout::{Axis, Blocks, Layout, components};
-use zpl_region::{Dim, Region, Vec3};
+use move_plan::grid_layout::{Axis, Blocks, Layout, components};
+use move_plan::zpl_region::{Dim, Region, Vec3};
 
 /// What is shared out in each dimension of a rank.
 pub(crate) fn axes_at(blocks: &Blocks, rank: u8) -> [Axis; 3]

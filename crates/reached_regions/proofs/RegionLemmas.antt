@@ -6,8 +6,8 @@ use Rattle.zpl_names.specs.Shapes.{no_shapes}
 use Rattle.zpl_names.specs.Sites.{CallSite, Site, call_of}
 use Rattle.site_faults.specs.Findings.{Found, State, after}
 use Rattle.zpl_names.specs.Reached.{Called, Entered, IsReached, calls_at, sites_at}
-use Rattle.text_walk.specs.Meaning.{IsOneOf, all_faults}
-use Rattle.text_walk.proofs.Meaning.{found_one, walked-calls}
+use Rattle.routine_walks.specs.of_text_walk.Meaning.{IsOneOf, all_faults}
+use Rattle.routine_walks.proofs.of_text_walk.Meaning.{found_one, walked-calls}
 use Rattle.reached_regions.specs.Pairs.{AddsCalls, IsHarmed, IsUnharmed, Reached, StartsAt, called}
 use Rattle.reached_regions.proofs.PairLemmas.{front-more, got-there, grown-has, not-in-none, take-all}
 

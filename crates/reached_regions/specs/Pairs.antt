@@ -6,7 +6,7 @@ use Rattle.zpl_names.specs.Sites.{CallSite}
 use Rattle.zpl_names.specs.Reached.{IsClosed, IsReached, sites_at}
 use Rattle.name_kinds.specs.Seen.{shapes_of}
 use Rattle.site_faults.specs.Findings.{Found}
-use Rattle.text_walk.specs.Meaning.{all_faults}
+use Rattle.routine_walks.specs.of_text_walk.Meaning.{all_faults}
 use Rattle.reached_regions.specs.declared.pairs.Pair.{Pair}
 use Rattle.reached_regions.specs.declared.pairs.Pairs.{Pairs}
 

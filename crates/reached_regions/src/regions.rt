@@ -4,7 +4,7 @@ ghost use Rattle.zpl_tree.specs.View.{syntax_of};
 ghost use Rattle.zpl_names.specs.Reached.{calls_at, sites_at};
 ghost use Rattle.name_kinds.specs.Seen.{shapes_of};
 ghost use Rattle.site_faults.specs.Found.{found_in};
-ghost use Rattle.text_walk.specs.Meaning.{IsOneOf, all_faults};
+ghost use Rattle.routine_walks.specs.of_text_walk.Meaning.{IsOneOf, all_faults};
 ghost use Rattle.routine_walks.specs.Texts.{IsText};
 ghost use Rattle.reached_regions.specs.Pairs.{AddsCalls, StartsAt, Tells, pair_of, pairs_in};
 

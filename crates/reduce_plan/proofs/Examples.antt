@@ -2,13 +2,13 @@
 use Rattle.std.proofs.Common.{◌≡◌, refl, List, [], ◌∷◌, Some, None, map, get_or, ℤ, pos, ◌+ℤ◌, ◌*ℤ◌}
 use Rattle.std.specs.Int.{int_wrap}
 use Rattle.std.specs.List.{flat_map}
-use Rattle.zpl_nums.specs.declared.folds.Fold.TheVariants.{Sum, Max}
-use Rattle.zpl_region.specs.declared.dims.Dim.{Dim}
-use Rattle.zpl_region.specs.declared.dims.Dim.TheVariants.{Flood}
-use Rattle.zpl_region.specs.declared.regions.Region.{Region}
-use Rattle.zpl_region.specs.Hull.{all_from}
-use Rattle.zpl_region.specs.Region.{padding}
-use Rattle.zpl_arrays.specs.Array.{array_of}
+use Rattle.region_places.specs.of_zpl_nums.declared.folds.Fold.TheVariants.{Sum, Max}
+use Rattle.grid_layout.specs.of_zpl_region.declared.dims.Dim.{Dim}
+use Rattle.grid_layout.specs.of_zpl_region.declared.dims.Dim.TheVariants.{Flood}
+use Rattle.grid_layout.specs.of_zpl_region.declared.regions.Region.{Region}
+use Rattle.grid_layout.specs.of_zpl_region.Hull.{all_from}
+use Rattle.grid_layout.specs.of_zpl_region.Region.{padding}
+use Rattle.region_places.specs.of_zpl_arrays.Array.{array_of}
 use Rattle.reduce_plan.specs.Partial.{partials_of}
 use Rattle.reduce_plan.specs.Tree.{children_of, parent_of}
 

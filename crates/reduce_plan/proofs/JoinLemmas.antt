@@ -1,18 +1,18 @@
 -- Lemmas on the joins of partial folds.
 use Rattle.std.proofs.Common.{◌≡◌, ℕ, ◌<◌, Bool, true, false, cond, ◌||◌, List, [], ◌∷◌, ◌++◌, All, map, length, get_or, ℤ, IsPermutation, inl, inr, refl, sym, ◌∙◌, ap, subst}
 use Rattle.std.specs.List.{filter, flat_map, list_any}
-use Rattle.zpl_nums.specs.declared.folds.Fold.{Fold}
-use Rattle.zpl_nums.specs.Fold.{folded, joined, unit_of}
-use Rattle.zpl_nums.proofs.FoldLemmas.{folded-IsPermutation, folded-cons, settled-folded}
-use Rattle.zpl_region.specs.declared.regions.Region.{Region}
-use Rattle.zpl_region.specs.Dim.{HasBounds, HasStep, IsDim}
-use Rattle.zpl_region.specs.Region.{IsRegion, members}
-use Rattle.zpl_region.proofs.LawLemmas.{members_iff}
-use Rattle.zpl_region.proofs.ListLemmas.{Among, Contains-from_among, cons_same}
-use Rattle.zpl_arrays.specs.Array.{array_of, element}
-use Rattle.zpl_arrays.specs.Fold.{agrees, kept_fold, partly_reduced}
-use Rattle.zpl_arrays.proofs.ArrayLemmas.{element_of_member}
-use Rattle.zpl_arrays.proofs.FoldLemmas.{fold_of_parts}
+use Rattle.region_places.specs.of_zpl_nums.declared.folds.Fold.{Fold}
+use Rattle.region_places.specs.of_zpl_nums.Fold.{folded, joined, unit_of}
+use Rattle.region_places.proofs.of_zpl_nums.FoldLemmas.{folded-IsPermutation, folded-cons, settled-folded}
+use Rattle.grid_layout.specs.of_zpl_region.declared.regions.Region.{Region}
+use Rattle.grid_layout.specs.of_zpl_region.Dim.{HasBounds, HasStep, IsDim}
+use Rattle.grid_layout.specs.of_zpl_region.Region.{IsRegion, members}
+use Rattle.grid_layout.proofs.of_zpl_region.LawLemmas.{members_iff}
+use Rattle.grid_layout.proofs.of_zpl_region.ListLemmas.{Among, Contains-from_among, cons_same}
+use Rattle.region_places.specs.of_zpl_arrays.Array.{array_of, element}
+use Rattle.region_places.specs.of_zpl_arrays.Fold.{agrees, kept_fold, partly_reduced}
+use Rattle.region_places.proofs.of_zpl_arrays.ArrayLemmas.{element_of_member}
+use Rattle.region_places.proofs.of_zpl_arrays.FoldLemmas.{fold_of_parts}
 use Rattle.grid_layout.specs.declared.blocks.Blocks.{Blocks}
 use Rattle.grid_layout.specs.Grid.{processors_of}
 use Rattle.grid_layout.specs.Layout.{AreBlocks}

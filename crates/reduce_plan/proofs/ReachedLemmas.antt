@@ -7,20 +7,20 @@ use Rattle.std.proofs.lemmas.Bool.Decides.{Decides-int_eq}
 use Rattle.std.proofs.lemmas.Int.{ints}
 use Rattle.std.proofs.lemmas.List.Sums.{count_by-le-length, length-filter}
 use Rattle.std.proofs.lemmas.List.Elements.{All-head, All-tail}
-use Rattle.zpl_region.specs.declared.dims.Dim.{Dim}
-use Rattle.zpl_region.specs.declared.dims.Dim.TheVariants.{Range, Flood}
-use Rattle.zpl_region.specs.declared.regions.Region.{Region}
-use Rattle.zpl_region.specs.Dim.{HasStep, IsCoordinate, IsDim, IsUpTo, coordinates}
-use Rattle.zpl_region.specs.Hull.{all_from}
-use Rattle.zpl_region.specs.Region.{IsMember, IsPadded, IsRegion, members, padding, tuples}
-use Rattle.zpl_region.specs.Tests.{is_coordinate}
-use Rattle.zpl_region.proofs.DimLemmas.{Among-coordinates, Rises-coordinates, among_coordinates}
-use Rattle.zpl_region.proofs.LawLemmas.{members_iff}
-use Rattle.zpl_region.proofs.ListLemmas.{Among, Among-filter, Contains-from_among, all_from_among, Rises-filter, among_filtered, int_eq-true, same_ascending}
-use Rattle.zpl_region.proofs.TestLemmas.{is_coordinate_iff}
-use Rattle.zpl_region.proofs.TupleLemmas.{filter-tuples}
-use Rattle.zpl_arrays.specs.Conformity.{is_collapsed}
-use Rattle.zpl_arrays.specs.Fold.{agrees}
+use Rattle.grid_layout.specs.of_zpl_region.declared.dims.Dim.{Dim}
+use Rattle.grid_layout.specs.of_zpl_region.declared.dims.Dim.TheVariants.{Range, Flood}
+use Rattle.grid_layout.specs.of_zpl_region.declared.regions.Region.{Region}
+use Rattle.grid_layout.specs.of_zpl_region.Dim.{HasStep, IsCoordinate, IsDim, IsUpTo, coordinates}
+use Rattle.grid_layout.specs.of_zpl_region.Hull.{all_from}
+use Rattle.grid_layout.specs.of_zpl_region.Region.{IsMember, IsPadded, IsRegion, members, padding, tuples}
+use Rattle.grid_layout.specs.of_zpl_region.Tests.{is_coordinate}
+use Rattle.grid_layout.proofs.of_zpl_region.DimLemmas.{Among-coordinates, Rises-coordinates, among_coordinates}
+use Rattle.grid_layout.proofs.of_zpl_region.LawLemmas.{members_iff}
+use Rattle.grid_layout.proofs.of_zpl_region.ListLemmas.{Among, Among-filter, Contains-from_among, all_from_among, Rises-filter, among_filtered, int_eq-true, same_ascending}
+use Rattle.grid_layout.proofs.of_zpl_region.TestLemmas.{is_coordinate_iff}
+use Rattle.grid_layout.proofs.of_zpl_region.TupleLemmas.{filter-tuples}
+use Rattle.region_places.specs.of_zpl_arrays.Conformity.{is_collapsed}
+use Rattle.region_places.specs.of_zpl_arrays.Fold.{agrees}
 use Rattle.reduce_plan.specs.Partial.{dim_reached, each_reached, is_reached, only, reached}
 
 -- ---- one dimension

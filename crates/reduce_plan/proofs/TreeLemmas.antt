@@ -2,7 +2,7 @@
 use Rattle.std.proofs.Common.{◌≡◌, ℕ, zero, suc, ◌+◌, ◌-◌, ◌*◌, ◌/◌, ◌%◌, ◌<◌, ◌⊎◌, inl, inr, Bool, true, false, Some, None, Contains, refl, sym, ◌∙◌, ap, subst, arith}
 use Rattle.std.specs.Prelude.{◌==◌, nat_lt, if◌then◌else◌}
 use Rattle.std.proofs.lemmas.Bool.Decides.{nat_tests}
-use Rattle.zpl_region.proofs.ListLemmas.{Among, Contains-from_among, among_from_Contains}
+use Rattle.grid_layout.proofs.of_zpl_region.ListLemmas.{Among, Contains-from_among, among_from_Contains}
 use Rattle.reduce_plan.specs.Tree.{IsInTree, children_of, parent_of, processor_below}
 use Rattle.reduce_plan.specs.Tree.IsInTree.{Root, Child}
 

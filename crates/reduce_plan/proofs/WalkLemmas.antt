@@ -6,14 +6,14 @@ use Rattle.std.proofs.lemmas.List.{map-append}
 use Rattle.std.proofs.lemmas.List.Elements.{filter-append}
 use Rattle.std.proofs.lemmas.List.Sums.{fold-append}
 use Rattle.std.proofs.lemmas.Option.{get_or_from_slice_get, slice_get_within}
-use Rattle.zpl_nums.specs.declared.folds.Fold.{Fold}
-use Rattle.zpl_nums.specs.Fold.{folded, joined, unit_of}
-use Rattle.zpl_region.specs.declared.regions.Region.{Region}
-use Rattle.zpl_region.specs.Dim.{HasStep}
-use Rattle.zpl_region.specs.Region.{IsMember, is_before, members}
-use Rattle.zpl_region.proofs.LawLemmas.{next_member}
-use Rattle.zpl_arrays.specs.Array.{Array, element, place_among}
-use Rattle.zpl_arrays.proofs.ArrayLemmas.{only_place, place_of_tuple, value_at_place}
+use Rattle.region_places.specs.of_zpl_nums.declared.folds.Fold.{Fold}
+use Rattle.region_places.specs.of_zpl_nums.Fold.{folded, joined, unit_of}
+use Rattle.grid_layout.specs.of_zpl_region.declared.regions.Region.{Region}
+use Rattle.grid_layout.specs.of_zpl_region.Dim.{HasStep}
+use Rattle.grid_layout.specs.of_zpl_region.Region.{IsMember, is_before, members}
+use Rattle.grid_layout.proofs.of_zpl_region.LawLemmas.{next_member}
+use Rattle.region_places.specs.of_zpl_arrays.Array.{Array, element, place_among}
+use Rattle.region_places.proofs.of_zpl_arrays.ArrayLemmas.{only_place, place_of_tuple, value_at_place}
 
 -- one element more
 pub take_one : {X : Type 0} (xs : List X) (i : ℕ) (x : X) → slice_get xs i ≡ Some x → take (suc i) xs ≡ take i xs ++ x ∷ []

@@ -1,15 +1,15 @@
 -- Partial folds: what one block of the source gives for the indices of the target.
 use Rattle.std.specs.Prelude.{Bool, ℤ, pos, List, [], ◌∷◌, map, filter, if◌then◌else◌}
 use Rattle.std.specs.List.{list_any}
-use Rattle.zpl_nums.specs.declared.folds.Fold.{Fold}
-use Rattle.zpl_region.specs.declared.dims.Dim.{Dim}
-use Rattle.zpl_region.specs.declared.regions.Region.{Region}
-use Rattle.zpl_region.specs.Hull.{all_from}
-use Rattle.zpl_region.specs.Region.{members}
-use Rattle.zpl_region.specs.Tests.{is_coordinate}
-use Rattle.zpl_arrays.specs.Array.{Array, element}
-use Rattle.zpl_arrays.specs.Conformity.{is_collapsed}
-use Rattle.zpl_arrays.specs.Fold.{agrees, partly_reduced}
+use Rattle.region_places.specs.of_zpl_nums.declared.folds.Fold.{Fold}
+use Rattle.grid_layout.specs.of_zpl_region.declared.dims.Dim.{Dim}
+use Rattle.grid_layout.specs.of_zpl_region.declared.regions.Region.{Region}
+use Rattle.grid_layout.specs.of_zpl_region.Hull.{all_from}
+use Rattle.grid_layout.specs.of_zpl_region.Region.{members}
+use Rattle.grid_layout.specs.of_zpl_region.Tests.{is_coordinate}
+use Rattle.region_places.specs.of_zpl_arrays.Array.{Array, element}
+use Rattle.region_places.specs.of_zpl_arrays.Conformity.{is_collapsed}
+use Rattle.region_places.specs.of_zpl_arrays.Fold.{agrees, partly_reduced}
 
 -- whether some tuple of the block agrees with x in each dimension that the target doesn't collapse
 abbrev pub is_reached : Region → Region → List ℤ → Bool

@@ -1,19 +1,19 @@
 //! Partial folds over a block.
 ghost use Rattle.std.specs.Prelude.{◌≡◌, ◌↔◌, ◌≤◌, ◌<◌, ◌^◌, ◌++◌, All, IsTrue, OnErr, OnOk};
 ghost use Rattle.std.specs.Prelude.{filter, length, map};
-ghost use Rattle.zpl_nums.specs.Fold.{folded};
-ghost use Rattle.zpl_region.specs.Dim.{IsCoordinate, IsDim};
-ghost use Rattle.zpl_region.specs.Hull.{all_from};
-ghost use Rattle.zpl_region.specs.Region.{IsMember, IsRegion, members};
-ghost use Rattle.zpl_arrays.specs.Array.{element};
-ghost use Rattle.zpl_arrays.specs.Conformity.{is_collapsed};
-ghost use Rattle.zpl_arrays.specs.Fold.{agrees};
+ghost use Rattle.region_places.specs.of_zpl_nums.Fold.{folded};
+ghost use Rattle.grid_layout.specs.of_zpl_region.Dim.{IsCoordinate, IsDim};
+ghost use Rattle.grid_layout.specs.of_zpl_region.Hull.{all_from};
+ghost use Rattle.grid_layout.specs.of_zpl_region.Region.{IsMember, IsRegion, members};
+ghost use Rattle.region_places.specs.of_zpl_arrays.Array.{element};
+ghost use Rattle.region_places.specs.of_zpl_arrays.Conformity.{is_collapsed};
+ghost use Rattle.region_places.specs.of_zpl_arrays.Fold.{agrees};
 ghost use Rattle.reduce_plan.specs.Partial.{dim_reached, partials_of};
 
+use grid_layout::zpl_region::{Dim, Region, Vec3};
+use region_places::zpl_nums::{Fold, join, unit};
 use region_places::{place, size};
 use std::alloc::{AllocError, Global};
-use zpl_nums::{Fold, join, unit};
-use zpl_region::{Dim, Region, Vec3};
 
 /// What stands for a dimension past the rank.
 const PADDING: Dim = Dim::Range {

@@ -3,13 +3,13 @@
 //! Each law is the contract of a function that does nothing: a call brings the law into a proof.
 ghost use Rattle.std.specs.Prelude.{◌≡◌, ◌<◌, ℕ, ℤ, List, All, IsPermutation, filter, flat_map};
 ghost use Rattle.std.specs.Prelude.{length, map};
-ghost use Rattle.zpl_nums.specs.declared.folds.Fold.{Fold as Operator};
-ghost use Rattle.zpl_nums.specs.Fold.{folded};
-ghost use Rattle.zpl_region.specs.declared.regions.Region.{Region as Tuples};
-ghost use Rattle.zpl_region.specs.Dim.{HasStep};
-ghost use Rattle.zpl_region.specs.Region.{IsRegion, members};
-ghost use Rattle.zpl_arrays.specs.Array.{array_of};
-ghost use Rattle.zpl_arrays.specs.Fold.{partly_reduced};
+ghost use Rattle.region_places.specs.of_zpl_nums.declared.folds.Fold.{Fold as Operator};
+ghost use Rattle.region_places.specs.of_zpl_nums.Fold.{folded};
+ghost use Rattle.grid_layout.specs.of_zpl_region.declared.regions.Region.{Region as Tuples};
+ghost use Rattle.grid_layout.specs.of_zpl_region.Dim.{HasStep};
+ghost use Rattle.grid_layout.specs.of_zpl_region.Region.{IsRegion, members};
+ghost use Rattle.region_places.specs.of_zpl_arrays.Array.{array_of};
+ghost use Rattle.region_places.specs.of_zpl_arrays.Fold.{partly_reduced};
 ghost use Rattle.grid_layout.specs.declared.blocks.Blocks.{Blocks as Cut};
 ghost use Rattle.grid_layout.specs.Grid.{processors_of};
 ghost use Rattle.grid_layout.specs.Layout.{AreBlocks};

@@ -10,8 +10,11 @@ mod laws;
 mod tree;
 
 pub use folds::partials;
+pub use grid_layout::zpl_region;
 pub use laws::{
     partial_folds_are_reductions_over_the_block, partial_folds_join_to_the_fold,
     partial_folds_of_all_processors_join_to_the_fold,
 };
+pub use region_places;
+pub use region_places::zpl_nums;
 pub use tree::{children, parent, processors_are_a_tree};

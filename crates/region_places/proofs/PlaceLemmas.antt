@@ -4,19 +4,19 @@ use Rattle.std.specs.List.{AllZip}
 use Rattle.std.proofs.lemmas.Int.{ints, clamps}
 use Rattle.std.proofs.lemmas.List.Elements.{All-from_recursion}
 use Rattle.std.proofs.lemmas.Option.{slice_get_within}
-use Rattle.zpl_region.specs.declared.dims.Dim.{Dim}
-use Rattle.zpl_region.specs.declared.dims.Dim.TheVariants.{Range, Flood}
-use Rattle.zpl_region.specs.declared.regions.Region.{Region}
+use Rattle.zpl_arrays.specs.of_zpl_region.declared.dims.Dim.{Dim}
+use Rattle.zpl_arrays.specs.of_zpl_region.declared.dims.Dim.TheVariants.{Range, Flood}
+use Rattle.zpl_arrays.specs.of_zpl_region.declared.regions.Region.{Region}
 use Rattle.std.specs.Int.{int_max}
 use Rattle.std.proofs.lemmas.List.Sums.{count_by-le-length, length-filter}
-use Rattle.zpl_region.specs.Dim.{HasStep, IsCoordinate, IsDim, IsUpTo, extent, integers, is_multiple}
-use Rattle.zpl_region.specs.Ends.{coordinate_count, first_of, least_member, tuple_count}
-use Rattle.zpl_region.specs.Region.{IsRegion, members, padding}
-use Rattle.zpl_region.proofs.DimLemmas.{Among-coordinates, pos-extent}
-use Rattle.zpl_region.proofs.ProgressionLemmas.{length-progression}
-use Rattle.zpl_region.proofs.EndLemmas.{length-coordinates, length-tuple_count, rem_euclid-above, some_coordinate}
-use Rattle.zpl_region.proofs.HullLemmas.{has_steps}
-use Rattle.zpl_region.proofs.HullCode.{least_some}
+use Rattle.zpl_arrays.specs.of_zpl_region.Dim.{HasStep, IsCoordinate, IsDim, IsUpTo, extent, integers, is_multiple}
+use Rattle.zpl_arrays.specs.of_zpl_region.Ends.{coordinate_count, first_of, least_member, tuple_count}
+use Rattle.zpl_arrays.specs.of_zpl_region.Region.{IsRegion, members, padding}
+use Rattle.zpl_arrays.proofs.of_zpl_region.DimLemmas.{Among-coordinates, pos-extent}
+use Rattle.zpl_arrays.proofs.of_zpl_region.ProgressionLemmas.{length-progression}
+use Rattle.zpl_arrays.proofs.of_zpl_region.EndLemmas.{length-coordinates, length-tuple_count, rem_euclid-above, some_coordinate}
+use Rattle.zpl_arrays.proofs.of_zpl_region.HullLemmas.{has_steps}
+use Rattle.zpl_arrays.proofs.of_zpl_region.HullCode.{least_some}
 use Rattle.zpl_arrays.specs.Array.{place_along, place_among}
 use Rattle.zpl_arrays.proofs.ArrayLemmas.{place_of_tuple}
 

@@ -4,21 +4,21 @@ use Rattle.std.specs.List.{filter, find}
 use Rattle.std.specs.Option.{option_and_then}
 use Rattle.std.specs.Int.RustNames.{int_lt}
 use Rattle.std.proofs.lemmas.Int.{clamps, ints}
-use Rattle.zpl_region.specs.declared.dims.Dim.{Dim}
-use Rattle.zpl_region.specs.declared.dims.Dim.TheVariants.{Range}
-use Rattle.zpl_region.specs.declared.regions.Region.{Region}
-use Rattle.zpl_region.specs.Dim.{coordinates, extent, integers, is_multiple}
-use Rattle.zpl_region.specs.Progression.{progression}
-use Rattle.zpl_region.specs.Ends.{least_member}
-use Rattle.zpl_region.specs.Region.{IsRegion, is_before, members, tuples}
-use Rattle.zpl_region.proofs.DimLemmas.{Among-range, Rises-progression, multiple_passes, pos-extent, pos-unsigned_abs}
-use Rattle.zpl_region.proofs.EndLemmas.{first_member}
-use Rattle.zpl_region.proofs.HullLemmas.{has_steps}
-use Rattle.zpl_region.proofs.ListLemmas.{Among, Contains-from_among, Rises}
-use Rattle.zpl_region.proofs.ProgressionLemmas.{above_between, above_none}
-use Rattle.zpl_region.proofs.RegionLemmas.{three_components, three_dims}
-use Rattle.zpl_region.proofs.TupleLemmas.{find-tuples_here, find-tuples_next, joined, slice_get-tuples_first}
-use Rattle.zpl_region.proofs.WalkLemmas.{joined_no_column, joined_no_row, joined_one, joined_two, pair_here, pair_next}
+use Rattle.zpl_arrays.specs.of_zpl_region.declared.dims.Dim.{Dim}
+use Rattle.zpl_arrays.specs.of_zpl_region.declared.dims.Dim.TheVariants.{Range}
+use Rattle.zpl_arrays.specs.of_zpl_region.declared.regions.Region.{Region}
+use Rattle.zpl_arrays.specs.of_zpl_region.Dim.{coordinates, extent, integers, is_multiple}
+use Rattle.zpl_arrays.specs.of_zpl_region.Progression.{progression}
+use Rattle.zpl_arrays.specs.of_zpl_region.Ends.{least_member}
+use Rattle.zpl_arrays.specs.of_zpl_region.Region.{IsRegion, is_before, members, tuples}
+use Rattle.zpl_arrays.proofs.of_zpl_region.DimLemmas.{Among-range, Rises-progression, multiple_passes, pos-extent, pos-unsigned_abs}
+use Rattle.zpl_arrays.proofs.of_zpl_region.EndLemmas.{first_member}
+use Rattle.zpl_arrays.proofs.of_zpl_region.HullLemmas.{has_steps}
+use Rattle.zpl_arrays.proofs.of_zpl_region.ListLemmas.{Among, Contains-from_among, Rises}
+use Rattle.zpl_arrays.proofs.of_zpl_region.ProgressionLemmas.{above_between, above_none}
+use Rattle.zpl_arrays.proofs.of_zpl_region.RegionLemmas.{three_components, three_dims}
+use Rattle.zpl_arrays.proofs.of_zpl_region.TupleLemmas.{find-tuples_here, find-tuples_next, joined, slice_get-tuples_first}
+use Rattle.zpl_arrays.proofs.of_zpl_region.WalkLemmas.{joined_no_column, joined_no_row, joined_one, joined_two, pair_here, pair_next}
 use Rattle.region_places.specs.Walk.{HasAmong, IsOnes}
 
 -- ---- ranges of step 1

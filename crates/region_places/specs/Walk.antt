@@ -1,7 +1,7 @@
 -- Ranges of step 1.
 use Rattle.std.specs.Prelude.{◌≡◌, ℤ, ◌≤ℤ◌}
-use Rattle.zpl_region.specs.declared.dims.Dim.{Dim}
-use Rattle.zpl_region.specs.Dim.{coordinates, integers}
+use Rattle.zpl_arrays.specs.of_zpl_region.declared.dims.Dim.{Dim}
+use Rattle.zpl_arrays.specs.of_zpl_region.Dim.{coordinates, integers}
 
 -- the coordinates of the dimension are the integers from lo to hi
 pub record IsOnes (dim : Dim) (lo hi : ℤ) : Type 0 where

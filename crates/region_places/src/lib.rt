@@ -6,3 +6,5 @@ mod walks;
 
 pub use places::{place, size};
 pub use walks::{least, next_after};
+pub use zpl_arrays;
+pub use zpl_arrays::{zpl_nums, zpl_region};

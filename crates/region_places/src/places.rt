@@ -1,11 +1,11 @@
 //! Places of coordinates and of tuples, counted from 0.
 ghost use Rattle.std.specs.Prelude.{◌≡◌, ◌+◌, ◌<◌, ◌≤◌, ◌^◌, length};
 ghost use Rattle.zpl_arrays.specs.Array.{place_along, place_among};
-ghost use Rattle.zpl_region.specs.Dim.{IsCoordinate, IsDim};
-ghost use Rattle.zpl_region.specs.Ends.{coordinate_count};
-ghost use Rattle.zpl_region.specs.Region.{IsMember, IsRegion, members};
+ghost use Rattle.zpl_arrays.specs.of_zpl_region.Dim.{IsCoordinate, IsDim};
+ghost use Rattle.zpl_arrays.specs.of_zpl_region.Ends.{coordinate_count};
+ghost use Rattle.zpl_arrays.specs.of_zpl_region.Region.{IsMember, IsRegion, members};
 
-use zpl_region::{Dim, Region, Vec3};
+use zpl_arrays::zpl_region::{Dim, Region, Vec3};
 
 /// What stands for a dimension past the rank.
 const PADDING: Dim = Dim::Range {

@@ -1,10 +1,10 @@
 //! Steps over the tuples of a region, quick where all dimensions are ranges of step 1.
 ghost use Rattle.std.specs.Prelude.{◌≡◌, IfSome, find, length};
-ghost use Rattle.zpl_region.specs.Ends.{least_member};
-ghost use Rattle.zpl_region.specs.Region.{IsRegion, is_before, members};
+ghost use Rattle.zpl_arrays.specs.of_zpl_region.Ends.{least_member};
+ghost use Rattle.zpl_arrays.specs.of_zpl_region.Region.{IsRegion, is_before, members};
 ghost use Rattle.region_places.specs.Walk.{HasAmong, IsOnes};
 
-use zpl_region::{Dim, Region, Vec3};
+use zpl_arrays::zpl_region::{Dim, Region, Vec3};
 
 /// Sees that there are three dimensions.
 fn see_three(_dims: &[Dim; 3])

@@ -9,9 +9,9 @@ use Rattle.grid_meaning.specs.Local.{Local, processors}
 use Rattle.grid_meaning.specs.Owner.{region_in}
 use Rattle.grid_meaning.specs.Stored.{no_places}
 use Rattle.grid_meaning.proofs.RemapLemmas.{length-others}
-use Rattle.node_local.specs.declared.standings.Kept.{Kept}
-use Rattle.node_local.specs.Standing.{entry_of}
-use Rattle.node_stages.specs.Partners.{taking}
+use Rattle.row_steps.specs.of_node_local.declared.standings.Kept.{Kept}
+use Rattle.row_steps.specs.of_node_local.Standing.{entry_of}
+use Rattle.row_steps.specs.of_node_stages.Partners.{taking}
 use Rattle.row_steps.proofs.StageLemmas.{length-stages, stage_at, stage_past}
 use Rattle.remap_messages.specs.Row.{answered, remap_row}
 use Rattle.remap_messages.specs.Stages.{answering, later_stages}

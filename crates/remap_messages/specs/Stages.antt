@@ -2,7 +2,7 @@
 use Rattle.std.specs.Prelude.{ℕ, ℤ, List, ◌++◌, map}
 use Rattle.node_form.specs.declared.tables.Tables.{Tables}
 use Rattle.grid_meaning.specs.Collective.{Stage, Sends, TakesFrom, others}
-use Rattle.node_stages.specs.Partners.{taking}
+use Rattle.row_steps.specs.of_node_stages.Partners.{taking}
 
 -- answers go to those whose words are kept, and come from others
 abbrev pub answering : List (ℕ × List ℤ) → List ℕ → List Stage

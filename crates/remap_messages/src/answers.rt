@@ -15,7 +15,7 @@ use crate::sources::home;
 use crate::wants::is_home;
 use grid_layout::Layout;
 use node_form::NodeProgram;
-use node_local::Local;
+use row_steps::node_local::Local;
 use std::alloc::{AllocError, Global};
 use zpl_region::{Region, Vec3};
 

@@ -14,9 +14,9 @@ use crate::sources::{home, storage};
 use crate::wants::wanted_at;
 use grid_layout::Layout;
 use node_form::NodeProgram;
-use node_local::Local;
-use node_stages::own_tuples;
 use row_steps::MOST;
+use row_steps::node_local::Local;
+use row_steps::node_stages::own_tuples;
 use zpl_region::Region;
 
 /// One tuple more is wanted of its home, where it has one.

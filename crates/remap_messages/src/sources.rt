@@ -12,7 +12,7 @@ ghost use Rattle.zpl_region.specs.Region.{IsRegion};
 use crate::rows::RemapRow;
 use grid_layout::{Layout, owned_parts_go_by_owners};
 use node_form::NodeProgram;
-use node_stages::box_number;
+use row_steps::node_stages::box_number;
 use zpl_region::{Region, Vec3};
 
 /// The storage of the array that is read.

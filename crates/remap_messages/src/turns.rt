@@ -15,7 +15,7 @@ use crate::wants::{chosen, first_values, indices, wants};
 use grid_layout::Layout;
 use grid_links::Words;
 use node_form::NodeProgram;
-use node_local::Local;
+use row_steps::node_local::Local;
 use row_steps::put_listed;
 use std::alloc::{AllocError, Global};
 use zpl_region::Region;

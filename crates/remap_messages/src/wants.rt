@@ -16,8 +16,8 @@ use crate::rows::RemapRow;
 use crate::sources::{home, storage};
 use grid_layout::Layout;
 use node_form::NodeProgram;
-use node_local::Local;
-use node_stages::own_tuples;
+use row_steps::node_local::Local;
+use row_steps::node_stages::own_tuples;
 use std::alloc::{AllocError, Global};
 use zpl_region::{Region, Vec3};
 

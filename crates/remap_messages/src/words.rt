@@ -16,8 +16,8 @@ use crate::wants::{Want, chosen, wants};
 use grid_layout::Layout;
 use grid_links::Words;
 use node_form::NodeProgram;
-use node_local::Local;
 use row_steps::MOST;
+use row_steps::node_local::Local;
 use std::alloc::{AllocError, Global};
 use zpl_region::{Region, Vec3};
 

@@ -11,7 +11,7 @@ use Rattle.zpl_region.proofs.ListLemmas.{Among, Contains-from_among, cons_same}
 use Rattle.zpl_arrays.specs.Array.{Array, array_of, element, has_place}
 use Rattle.zpl_arrays.proofs.ArrayLemmas.{element_of_member}
 use Rattle.zpl_binding.specs.Vectors.{three_components}
-use Rattle.zpl_meaning.specs.Fields.{has_target, target_of}
+use Rattle.array_store.specs.of_zpl_meaning.Fields.{has_target, target_of}
 use Rattle.remap_rows.specs.Remap.{all_placed, all_placed_from, placed_if, remapped, remapped_from, target_in}
 
 -- ---- what is left behind k places

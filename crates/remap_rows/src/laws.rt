@@ -5,7 +5,7 @@ ghost use Rattle.zpl_region.specs.declared.regions.Region.{Region as Tuples};
 ghost use Rattle.zpl_region.specs.Dim.{HasStep};
 ghost use Rattle.zpl_region.specs.Region.{members};
 ghost use Rattle.zpl_arrays.specs.Array.{Array, array_of, element};
-ghost use Rattle.zpl_meaning.specs.Fields.{has_target, target_of};
+ghost use Rattle.array_store.specs.of_zpl_meaning.Fields.{has_target, target_of};
 ghost use Rattle.remap_rows.specs.Remap.{all_placed, remapped};
 
 /// Of rows that have what functions are at the tuples of a region, one after the other, the array

@@ -7,5 +7,6 @@
 mod laws;
 mod reads;
 
+pub use array_store;
 pub use laws::remaps_are_those_of_functions;
 pub use reads::{Targets, are_placed, push_remapped};

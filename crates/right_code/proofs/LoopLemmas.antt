@@ -12,10 +12,10 @@ use Rattle.comm_needs.specs.Needs.{planned}
 use Rattle.comm_combine.specs.Merge.{neighbours_merged}
 use Rattle.comm_combine.specs.Repeats.{repeats_dropped}
 use Rattle.comm_early.specs.Send.{sent_early}
-use Rattle.pass_promises.specs.Promises.{HasLoopsUpTo, loops_in}
-use Rattle.plan_orders.specs.Brings.{loops_among, most_loops}
+use Rattle.owed_tables.specs.of_pass_promises.Promises.{HasLoopsUpTo, loops_in}
+use Rattle.compiled_runs.specs.of_plan_orders.Brings.{loops_among, most_loops}
 use Rattle.zpl_claims.specs.Build.{Build}
-use Rattle.zpl_compile.specs.Compile.{if_asked, plan_of}
+use Rattle.compiled_runs.specs.of_zpl_compile.Compile.{if_asked, plan_of}
 
 one_more : (one : Member) (group : List Member) →
     loops_in (one ∷ group) ≡ cond (is_turning one) 1 0 + loops_in group

@@ -5,9 +5,9 @@ use Rattle.node_form.specs.declared.tables.Tables.{Tables}
 use Rattle.row_runs.specs.Run.{Wrong}
 use Rattle.row_runs.specs.Segments.{Keeps}
 use Rattle.flat_form.specs.Act.{flat_run}
-use Rattle.lowering_runs.specs.Shown.{Few, IsBound, Many, Shattered, shown}
-use Rattle.lock_steps.specs.Meant.{IsMeant}
-use Rattle.lock_steps.proofs.StepLemmas.{kept_same}
+use Rattle.compiled_runs.specs.of_lowering_runs.Shown.{Few, IsBound, Many, Shattered, shown}
+use Rattle.compiled_runs.specs.of_lock_steps.Meant.{IsMeant}
+use Rattle.compiled_runs.proofs.of_lock_steps.StepLemmas.{kept_same}
 
 pub kept_meant : (flat kept : Tables) (outcomes : ℕ → Outcome)
     → ((a n : ℕ) → Keeps (flat_run flat a n) (flat_run kept a n)) → IsMeant flat outcomes

@@ -6,10 +6,10 @@ use Rattle.node_form.specs.declared.tables.Tables.{Tables}
 use Rattle.node_form.specs.Fits.{Fits}
 use Rattle.grid_meaning.specs.State.{HasThree}
 use Rattle.zpl_lowering.specs.Tables.{flat_tables}
-use Rattle.plan_orders.specs.Brings.{most_loops}
-use Rattle.lock_steps.specs.Meant.{IsPlanOf}
+use Rattle.compiled_runs.specs.of_plan_orders.Brings.{most_loops}
+use Rattle.compiled_runs.specs.of_lock_steps.Meant.{IsPlanOf}
 use Rattle.zpl_claims.specs.Build.{Build, OverAllLinks}
-use Rattle.zpl_compile.specs.Compile.{plan_of, settled}
+use Rattle.compiled_runs.specs.of_zpl_compile.Compile.{plan_of, settled}
 
 abbrev pub flat_of : Build → Program → Tables
 flat_of build program = flat_tables program build.settings

@@ -3,10 +3,10 @@ use Rattle.std.proofs.Common.{◌≡◌, ℕ, Bool, true, false, refl}
 use Rattle.node_form.specs.declared.tables.Tables.{Tables}
 use Rattle.temp_norm.specs.Normalised.{normalised}
 use Rattle.bound_check.specs.Checked.{checked}
-use Rattle.fuse_contract.specs.Fusing.{fused}
-use Rattle.fuse_contract.specs.Contracting.{contracted}
+use Rattle.compiled_runs.specs.of_fuse_contract.Fusing.{fused}
+use Rattle.compiled_runs.specs.of_fuse_contract.Contracting.{contracted}
 use Rattle.zpl_claims.specs.Build.{Build}
-use Rattle.zpl_compile.specs.Compile.{if_asked, settled}
+use Rattle.compiled_runs.specs.of_zpl_compile.Compile.{if_asked, settled}
 
 -- what each pass over flat tables keeps, all of them keep
 pub record Stays (P : Tables → Type 0) : Type 0 where

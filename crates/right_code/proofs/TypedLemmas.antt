@@ -3,7 +3,7 @@ use Rattle.node_form.specs.declared.instructions.Instr.{Instr}
 use Rattle.node_form.specs.declared.instructions.Instr.TheVariants as instr
 use Rattle.node_form.specs.declared.tables.Tables.{Tables}
 use Rattle.typed_tables.specs.Typed.{AreTyped, IsTypedRow}
-use Rattle.fused_runs.specs.Typed.{HasThreeDims, IsTyped}
+use Rattle.compiled_runs.specs.of_fused_runs.Typed.{HasThreeDims, IsTyped}
 
 row_dims : (one : Instr) → IsTypedRow one → HasThreeDims one
 row_dims (instr.Fix slot region) is = is

@@ -4,7 +4,7 @@ use Rattle.zpl_tree.specs.Grammar.{IsProgram}
 use Rattle.zpl_names.specs.Accepted.{IsFaultless}
 use Rattle.zpl_binding.specs.Bound.{IsAcceptedWith}
 use Rattle.node_form.specs.Grid.{IsGrid}
-use Rattle.lowered_flat.specs.Apart.{NamesStandApart}
+use Rattle.owed_tables.specs.of_lowered_flat.Apart.{NamesStandApart}
 use Rattle.zpl_claims.specs.Build.{Build}
 
 -- A program of the grammar without faults, the names of whose arrays stand at different offsets,

@@ -6,30 +6,32 @@ ghost use Rattle.zpl_names.specs.Expansion.{shattered_loops};
 ghost use Rattle.zpl_meaning.specs.Program.{mean_of, outcome_of, steps_of};
 ghost use Rattle.node_form.specs.Grid.{IsGrid};
 ghost use Rattle.zpl_lowering.specs.Tables.{flat_tables};
-ghost use Rattle.lock_steps.specs.Meant.{IsMeant};
+ghost use Rattle.compiled_runs.specs.of_lock_steps.Meant.{IsMeant};
 ghost use Rattle.zpl_claims.specs.Bound.{EndsInBound};
 ghost use Rattle.zpl_claims.specs.Build.{Build, OverAllLinks};
 ghost use Rattle.zpl_claims.specs.Good.{IsGood};
 ghost use Rattle.zpl_claims.specs.LockStep.{HasLockSteps};
 ghost use Rattle.zpl_claims.specs.Compiled.{IsCompiled};
 ghost use Rattle.zpl_claims.specs.Origin.{origin_of};
-ghost use Rattle.zpl_compile.specs.Compile.{compiled, settled};
+ghost use Rattle.compiled_runs.specs.of_zpl_compile.Compile.{compiled, settled};
 ghost use Rattle.compiled_tidy.specs.Accepted.{IsAcceptedText};
 ghost use Rattle.right_code.specs.Accepted.{IsAccepted};
 
-use arranged_runs::plan_passes_keep_runs;
+use compiled_runs::arranged_runs::plan_passes_keep_runs;
 use compiled_runs::compiled_plans_keep_runs;
+use compiled_runs::lock_steps::emitted_code_comes_in_step;
+use compiled_runs::settled_runs::flat_passes_keep_runs;
 use compiled_tidy::accepted_code_is_tidy;
 use every_form::faultless_programs_have_shown_forms;
-use lock_steps::emitted_code_comes_in_step;
-use lowered_flat::{lowered_programs_are_flat, lowered_tables_are_typed, parsed_names_stand_apart};
-use lowering_loops::groups_turn_as_statements_do;
+use every_form::shown_programs::array_programs_are_shown;
+use every_form::shown_texts::texts_of_shown_forms_are_shown;
+use owed_tables::lowered_flat::{
+    lowered_programs_are_flat, lowered_tables_are_typed, parsed_names_stand_apart,
+};
 use owed_tables::lowered_tables_owe_nothing_more;
-use pass_promises::groups_gain_no_loops;
-use settled_runs::flat_passes_keep_runs;
-use sharable_tables::settled_tables_are_sharable;
-use shown_programs::array_programs_are_shown;
-use shown_texts::texts_of_shown_forms_are_shown;
+use owed_tables::lowering_loops::groups_turn_as_statements_do;
+use owed_tables::pass_promises::groups_gain_no_loops;
+use owed_tables::sharable_tables::settled_tables_are_sharable;
 
 /// Of an accepted program whose lowered program shows what it means, for each bound on the turns of
 /// loops, the code for a build is right over all links that it is for: some order of turns brings

@@ -3,7 +3,7 @@ use Rattle.std.proofs.Common.{◌≡◌, ℕ, zero, suc, ◌+◌, ◌<◌, ◌�
 use Rattle.std.specs.List.{find}
 use Rattle.std.specs.Str.{bytes_eq}
 use Rattle.std.proofs.lemmas.Slice.Eq.{bytes_eq-Decides}
-use Rattle.zpl_names.specs.Declared.{Routine}
+use Rattle.text_walk.specs.of_zpl_names.Declared.{Routine}
 use Rattle.routine_walks.specs.Numbers.{node_of, number_of, number_or}
 
 -- ---- one more name

@@ -3,11 +3,11 @@ use Rattle.std.proofs.Common.{◌≡◌, ℕ, zero, suc, ◌<◌, List, [], ◌�
 use Rattle.std.specs.List.{filter_map}
 use Rattle.std.specs.Option.{unwrap_or}
 use Rattle.zpl_tree.specs.View.{syntax_of}
-use Rattle.zpl_names.specs.Shapes.{Shapes}
-use Rattle.zpl_names.specs.Declared.{routines_of, routine_named}
-use Rattle.zpl_names.specs.Declared as names
-use Rattle.zpl_names.specs.Sites.{call_of, routine_sites}
-use Rattle.zpl_names.specs.Reached.{calls_at, calls_of, sites_at, sites_of}
+use Rattle.text_walk.specs.of_zpl_names.Shapes.{Shapes}
+use Rattle.text_walk.specs.of_zpl_names.Declared.{routines_of, routine_named}
+use Rattle.text_walk.specs.of_zpl_names.Declared as names
+use Rattle.text_walk.specs.of_zpl_names.Sites.{call_of, routine_sites}
+use Rattle.text_walk.specs.of_zpl_names.Reached.{calls_at, calls_of, sites_at, sites_of}
 use Rattle.routine_walks.specs.declared.texts.Routine.{Routine}
 use Rattle.routine_walks.specs.declared.texts.Text.{Text}
 use Rattle.routine_walks.specs.Texts.{IsText, names_in, names_of, routine_of, sites_over}

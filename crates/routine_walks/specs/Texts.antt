@@ -3,11 +3,11 @@ use Rattle.std.specs.Prelude.{◌≡◌, ℕ, false, List, map}
 use Rattle.std.specs.HashMap.{get_by}
 use Rattle.std.specs.Str.{bytes_eq}
 use Rattle.zpl_tree.specs.View.{procedure_of, syntax_of}
-use Rattle.zpl_names.specs.Scope.{Entry}
-use Rattle.zpl_names.specs.Shapes.{Shapes}
-use Rattle.zpl_names.specs.Declared as names
-use Rattle.zpl_names.specs.Declared.{globals_of, routines_of}
-use Rattle.zpl_names.specs.Sites.{Site, in_body, outermost_sites}
+use Rattle.text_walk.specs.of_zpl_names.Scope.{Entry}
+use Rattle.text_walk.specs.of_zpl_names.Shapes.{Shapes}
+use Rattle.text_walk.specs.of_zpl_names.Declared as names
+use Rattle.text_walk.specs.of_zpl_names.Declared.{globals_of, routines_of}
+use Rattle.text_walk.specs.of_zpl_names.Sites.{Site, in_body, outermost_sites}
 use Rattle.routine_walks.specs.Numbers.{number_of}
 use Rattle.routine_walks.specs.declared.texts.Routine.{Routine}
 use Rattle.routine_walks.specs.declared.texts.Text.{Text}

@@ -1,14 +1,14 @@
 //! The walk over the statements of a procedure.
 ghost use Rattle.std.specs.Prelude.{OnOk};
 ghost use Rattle.name_kinds.specs.Seen.{shapes_of};
-ghost use Rattle.site_faults.specs.Reach.{reach_of};
-ghost use Rattle.site_faults.specs.Walk.{Walks};
+ghost use Rattle.text_walk.specs.of_site_faults.Reach.{reach_of};
+ghost use Rattle.text_walk.specs.of_site_faults.Walk.{Walks};
 ghost use Rattle.routine_walks.specs.Texts.{routine_of, sites_over};
 
 use crate::texts::Routine;
 use name_kinds::{Names, Scope, Shapes};
-use site_faults::{Findings, Reach};
 use std::alloc::AllocError;
+use text_walk::site_faults::{Findings, Reach};
 use text_walk::walk_routine;
 
 /// Walks over the statements of a procedure that has these current regions.

@@ -4,10 +4,10 @@ use Rattle.std.proofs.lemmas.Bool.{ne_eqb}
 use Rattle.std.proofs.lemmas.List.{length-map, length-replicate}
 use Rattle.std.proofs.lemmas.List.Sums.{sum_by-cons}
 use Rattle.std.proofs.lemmas.List.Elements.{All-head, All-tail, All-nil, All-cons}
-use Rattle.grid_links.specs.Links.{IsWithin}
-use Rattle.grid_links.specs.declared.messages.Message.{Message}
-use Rattle.grid_links.specs.Run.{count_of}
-use Rattle.node_form.specs.declared.tables.Tables.{Tables}
+use Rattle.grid_meaning.specs.of_grid_links.Links.{IsWithin}
+use Rattle.grid_meaning.specs.of_grid_links.declared.messages.Message.{Message}
+use Rattle.grid_meaning.specs.of_grid_links.Run.{count_of}
+use Rattle.grid_meaning.specs.of_node_form.declared.tables.Tables.{Tables}
 use Rattle.grid_meaning.specs.Action.{Action}
 use Rattle.grid_meaning.specs.Collective.{Collective, Stage, Sends, TakesFrom, Last, Kin, agreed, agreeing_stages, to_parent, joined_values, value_for, value_of_all, word_from, word_or_zero, first_word, kept_with, keeping}
 use Rattle.grid_meaning.specs.Grid.{IsCapacity, system_over}

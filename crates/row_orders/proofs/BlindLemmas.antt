@@ -2,14 +2,14 @@
 use Rattle.std.proofs.Common.{◌≡◌, ℕ, zero, suc, ◌==◌, Bool, ℤ, List, [], ◌∷◌, ◌++◌, length, map, Option, Some, None, option_map, option_and_then, slice_get, refl, ◌∙◌, ap, ap₂, subst}
 use Rattle.std.specs.Prelude.{unwrap_or}
 use Rattle.std.proofs.Math.Path.{fun_ext}
-use Rattle.zpl_arrays.specs.Row.{kept_values, running}
+use Rattle.grid_meaning.specs.of_zpl_arrays.Row.{kept_values, running}
 use Rattle.zpl_nums.specs.Fold.{folded}
 use Rattle.zpl_nums.specs.declared.ends.Border.{Border}
 use Rattle.zpl_nums.specs.declared.folds.Fold.{Fold}
 use Rattle.zpl_region.specs.declared.regions.Region.{Region}
-use Rattle.zpl_arrays.specs.Array.{Array}
-use Rattle.node_form.specs.declared.arrays.Item.{Item}
-use Rattle.node_form.specs.declared.tables.Tables.{Tables}
+use Rattle.grid_meaning.specs.of_zpl_arrays.Array.{Array}
+use Rattle.grid_meaning.specs.of_node_form.declared.arrays.Item.{Item}
+use Rattle.grid_meaning.specs.of_node_form.declared.tables.Tables.{Tables}
 use Rattle.grid_meaning.specs.Collective.{Collective, Stage, Alone, Sends, TakesFrom, Last, others_where, keeping}
 use Rattle.grid_meaning.specs.Delivery.{Delivery, delivered, each_word, with_words, with_combined, combined_into, edging, flooding, parting, border_targets, flood_targets, part_targets}
 use Rattle.grid_meaning.specs.Exchange.{started, finished, words_written}

@@ -1,11 +1,11 @@
 -- A row is two rounds: each acts alone and sends, then each takes and goes on.
 use Rattle.std.proofs.Common.{◌≡◌, ℕ, ◌+◌, ◌<◌, ◌≤◌, Bool, true, false, List, [], ◌∷◌, ◌++◌, length, map, replicate, Option, Some, None, refl, sym, ◌∙◌, ap, ap₂, subst, arith, append_assoc, append-nil, length-append}
 use Rattle.std.proofs.lemmas.List.{length-map}
-use Rattle.grid_links.specs.Links.{IsWithin}
-use Rattle.grid_links.specs.declared.messages.Message.{Message}
-use Rattle.grid_links.specs.Machine.{Goes}
-use Rattle.grid_links.specs.Run.{count_of}
-use Rattle.node_form.specs.declared.tables.Tables.{Tables}
+use Rattle.grid_meaning.specs.of_grid_links.Links.{IsWithin}
+use Rattle.grid_meaning.specs.of_grid_links.declared.messages.Message.{Message}
+use Rattle.grid_meaning.specs.of_grid_links.Machine.{Goes}
+use Rattle.grid_meaning.specs.of_grid_links.Run.{count_of}
+use Rattle.grid_meaning.specs.of_node_form.declared.tables.Tables.{Tables}
 use Rattle.grid_meaning.specs.Collective.{Collective, Stage, Sends, TakesFrom, Last}
 use Rattle.grid_meaning.specs.Grid.{system_over}
 use Rattle.grid_meaning.specs.Local.{Local}

@@ -4,10 +4,10 @@ use Rattle.std.proofs.lemmas.Grind.{flat_map-append}
 use Rattle.std.proofs.lemmas.List.{length-replicate}
 use Rattle.std.proofs.lemmas.List.Elements.{All-head, All-tail}
 use Rattle.std.specs.List.{flat_map}
-use Rattle.grid_links.specs.Links.{IsWithin}
-use Rattle.grid_links.specs.declared.messages.Message.{Message}
-use Rattle.grid_links.specs.Run.{count_of}
-use Rattle.node_form.specs.declared.tables.Tables.{Tables}
+use Rattle.grid_meaning.specs.of_grid_links.Links.{IsWithin}
+use Rattle.grid_meaning.specs.of_grid_links.declared.messages.Message.{Message}
+use Rattle.grid_meaning.specs.of_grid_links.Run.{count_of}
+use Rattle.grid_meaning.specs.of_node_form.declared.tables.Tables.{Tables}
 use Rattle.grid_meaning.specs.Grid.{IsCapacity, system_over}
 use Rattle.grid_paths.specs.Tree.{times}
 use Rattle.row_orders.specs.Rows.{messages, Flight, flight_messages, IsFlight, HasRoom, Deliver, Exchange}

@@ -1,11 +1,11 @@
 -- Half rounds, and the rows that are made of them.
 use Rattle.std.proofs.Common.{◌≡◌, ℕ, ◌+◌, ◌<◌, ◌≤◌, Bool, true, false, cond, ℤ, List, [], ◌∷◌, ◌++◌, length, map, Option, Some, None, refl, sym, ◌∙◌, ap, subst, arith, append-nil, length-append, eq-eqb}
 use Rattle.std.proofs.lemmas.List.{length-map, length-replicate}
-use Rattle.grid_links.specs.Links.{IsWithin}
-use Rattle.grid_links.specs.declared.messages.Message.{Message}
-use Rattle.grid_links.specs.Machine.{Goes, Takes, Refuses}
-use Rattle.grid_links.specs.Run.{count_of}
-use Rattle.node_form.specs.declared.tables.Tables.{Tables}
+use Rattle.grid_meaning.specs.of_grid_links.Links.{IsWithin}
+use Rattle.grid_meaning.specs.of_grid_links.declared.messages.Message.{Message}
+use Rattle.grid_meaning.specs.of_grid_links.Machine.{Goes, Takes, Refuses}
+use Rattle.grid_meaning.specs.of_grid_links.Run.{count_of}
+use Rattle.grid_meaning.specs.of_node_form.declared.tables.Tables.{Tables}
 use Rattle.grid_meaning.specs.Action.{Action, WrongTag, WrongLength}
 use Rattle.grid_meaning.specs.Collective.{Collective}
 use Rattle.grid_meaning.specs.Grid.{IsCapacity, system_over}

@@ -1,11 +1,11 @@
 -- Where some stay away from an agreement, all others come to wait.
 use Rattle.std.proofs.Common.{◌≡◌, ℕ, ◌+◌, ◌*◌, ◌<◌, Bool, true, false, ℤ, List, [], ◌∷◌, ◌++◌, length, map, Option, Some, None, refl, sym, ◌∙◌, ap, ap₂, arith, append_assoc, length-append, eq-eqb, lt-ltb}
 use Rattle.std.proofs.lemmas.List.{length-map, map-append}
-use Rattle.grid_links.specs.Links.{has_room}
-use Rattle.grid_links.specs.declared.messages.Message.{Message}
-use Rattle.grid_links.specs.Machine.{Goes, Awaits, Takes}
-use Rattle.grid_links.specs.Run.{count_of}
-use Rattle.node_form.specs.declared.tables.Tables.{Tables}
+use Rattle.grid_meaning.specs.of_grid_links.Links.{has_room}
+use Rattle.grid_meaning.specs.of_grid_links.declared.messages.Message.{Message}
+use Rattle.grid_meaning.specs.of_grid_links.Machine.{Goes, Awaits, Takes}
+use Rattle.grid_meaning.specs.of_grid_links.Run.{count_of}
+use Rattle.grid_meaning.specs.of_node_form.declared.tables.Tables.{Tables}
 use Rattle.grid_meaning.specs.Action.{Action}
 use Rattle.grid_meaning.specs.Collective.{Collective, Stage, Sends, TakesFrom, Last, Kin, agreed, agreeing_stages, joined_values, keeping, value_for, word_from}
 use Rattle.grid_meaning.specs.Grid.{IsCapacity, system_over}

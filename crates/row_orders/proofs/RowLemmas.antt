@@ -2,9 +2,9 @@
 use Rattle.std.proofs.Common.{◌≡◌, ℕ, List, [], Option, Some, None, option_map, slice_get, refl, subst}
 use Rattle.std.specs.Prelude.{slice_set}
 use Rattle.zpl_nums.specs.Fold.{joined}
-use Rattle.node_form.specs.declared.instructions.Instr.TheVariants as instr
-use Rattle.node_form.specs.declared.tables.Tables.{Tables}
-use Rattle.node_form.specs.declared.arrays.Item.{Item}
+use Rattle.grid_meaning.specs.of_node_form.declared.instructions.Instr.TheVariants as instr
+use Rattle.grid_meaning.specs.of_node_form.declared.tables.Tables.{Tables}
+use Rattle.grid_meaning.specs.of_node_form.declared.arrays.Item.{Item}
 use Rattle.zpl_nums.specs.declared.folds.Fold.{Fold}
 use Rattle.grid_meaning.specs.Action.{moves, goes_on}
 use Rattle.grid_meaning.specs.Collective.{Collective, Kin, decided, flag_word, word_flag, least_flag, folded, voted, scalar_at, star, tree}

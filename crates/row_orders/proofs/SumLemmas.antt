@@ -7,9 +7,9 @@ use Rattle.std.proofs.Math.Nat.{div-le_self}
 use Rattle.std.proofs.lemmas.List.Elements.{All-nil, All-cons, All-head, All-tail, All-append}
 use Rattle.std.specs.Prelude.{⊤}
 use Rattle.std.specs.List.{range_with_len}
-use Rattle.grid_links.specs.Machine.{Goes}
-use Rattle.grid_links.specs.Run.{count_of}
-use Rattle.node_form.specs.declared.tables.Tables.{Tables}
+use Rattle.grid_meaning.specs.of_grid_links.Machine.{Goes}
+use Rattle.grid_meaning.specs.of_grid_links.Run.{count_of}
+use Rattle.grid_meaning.specs.of_node_form.declared.tables.Tables.{Tables}
 use Rattle.grid_meaning.specs.Action.{Action}
 use Rattle.grid_meaning.specs.Collective.{joined_values, first_word, tree}
 use Rattle.grid_meaning.specs.Grid.{IsCapacity, system_over}

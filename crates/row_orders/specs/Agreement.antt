@@ -12,10 +12,10 @@
 --   Halt          then all others come to wait
 use Rattle.std.specs.Prelude.{◌≡◌, ℕ, ◌-◌, ◌<◌, ◌≤◌, Bool, true, false, ℤ, List, [], ◌∷◌, All, fold, length, map, slice_get, Option, Some, None}
 use Rattle.std.specs.List.{range_with_len}
-use Rattle.grid_links.specs.Machine.{Goes}
-use Rattle.grid_links.specs.Run.{count_of}
-use Rattle.node_form.specs.declared.instructions.Instr.{Instr}
-use Rattle.node_form.specs.declared.tables.Tables.{Tables}
+use Rattle.grid_meaning.specs.of_grid_links.Machine.{Goes}
+use Rattle.grid_meaning.specs.of_grid_links.Run.{count_of}
+use Rattle.grid_meaning.specs.of_node_form.declared.instructions.Instr.{Instr}
+use Rattle.grid_meaning.specs.of_node_form.declared.tables.Tables.{Tables}
 use Rattle.grid_meaning.specs.Action.{Action}
 use Rattle.grid_meaning.specs.Collective.{Kin, agreed, joined_values, keeping, agreeing_stages, star, tree}
 use Rattle.grid_meaning.specs.Grid.{system_over}

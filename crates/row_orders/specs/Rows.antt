@@ -18,13 +18,13 @@
 --   GoAlone        so it does where each goes along by itself
 use Rattle.std.specs.Prelude.{◌≡◌, ℕ, ◌*◌, ◌<◌, ◌≤◌, Bool, true, false, ℤ, List, [], ◌∷◌, ◌++◌, All, length, map, option_and_then, option_map, replicate, slice_get, Option, Some, None}
 use Rattle.std.specs.List.{concat, flat_map}
-use Rattle.grid_links.specs.Links.{IsWithin}
-use Rattle.grid_links.specs.declared.messages.Message.{Message}
-use Rattle.grid_links.specs.Machine.{Goes}
-use Rattle.grid_links.specs.Run.{count_of}
-use Rattle.node_form.specs.declared.instructions.Instr.{Instr}
-use Rattle.node_form.specs.declared.instructions.Instr.TheVariants as instr
-use Rattle.node_form.specs.declared.tables.Tables.{Tables}
+use Rattle.grid_meaning.specs.of_grid_links.Links.{IsWithin}
+use Rattle.grid_meaning.specs.of_grid_links.declared.messages.Message.{Message}
+use Rattle.grid_meaning.specs.of_grid_links.Machine.{Goes}
+use Rattle.grid_meaning.specs.of_grid_links.Run.{count_of}
+use Rattle.grid_meaning.specs.of_node_form.declared.instructions.Instr.{Instr}
+use Rattle.grid_meaning.specs.of_node_form.declared.instructions.Instr.TheVariants as instr
+use Rattle.grid_meaning.specs.of_node_form.declared.tables.Tables.{Tables}
 use Rattle.grid_meaning.specs.Collective.{Collective, Stage, Alone, Sends, TakesFrom, Last}
 use Rattle.grid_meaning.specs.Grid.{system_over}
 use Rattle.grid_meaning.specs.Local.{Local}

@@ -3,7 +3,7 @@
 //! that does nothing. The statements stand in `specs/`.
 ghost use Rattle.std.specs.Prelude.{Option, ℕ};
 ghost use Rattle.grid_meaning.specs.Grid.{IsCapacity};
-ghost use Rattle.node_form.specs.declared.tables.Tables.{Tables as Code};
+ghost use Rattle.grid_meaning.specs.of_node_form.declared.tables.Tables.{Tables as Code};
 ghost use Rattle.row_orders.specs.Agreement.{Agree, AgreeAsStar, AgreeAsTree, AreTrees, Halt};
 ghost use Rattle.row_orders.specs.Halves.{Remap};
 ghost use Rattle.row_orders.specs.Rows.{AreBlind, Deliver, Exchange, GoAlone, Meet};

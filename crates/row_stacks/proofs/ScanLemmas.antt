@@ -16,9 +16,9 @@ use Rattle.zpl_arrays.specs.Array.{array_of, element}
 use Rattle.zpl_arrays.specs.Fold.{kept_fold}
 use Rattle.zpl_arrays.specs.Scan.{is_up_along}
 use Rattle.zpl_arrays.proofs.ArrayLemmas.{element_of_member}
-use Rattle.array_totals.specs.Total.{Total, kept_value, kept_values, scan_total}
-use Rattle.value_rows.specs.Row.{folded_row}
-use Rattle.value_rows.proofs.FoldLemmas.{fold_is, same_kept}
+use Rattle.scan_rows.specs.of_array_totals.Total.{Total, kept_value, kept_values, scan_total}
+use Rattle.scan_rows.specs.of_value_rows.Row.{folded_row}
+use Rattle.scan_rows.proofs.of_value_rows.FoldLemmas.{fold_is, same_kept}
 use Rattle.row_stacks.specs.Scan.{goes_over}
 
 -- ---- tuples of three coordinates

@@ -2,12 +2,12 @@
 ghost use Rattle.std.specs.Prelude.{◌≡◌, ◌≤◌, ◌+◌, ◌++◌, Bool, ℤ, List, Option, length, map, take};
 ghost use Rattle.zpl_region.specs.Ends.{tuple_count};
 ghost use Rattle.zpl_region.specs.Region.{IsRegion, members};
-ghost use Rattle.array_totals.specs.Total.{Total, kept_values, scan_total};
-ghost use Rattle.value_rows.specs.Row.{cleared, folded_row, mapped, misses, paired};
+ghost use Rattle.scan_rows.specs.of_array_totals.Total.{Total, kept_values, scan_total};
+ghost use Rattle.scan_rows.specs.of_value_rows.Row.{cleared, folded_row, mapped, misses, paired};
 
 use scan_lines::scan_along;
 use scan_rows::scan_row;
-use value_rows::{clear_masked, fold_row, pair_each, pair_misses, unary_each};
+use scan_rows::value_rows::{clear_masked, fold_row, pair_each, pair_misses, unary_each};
 use zpl_nums::{Fold, Op, UnaryOp};
 use zpl_region::Region;
 

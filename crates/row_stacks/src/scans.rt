@@ -6,11 +6,11 @@ ghost use Rattle.std.specs.Ordering.{int_eq};
 ghost use Rattle.zpl_region.specs.Ends.{tuple_count};
 ghost use Rattle.zpl_region.specs.Region.{IsRegion, is_before, members};
 ghost use Rattle.zpl_arrays.specs.Scan.{is_up_along};
-ghost use Rattle.array_totals.specs.Total.{Total, kept_values, scan_total};
+ghost use Rattle.scan_rows.specs.of_array_totals.Total.{Total, kept_values, scan_total};
 ghost use Rattle.row_stacks.specs.Scan.{goes_over};
 
+use scan_rows::value_rows::fold_row;
 use std::alloc::{AllocError, Global};
-use value_rows::fold_row;
 use zpl_nums::Fold;
 use zpl_region::{Region, Vec3};
 

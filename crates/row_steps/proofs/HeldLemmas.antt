@@ -3,7 +3,7 @@ use Rattle.std.proofs.Common.{◌≡◌, ℕ, zero, suc, Bool, true, false, cond
 use Rattle.std.specs.Prelude.{Option, Some, None, is_some, option_and_then, slice_get, slice_set}
 use Rattle.std.specs.Option.{option_map}
 use Rattle.zpl_arrays.specs.Array.{Array, element, has_place, updated}
-use Rattle.grid_meaning.specs.Place.{held_value, held_with, value_at, values_at, where_held, with_value, with_values}
+use Rattle.node_stages.specs.of_grid_meaning.Place.{held_value, held_with, value_at, values_at, where_held, with_value, with_values}
 
 -- ---- one place
 is_where : {X : Type 0} (b : Bool) (x : X) → is_some (where_held b x) ≡ b

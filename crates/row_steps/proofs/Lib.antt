@@ -3,3 +3,4 @@ pub mod HeldLemmas
 pub mod PartnerLemmas
 pub mod StageLemmas
 pub mod WalkLemmas
+pub use Rattle.node_stages.proofs as of_node_stages

@@ -3,7 +3,7 @@ use Rattle.std.proofs.Common.{◌≡◌, ℕ, suc, ◌+◌, ◌<◌, false, List
 use Rattle.std.specs.Prelude.{Option, Some, None, is_some, option_and_then}
 use Rattle.std.specs.Option.{option_map}
 use Rattle.zpl_arrays.specs.Array.{Array}
-use Rattle.grid_meaning.specs.Place.{value_at, values_at, with_value, with_values}
+use Rattle.node_stages.specs.of_grid_meaning.Place.{value_at, values_at, with_value, with_values}
 
 pub next_of : {X : Type 0} (xs : List X) (i : ℕ) (x : X) → i < length xs → x ≡ get_or xs i x → drop i xs ≡ x ∷ drop (i + 1) xs
 next_of xs i x within is =

@@ -4,8 +4,8 @@ use Rattle.std.specs.Prelude.{Some, filter, slice_get}
 use Rattle.std.specs.List.{range_with_len}
 use Rattle.std.proofs.lemmas.Bool.Decides.{nat_tests}
 use Rattle.node_form.specs.declared.tables.Tables.{Tables}
-use Rattle.grid_meaning.specs.Collective.{others, others_where}
-use Rattle.grid_meaning.specs.Local.{processors}
+use Rattle.node_stages.specs.of_grid_meaning.Collective.{others, others_where}
+use Rattle.node_stages.specs.of_grid_meaning.Local.{processors}
 use Rattle.row_steps.specs.Partners.{counted}
 
 -- ---- all others

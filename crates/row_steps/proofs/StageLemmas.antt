@@ -1,7 +1,7 @@
 -- Stages by their place: some with a partner each, and others behind them.
 use Rattle.std.proofs.Common.{◌≡◌, ℕ, zero, suc, ◌+◌, ◌<◌, ◌≤◌, List, [], ◌∷◌, ◌++◌, length, map, ap, ◌∙◌, arith}
 use Rattle.std.specs.Prelude.{Some, None, slice_get}
-use Rattle.grid_meaning.specs.Collective.{Stage, TakesFrom, Last}
+use Rattle.node_stages.specs.of_grid_meaning.Collective.{Stage, TakesFrom, Last}
 use Rattle.node_stages.specs.Partners.{taking}
 
 module _ {X : Type 0} (f : X → Stage) (rest : List Stage) where

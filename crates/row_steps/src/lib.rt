@@ -5,5 +5,7 @@
 mod partners;
 mod writes;
 
+pub use node_local;
+pub use node_stages;
 pub use partners::{MOST, other, taking_stage};
 pub use writes::put_listed;

@@ -1,7 +1,7 @@
 //! The processors beside one, by their place.
 ghost use Rattle.std.specs.Prelude.{◌≡◌, ◌+◌, ◌<◌, ◌≤◌, Some, length, slice_get};
-ghost use Rattle.grid_meaning.specs.Collective.{others};
-ghost use Rattle.grid_meaning.specs.Local.{processors};
+ghost use Rattle.node_stages.specs.of_grid_meaning.Collective.{others};
+ghost use Rattle.node_stages.specs.of_grid_meaning.Local.{processors};
 ghost use Rattle.node_form.specs.declared.tables.Tables.{Tables as Code};
 ghost use Rattle.node_stages.specs.Partners.{taking};
 ghost use Rattle.node_stages.specs.Stage.{staged};

@@ -1,6 +1,6 @@
 //! Values written at listed places of an array, all or none of them.
 ghost use Rattle.std.specs.Prelude.{◌≡◌, Some, None, false, if◌then◌else◌, is_some, length};
-ghost use Rattle.grid_meaning.specs.Place.{values_at, with_values};
+ghost use Rattle.node_stages.specs.of_grid_meaning.Place.{values_at, with_values};
 
 use node_local::Local;
 use zpl_region::Vec3;

@@ -17,7 +17,7 @@ use Rattle.grid_meaning.specs.Collective.{Kin, agreeing_stages, folded, star, tr
 use Rattle.grid_meaning.specs.State.{IsIn}
 use Rattle.node_form.specs.declared.instructions.Instr.TheVariants as instr
 use Rattle.node_local.specs.Workplace.{Workplace}
-use Rattle.node_stages.specs.Slots.{at_slots}
+use Rattle.edge_messages.specs.of_node_stages.Slots.{at_slots}
 use Rattle.zpl_nums.specs.declared.folds.Fold.{Fold}
 use Rattle.row_turn.proofs.StandLemmas.{stands_at}
 use Rattle.row_turn.specs.Placed.{IsAtRow}

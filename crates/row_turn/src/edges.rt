@@ -5,16 +5,16 @@ ghost use Rattle.grid_meaning.specs.Collective.{stage_of};
 ghost use Rattle.grid_meaning.specs.Delivery.{edged};
 ghost use Rattle.grid_meaning.specs.Local.{processors};
 ghost use Rattle.grid_meaning.specs.Stored.{arrangement_of};
-ghost use Rattle.node_stages.specs.Stage.{staged};
+ghost use Rattle.edge_messages.specs.of_node_stages.Stage.{staged};
 ghost use Rattle.row_turn.specs.Placed.{IsAtRow};
 
 use crate::slots::{region_in, tuples};
+use edge_messages::node_stages::{Stage, edge_piece, edge_stage};
 use edge_messages::{edge_alone, edge_taken, edge_words};
 use grid_layout::Layout;
 use grid_links::Words;
 use node_form::{Instr, NodeProgram};
 use node_local::Local;
-use node_stages::{Stage, edge_piece, edge_stage};
 use std::alloc::{AllocError, Global};
 use zpl_nums::Border;
 use zpl_region::Vec3;

@@ -8,21 +8,21 @@ ghost use Rattle.grid_meaning.specs.Local.{processors};
 ghost use Rattle.grid_meaning.specs.State.{IsSlot};
 ghost use Rattle.grid_meaning.specs.Stored.{arrangement_of};
 ghost use Rattle.node_form.specs.Fits.{FitsItem};
-ghost use Rattle.node_stages.specs.Known.{AreRoutes};
-ghost use Rattle.node_stages.specs.Stage.{staged};
+ghost use Rattle.edge_messages.specs.of_node_stages.Known.{AreRoutes};
+ghost use Rattle.edge_messages.specs.of_node_stages.Stage.{staged};
 ghost use Rattle.row_turn.specs.Known.{Knows, partners_of};
 ghost use Rattle.row_turn.specs.Placed.{IsAtRow};
 ghost use Rattle.row_turn.specs.Together.{OfRow};
 
 use crate::slots::tuples;
-use exchange_messages::{finish_taken, start_words};
+use edge_messages::exchange_messages::{finish_taken, start_words};
+use edge_messages::node_stages::{
+    Partners, Stage, finish_stage, item_piece, learn_receivers, learn_senders, start_stage,
+};
 use grid_layout::Layout;
 use grid_links::Words;
 use node_form::{Instr, Item, NodeProgram, rows_fit};
 use node_local::Local;
-use node_stages::{
-    Partners, Stage, finish_stage, item_piece, learn_receivers, learn_senders, start_stage,
-};
 use std::alloc::{AllocError, Global};
 
 /// The items of an exchange.

@@ -5,10 +5,11 @@ ghost use Rattle.grid_meaning.specs.Collective.{stage_of};
 ghost use Rattle.grid_meaning.specs.Delivery.{flooded};
 ghost use Rattle.grid_meaning.specs.Local.{processors};
 ghost use Rattle.grid_meaning.specs.Stored.{arrangement_of};
-ghost use Rattle.node_stages.specs.Stage.{staged};
+ghost use Rattle.edge_messages.specs.of_node_stages.Stage.{staged};
 ghost use Rattle.row_turn.specs.Placed.{IsAtRow};
 
 use crate::slots::{region_in, tuples};
+use edge_messages::node_stages::Stage;
 use flood_messages::{
     flood_alone, flood_stage, flood_taken, flood_tuples, flood_words, flood_words_held,
 };
@@ -16,7 +17,6 @@ use grid_layout::Layout;
 use grid_links::Words;
 use node_form::{Instr, NodeProgram};
 use node_local::Local;
-use node_stages::Stage;
 use std::alloc::{AllocError, Global};
 
 /// What a processor does in its next turn of `flood`.

@@ -5,19 +5,19 @@ ghost use Rattle.grid_meaning.specs.Gather.{gathered};
 ghost use Rattle.grid_meaning.specs.Local.{processors};
 ghost use Rattle.grid_meaning.specs.Stored.{arrangement_of};
 ghost use Rattle.node_control.specs.Moving.{MovesOn};
-ghost use Rattle.node_stages.specs.Stage.{staged};
+ghost use Rattle.edge_messages.specs.of_node_stages.Stage.{staged};
 ghost use Rattle.row_turn.specs.Own.{IsOwn};
 ghost use Rattle.row_turn.specs.Placed.{IsAtRow};
 
 use crate::answers::OwnTurn;
 use crate::slots::{leave, region_in, tuples};
+use edge_messages::node_stages::{Stage, gather_stage, own_tuples};
 use gather_messages::gather_words;
 use gather_text::gather_text;
 use grid_layout::Layout;
 use grid_links::Words;
 use node_form::{Instr, NodeProgram};
 use node_local::Local;
-use node_stages::{Stage, gather_stage, own_tuples};
 use std::alloc::{AllocError, Global};
 
 /// What a processor does in its next turn of `gather`.

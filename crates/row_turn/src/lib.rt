@@ -20,5 +20,6 @@ mod turns;
 pub use answers::{OwnTurn, Receipt};
 pub use held::has_words;
 pub use messages::{message_for, take_message};
+pub use node_control;
 pub use rows::{is_together, learn_partners, leave_partners, row_stage};
 pub use turns::{alone_turn, last_turn};

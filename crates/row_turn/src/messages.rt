@@ -8,7 +8,7 @@ ghost use Rattle.grid_meaning.specs.State.{IsLocal};
 ghost use Rattle.grid_meaning.specs.Stored.{arrangement_of};
 ghost use Rattle.grid_meaning.specs.Turn.{fed_by};
 ghost use Rattle.node_form.specs.declared.tables.Tables.{Tables as Code};
-ghost use Rattle.node_messages.specs.Agreement.{agreement_row};
+ghost use Rattle.gather_messages.specs.of_node_messages.Agreement.{agreement_row};
 ghost use Rattle.row_turn.specs.Own.{StaysSo, fed_of, message_of};
 ghost use Rattle.row_turn.specs.Placed.{IsAtRow, StaysAtRow};
 ghost use Rattle.row_turn.specs.Together.{IsTogether, OfRow, kin_over};
@@ -22,11 +22,11 @@ use crate::gathers::{awaits_in_gather, words_in_gather};
 use crate::parts::{awaits_in_part, taken_in_part, words_in_part};
 use crate::remaps::{awaits_in_remap, taken_in_remap, words_in_remap};
 use crate::scans::{awaits_in_scan, words_in_scan};
+use gather_messages::node_messages::Agreement;
 use grid_layout::Layout;
 use grid_links::{Message, Words};
 use node_form::{Instr, NodeProgram};
 use node_local::Local;
-use node_messages::Agreement;
 use std::alloc::{AllocError, Global};
 
 // ---- tags

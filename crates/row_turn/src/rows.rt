@@ -4,7 +4,7 @@ ghost use Rattle.grid_meaning.specs.Collective.{stage_of};
 ghost use Rattle.grid_meaning.specs.Local.{Local as State, processors};
 ghost use Rattle.grid_meaning.specs.Stored.{arrangement_of};
 ghost use Rattle.node_form.specs.declared.tables.Tables.{Tables as Code};
-ghost use Rattle.node_stages.specs.Stage.{staged};
+ghost use Rattle.edge_messages.specs.of_node_stages.Stage.{staged};
 ghost use Rattle.row_turn.specs.Known.{Knows, partners_of};
 ghost use Rattle.row_turn.specs.Placed.{IsAtRow};
 ghost use Rattle.row_turn.specs.Together.{IsAlone, IsTogether, NamesOne, OfRow};
@@ -17,10 +17,10 @@ use crate::gathers::stage_in_gather;
 use crate::parts::stage_in_part;
 use crate::remaps::stage_in_remap;
 use crate::scans::stage_in_scan;
+use edge_messages::node_stages::{Partners, Stage};
 use grid_layout::Layout;
 use node_form::{Instr, NodeProgram};
 use node_local::Local;
-use node_stages::{Partners, Stage};
 
 /// Whether processors work together in a row.
 pub fn is_together(row: &Instr) -> bool

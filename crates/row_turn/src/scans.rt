@@ -3,18 +3,18 @@ ghost use Rattle.std.specs.Prelude.{◌≡◌, ◌<◌, IfOk, OnErr, Some, is_so
 ghost use Rattle.grid_meaning.specs.Collective.{stage_of};
 ghost use Rattle.grid_meaning.specs.Local.{processors};
 ghost use Rattle.grid_meaning.specs.Stored.{arrangement_of};
-ghost use Rattle.node_stages.specs.Stage.{staged};
+ghost use Rattle.edge_messages.specs.of_node_stages.Stage.{staged};
 ghost use Rattle.row_turn.specs.Own.{IsOwn};
 ghost use Rattle.row_turn.specs.Placed.{IsAtRow};
 ghost use Rattle.row_turn.specs.Together.{IsScan, OfRow};
 
 use crate::answers::OwnTurn;
 use crate::slots::region_in;
+use edge_messages::node_stages::Stage;
 use grid_layout::Layout;
 use grid_links::Words;
 use node_form::{Instr, NodeProgram};
 use node_local::Local;
-use node_stages::Stage;
 use scan_messages::{
     ScanRow, kept_totals_are_of_others, scan_awaits, scan_last, scan_stage, scan_words,
     scan_words_held,

@@ -8,3 +8,4 @@
 mod laws;
 
 pub use laws::{run_causes_are_exact, runs_are_one, runs_print_what_is_meant};
+pub use list_claims;

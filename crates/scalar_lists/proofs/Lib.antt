@@ -1,1 +1,2 @@
 pub mod ListLemmas
+pub use Rattle.array_scalars.proofs as of_array_scalars

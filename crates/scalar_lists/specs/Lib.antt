@@ -1,1 +1,2 @@
 pub mod Scalars
+pub use Rattle.array_scalars.specs as of_array_scalars

@@ -3,4 +3,6 @@
 
 mod lists;
 
+pub use array_scalars;
+pub use array_scalars::array_values;
 pub use lists::values_of;

@@ -26,8 +26,8 @@ use array_places::{Environment, Place, Thing, rank_of};
 use array_settling::Placed;
 use array_stops::Stop;
 use array_store::{Array, Store};
-use array_values::no_array;
 use name_kinds::{Formal, Kind};
+use scalar_lists::array_values::no_array;
 use std::alloc::{AllocError, Global};
 use zpl_tree::{Expr, ExprForm, Name};
 

@@ -12,7 +12,7 @@ use Rattle.zpl_region.proofs.ListLemmas.{Among, Contains-from_among, cons_same}
 use Rattle.zpl_arrays.specs.Array.{array_of, element}
 use Rattle.zpl_arrays.specs.Scan.{is_up_along, scanned_along}
 use Rattle.zpl_arrays.proofs.ArrayLemmas.{element_of_member}
-use Rattle.array_totals.specs.Total.{Total, kept_value, kept_values}
+use Rattle.value_rows.specs.of_array_totals.Total.{Total, kept_value, kept_values}
 
 -- functions that agree where tuples are kept have the same values there
 same_kept : (q : List ℤ → Bool) (f g : List ℤ → ℤ) (ts : List (List ℤ)) → ((t : List ℤ) → Among ts t → q t ≡ true → f t ≡ g t) → map f (filter q ts) ≡ map g (filter q ts)

@@ -6,7 +6,7 @@ ghost use Rattle.zpl_region.specs.Dim.{HasStep};
 ghost use Rattle.zpl_region.specs.Region.{members};
 ghost use Rattle.zpl_arrays.specs.Array.{element};
 ghost use Rattle.zpl_arrays.specs.Scan.{scanned_along};
-ghost use Rattle.array_totals.specs.Total.{Total, kept_values};
+ghost use Rattle.value_rows.specs.of_array_totals.Total.{Total, kept_values};
 
 /// The scan of the values that a term has at the tuples of a region is the scan of the array with
 /// these values.

@@ -10,7 +10,7 @@ use Rattle.grid_meaning.specs.Owner.{region_in}
 use Rattle.grid_meaning.specs.Scan as meaning
 use Rattle.grid_meaning.specs.Stored.{no_places}
 use Rattle.grid_meaning.proofs.RemapLemmas.{length-others}
-use Rattle.node_stages.specs.Partners.{taking}
+use Rattle.row_steps.specs.of_node_stages.Partners.{taking}
 use Rattle.row_steps.proofs.StageLemmas.{length-stages, stage_at, stage_past}
 use Rattle.scan_messages.specs.Row.{scan_row}
 use Rattle.scan_messages.specs.declared.rows.ScanRow.{ScanRow}

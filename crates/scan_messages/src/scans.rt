@@ -17,7 +17,7 @@ use crate::values::{are_values_held, scan_values};
 use grid_layout::Layout;
 use grid_links::Words;
 use node_form::NodeProgram;
-use node_local::Local;
+use row_steps::node_local::Local;
 use row_steps::put_listed;
 use scan_plan::totals;
 use std::alloc::{AllocError, Global};

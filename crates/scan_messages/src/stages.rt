@@ -5,7 +5,7 @@ ghost use Rattle.grid_meaning.specs.Local.{Local as State, processors};
 ghost use Rattle.grid_meaning.specs.Scan.{line_dim, line_heads};
 ghost use Rattle.grid_meaning.specs.State.{IsSlot};
 ghost use Rattle.grid_meaning.specs.Stored.{arrangement_of};
-ghost use Rattle.node_stages.specs.Stage.{staged};
+ghost use Rattle.row_steps.specs.of_node_stages.Stage.{staged};
 ghost use Rattle.scan_messages.specs.Row.{scan_row};
 
 use crate::lines::{line_dim, line_heads};
@@ -13,8 +13,8 @@ use crate::parts::own_part;
 use crate::rows::ScanRow;
 use grid_layout::Layout;
 use node_form::NodeProgram;
-use node_local::Local;
-use node_stages::Stage;
+use row_steps::node_local::Local;
+use row_steps::node_stages::Stage;
 use row_steps::{MOST, other, taking_stage};
 use zpl_region::Region;
 

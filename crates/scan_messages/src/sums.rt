@@ -13,7 +13,7 @@ ghost use Rattle.zpl_region.specs.Region.{IsRegion, members};
 use crate::rows::ScanRow;
 use grid_layout::Layout;
 use node_form::NodeProgram;
-use node_local::Local;
+use row_steps::node_local::Local;
 use scan_plan::{Totals, scan_block, totals};
 use std::alloc::{AllocError, Global};
 use zpl_region::Region;

@@ -5,7 +5,7 @@ ghost use Rattle.grid_meaning.specs.Scan.{scan_value, scan_values};
 ghost use Rattle.zpl_region.specs.Region.{IsRegion, members};
 
 use crate::rows::ScanRow;
-use node_local::Local;
+use row_steps::node_local::Local;
 use std::alloc::{AllocError, Global};
 use zpl_region::{Region, Vec3};
 

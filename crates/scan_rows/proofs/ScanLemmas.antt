@@ -20,7 +20,7 @@ use Rattle.zpl_arrays.specs.Array.{array_of, element}
 use Rattle.zpl_arrays.specs.Scan.{is_through, scanned}
 use Rattle.zpl_arrays.proofs.ArrayLemmas.{element_of_member}
 use Rattle.zpl_arrays.proofs.FoldLemmas.{not_before_itself}
-use Rattle.array_totals.specs.Total.{Total, kept_value, kept_values}
+use Rattle.value_rows.specs.of_array_totals.Total.{Total, kept_value, kept_values}
 use Rattle.value_rows.specs.Row.{joined_if}
 use Rattle.scan_rows.specs.Scan.{scanned_from, scanned_row}
 

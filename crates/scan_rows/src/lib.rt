@@ -6,3 +6,4 @@ mod scans;
 
 pub use laws::scans_are_those_of_totals;
 pub use scans::scan_row;
+pub use value_rows;

@@ -23,10 +23,10 @@ use Rattle.zpl_meaning.specs.Regions.{computed_of}
 use Rattle.flat_form.specs.Row as row
 use Rattle.flat_form.specs.Row.{Row}
 use Rattle.node_form.specs.declared.instructions.Instr.TheVariants as instr
-use Rattle.zpl_lowering.specs.Where.{Slotted, Where, slotted_or, is_flood, flood_of}
-use Rattle.zpl_lowering.specs.Statement.{prefix_opened}
-use Rattle.zpl_lowering.specs.Bracket as low
-use Rattle.zpl_lowering.specs.Bracket.{Opened, forms_of, constant_of, constant_dim, constant_dims, constant_span, constant_name, constant_region, within, dim_flood, dims_flood, named_region, name_opened, computed, one_row, fixed_or, bracket}
+use Rattle.prefix_runs.specs.of_zpl_lowering.Where.{Slotted, Where, slotted_or, is_flood, flood_of}
+use Rattle.prefix_runs.specs.of_zpl_lowering.Statement.{prefix_opened}
+use Rattle.prefix_runs.specs.of_zpl_lowering.Bracket as low
+use Rattle.prefix_runs.specs.of_zpl_lowering.Bracket.{Opened, forms_of, constant_of, constant_dim, constant_dims, constant_span, constant_name, constant_region, within, dim_flood, dims_flood, named_region, name_opened, computed, one_row, fixed_or, bracket}
 use Rattle.prefix_runs.specs.Opens.{IsOpenedAs, IsGivenRegion, OpensName, Opens}
 use Rattle.prefix_runs.proofs.ShapeLemmas.{over_front, opened_itself}
 use Rattle.prefix_runs.proofs.ShapedLemmas.{shaped, forms_are, Told, shaped_told}

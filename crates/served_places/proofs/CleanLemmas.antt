@@ -9,10 +9,10 @@ use Rattle.zpl_names.specs.Kinds.{Rank}
 use Rattle.zpl_names.specs.Shapes.{Shapes, prefix_rank, shapes_under}
 use Rattle.zpl_meaning.specs.Store.{Thing, Scalar, ArrayAt, Fixed, Environment, thing_of}
 use Rattle.zpl_meaning.specs.Context.{Over, Currents, Edge, Setup, Place, with_over}
-use Rattle.zpl_lowering.specs.Where.{Slotted, SlotCurrents, with_slotted, Where}
-use Rattle.zpl_lowering.specs.Statement as low
-use Rattle.lowering_runs.specs.Seen.{Spot, seen_thing}
-use Rattle.lowering_runs.specs.Suits.{SuitsStmt, SuitAll, SuitsForm, SuitArms, SuitsElse}
+use Rattle.prefix_runs.specs.of_zpl_lowering.Where.{Slotted, SlotCurrents, with_slotted, Where}
+use Rattle.prefix_runs.specs.of_zpl_lowering.Statement as low
+use Rattle.prefix_runs.specs.of_lowering_runs.Seen.{Spot, seen_thing}
+use Rattle.prefix_runs.specs.of_lowering_runs.Suits.{SuitsStmt, SuitAll, SuitsForm, SuitArms, SuitsElse}
 use Rattle.prefix_runs.specs.Under.{opened_at, over_of, mean_under, IsUnder}
 use Rattle.prefix_runs.specs.Plain.{PlainLeaf}
 use Rattle.served_places.specs.Told.{place_of}

@@ -11,8 +11,8 @@ use Rattle.zpl_meaning.specs.Context.{Place}
 use Rattle.zpl_meaning.specs.Proper.{IsValue, HasValue, AreProperDims, IsProperName, IsProperInner, IsArrayRank, IsProperPrefix}
 use Rattle.zpl_meaning.specs.Scalars.{IsScalarName, IsScalar}
 use Rattle.meaning_ranks.specs.Ranked.{ArePresOf, IsInnerOf, IsRankedPrefix}
-use Rattle.zpl_lowering.specs.Where.{flood_of}
-use Rattle.lowering_runs.specs.Scalars.{IsScalarExpr}
+use Rattle.prefix_runs.specs.of_zpl_lowering.Where.{flood_of}
+use Rattle.prefix_runs.specs.of_lowering_runs.Scalars.{IsScalarExpr}
 use Rattle.prefix_runs.specs.Opens.{IsGivenRegion, AreGivenPres, AreGivenPosts, OpenDims, OpensName, Opens}
 use Rattle.prefix_runs.specs.Under.{OpensPrefix}
 use Rattle.prefix_runs.proofs.ShapeLemmas.{flood_length}

@@ -15,10 +15,10 @@ use Rattle.zpl_meaning.specs.Context.{Mask, Currents, Edge}
 use Rattle.zpl_meaning.specs.Regions.{mask_thing, mask_in}
 use Rattle.zpl_meaning.specs.Proper.{IsArrayRank}
 use Rattle.meaning_ranks.specs.Ranked.{IsMaskOf}
-use Rattle.zpl_lowering.specs.Where.{Slotted, SlotCurrents, slotted_at, with_slotted, Where}
-use Rattle.zpl_lowering.specs.Bracket.{Opened}
-use Rattle.zpl_lowering.specs.Statement as low
-use Rattle.array_runs.specs.Floods.{IsReadableMaskAs}
+use Rattle.prefix_runs.specs.of_zpl_lowering.Where.{Slotted, SlotCurrents, slotted_at, with_slotted, Where}
+use Rattle.prefix_runs.specs.of_zpl_lowering.Bracket.{Opened}
+use Rattle.prefix_runs.specs.of_zpl_lowering.Statement as low
+use Rattle.prefix_runs.specs.of_array_runs.Floods.{IsReadableMaskAs}
 use Rattle.prefix_runs.specs.Under.{OpensPrefix, opened_at}
 use Rattle.served_places.specs.Told.{AreSlotsTold, IsMaskTold, IsTold, place_of, reach_told}
 use Rattle.served_places.specs.Given.{KnowsGiven}

@@ -10,7 +10,7 @@ use Rattle.zpl_region.specs.Region.{IsRegion}
 use Rattle.zpl_tree.specs.Syntax.{Name}
 use Rattle.zpl_binding.specs.Outcome.{Computed, Gives, outcome_or}
 use Rattle.zpl_binding.specs.Regions.{Known, no_region}
-use Rattle.zpl_lowering.specs.Bracket.{region_slot}
+use Rattle.prefix_runs.specs.of_zpl_lowering.Bracket.{region_slot}
 use Rattle.prefix_runs.specs.Opens.{IsGivenRegion}
 
 -- the place of the first one of a name

@@ -7,11 +7,11 @@ use Rattle.zpl_names.specs.Shapes.{Over, Shapes, current_at, current_over, inner
 use Rattle.zpl_meaning.specs.Store.{Environment}
 use Rattle.zpl_meaning.specs.Context.{Currents, Edge, Mask, Over as MeantOver, with_over}
 use Rattle.zpl_meaning.specs.Proper.{HasCurrent, IsArrayRank}
-use Rattle.zpl_lowering.specs.Where.{Next, Slotted, Where, slotted_at, with_slotted}
-use Rattle.zpl_lowering.specs.Bracket.{Opened, bracket}
-use Rattle.zpl_lowering.specs.Slate.{opened_source, source_of, source_rank, under_source}
-use Rattle.lowering_runs.specs.Seen.{Spot}
-use Rattle.array_runs.specs.Floods.{IsReadableMaskAs}
+use Rattle.prefix_runs.specs.of_zpl_lowering.Where.{Next, Slotted, Where, slotted_at, with_slotted}
+use Rattle.prefix_runs.specs.of_zpl_lowering.Bracket.{Opened, bracket}
+use Rattle.prefix_runs.specs.of_zpl_lowering.Slate.{opened_source, source_of, source_rank, under_source}
+use Rattle.prefix_runs.specs.of_lowering_runs.Seen.{Spot}
+use Rattle.prefix_runs.specs.of_array_runs.Floods.{IsReadableMaskAs}
 use Rattle.prefix_runs.specs.Opens.{Opens}
 use Rattle.prefix_runs.proofs.UnderLemmas.{slotted_with}
 use Rattle.served_places.specs.Told.{IsMaskTold, IsSeenFrom, IsTold, place_of}

@@ -21,10 +21,10 @@ use Rattle.zpl_meaning.specs.Points.{assigned_expr}
 use Rattle.zpl_meaning.specs.Proper.{HasCurrent, IsRead, IsProper, IsTarget, IsPlainAssign}
 use Rattle.zpl_meaning.specs.Scalars.{IsScalarName, IsScalar}
 use Rattle.meaning_ranks.specs.Ranked.{IsNameOf, IsOfRank, IsRankedValue, TakesRank}
-use Rattle.zpl_lowering.specs.Where.{Stored, Slotted, Where, slotted_or, slotted_at, is_flood}
-use Rattle.lowering_runs.specs.Seen.{Spot, seen_thing}
-use Rattle.array_runs.specs.Reads.{IsShift}
-use Rattle.array_runs.specs.Floods.{three_floods, CoversFlood, CoverFloods, slot_floods, IsReadableAs, IsElementAs, IsElementwiseAs, IsReadableMaskAs, IsWritableAs, IsArrayServed}
+use Rattle.prefix_runs.specs.of_zpl_lowering.Where.{Stored, Slotted, Where, slotted_or, slotted_at, is_flood}
+use Rattle.prefix_runs.specs.of_lowering_runs.Seen.{Spot, seen_thing}
+use Rattle.prefix_runs.specs.of_array_runs.Reads.{IsShift}
+use Rattle.prefix_runs.specs.of_array_runs.Floods.{three_floods, CoversFlood, CoverFloods, slot_floods, IsReadableAs, IsElementAs, IsElementwiseAs, IsReadableMaskAs, IsWritableAs, IsArrayServed}
 use Rattle.served_places.specs.Told.{IsSlotTold, IsMaskTold, IsStoredOf, IsTold, place_of, IsSeenFrom, reach_told, AreFree, IsPlainExpr}
 
 pub or_false : (a b : Bool) → a || b ≡ false → (a ≡ false) × (b ≡ false)

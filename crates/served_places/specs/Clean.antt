@@ -15,11 +15,11 @@ use Rattle.zpl_meaning.specs.Context.{Currents, Setup, Place, reach_of}
 use Rattle.zpl_meaning.specs.Regions.{over_in}
 use Rattle.zpl_meaning.specs.Proper.{IsPlainAssign, IsProperPrefix}
 use Rattle.meaning_ranks.specs.Ranked.{IsRankedPrefix, IsRankedValue}
-use Rattle.zpl_lowering.specs.Where.{Where}
-use Rattle.lowering_runs.specs.Seen.{Spot}
-use Rattle.lowering_runs.specs.Scalars.{IsScalarAt}
-use Rattle.lowering_runs.specs.Suits.{IsServedHead}
-use Rattle.lowering_runs.specs.Leaves.{IsScalarAssigned, AreScalarItems, IsServedInvoke}
+use Rattle.prefix_runs.specs.of_zpl_lowering.Where.{Where}
+use Rattle.prefix_runs.specs.of_lowering_runs.Seen.{Spot}
+use Rattle.prefix_runs.specs.of_lowering_runs.Scalars.{IsScalarAt}
+use Rattle.prefix_runs.specs.of_lowering_runs.Suits.{IsServedHead}
+use Rattle.prefix_runs.specs.of_lowering_runs.Leaves.{IsScalarAssigned, AreScalarItems, IsServedInvoke}
 use Rattle.prefix_runs.specs.Under.{over_of, mean_under}
 use Rattle.served_places.specs.Told.{IsTold, IsSeenFrom, AreFree, IsPlainExpr}
 use Rattle.served_places.specs.Given.{KnowsGiven, IsSound}

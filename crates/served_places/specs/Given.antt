@@ -9,7 +9,7 @@ use Rattle.zpl_names.specs.Ranks.{direction_rank, region_shape}
 use Rattle.zpl_binding.specs.Outcome.{outcome_of}
 use Rattle.zpl_binding.specs.Vectors.{three_components}
 use Rattle.zpl_binding.specs.Regions.{Known}
-use Rattle.zpl_lowering.specs.Where.{flood_of}
+use Rattle.prefix_runs.specs.of_zpl_lowering.Where.{flood_of}
 use Rattle.prefix_runs.specs.Opens.{IsGiven, IsGivenRegion, AreGivenPosts}
 
 -- Declared regions are in their slots and have the shapes of their texts, and declared directions

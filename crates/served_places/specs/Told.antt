@@ -15,10 +15,10 @@ use Rattle.zpl_names.specs.Faults.{flood_clashes}
 use Rattle.zpl_meaning.specs.Store.{ArrayAt, Environment, thing_of}
 use Rattle.zpl_meaning.specs.Context.{Currents, Edge, Place}
 use Rattle.zpl_meaning.specs.Regions.{vector_in}
-use Rattle.zpl_lowering.specs.Where.{Stored, Slotted, SlotCurrents, Where, is_flood}
-use Rattle.lowering_runs.specs.Seen.{Spot, seen_thing}
-use Rattle.array_runs.specs.Reads.{IsShift}
-use Rattle.array_runs.specs.Floods.{three_floods, IsReadableMaskAs}
+use Rattle.prefix_runs.specs.of_zpl_lowering.Where.{Stored, Slotted, SlotCurrents, Where, is_flood}
+use Rattle.prefix_runs.specs.of_lowering_runs.Seen.{Spot, seen_thing}
+use Rattle.prefix_runs.specs.of_array_runs.Reads.{IsShift}
+use Rattle.prefix_runs.specs.of_array_runs.Floods.{three_floods, IsReadableMaskAs}
 
 -- the slot of a rank's current region, where the text tells its shape
 abbrev pub IsSlotTold : ℕ → Current → Option Slotted → Type 0

@@ -24,7 +24,7 @@ use Rattle.temp_norm.specs.Pieces.{row_written}
 use Rattle.bound_check.specs.Checked.{checked, stays}
 use Rattle.normal_runs.proofs.KeptLemmas.{loop_front, rows_hold}
 use Rattle.normal_runs.proofs.PassLemmas.{each_holds, front_holds, last_holds}
-use Rattle.contracted_runs.proofs.ThreeLemmas.{checked_three, normalised_three}
+use Rattle.fused_runs.proofs.of_contracted_runs.ThreeLemmas.{checked_three, normalised_three}
 use Rattle.fused_runs.specs.Typed.{HasThreeDims, IsTyped}
 
 filter_hold : (P : Instr → Type 0) (test : Instr → Bool) (rows : List Instr)

@@ -11,13 +11,13 @@ use Rattle.temp_norm.proofs.FitLemmas.{normalised_fits}
 use Rattle.bound_check.specs.Checked.{checked}
 use Rattle.bound_check.proofs.FitLemmas.{checked_fits}
 use Rattle.bound_check.proofs.KeptLemmas as checks
-use Rattle.fuse_contract.specs.Contracting.{contracted}
-use Rattle.fuse_contract.specs.Fusing.{fused}
-use Rattle.fuse_contract.proofs.FitLemmas.{fused_fits}
+use Rattle.zpl_compile.specs.of_fuse_contract.Contracting.{contracted}
+use Rattle.zpl_compile.specs.of_fuse_contract.Fusing.{fused}
+use Rattle.zpl_compile.proofs.of_fuse_contract.FitLemmas.{fused_fits}
 use Rattle.normal_runs.proofs.KeptLemmas as normal
-use Rattle.contracted_runs.specs.Three.{HaveThreeDims}
-use Rattle.contracted_runs.proofs.KeptLemmas as cells
-use Rattle.contracted_runs.proofs.ThreeLemmas.{fused_three}
+use Rattle.fused_runs.specs.of_contracted_runs.Three.{HaveThreeDims}
+use Rattle.fused_runs.proofs.of_contracted_runs.KeptLemmas as cells
+use Rattle.fused_runs.proofs.of_contracted_runs.ThreeLemmas.{fused_three}
 use Rattle.fused_runs.specs.Typed.{IsTyped}
 use Rattle.fused_runs.proofs.ForthLemmas.{fused_shows}
 use Rattle.zpl_compile.specs.Compile.{if_asked, settled}

@@ -14,12 +14,12 @@ use Rattle.node_form.specs.Group.{depth_behind}
 use Rattle.code_parts.specs.Uses.{arrays_in, exprs_of, member_words, put_by, rows_or_none}
 use Rattle.code_parts.specs.Uses.{words_of}
 use Rattle.flat_form.specs.Static.{KeepsCells, are_among, cells_in, keeps_from, kept_behind}
-use Rattle.fuse_contract.specs.Contracting.{arrays_of_row, becomes_cell, begins_it, cell_among}
-use Rattle.fuse_contract.specs.Contracting.{contracted, contracted_arrays, contracted_from}
-use Rattle.fuse_contract.specs.Contracting.{fits_a_cell, here_or_cell, is_among, is_begun, is_named_in}
-use Rattle.fuse_contract.specs.Contracting.{is_shifted_in, member_contracted, naming_group}
-use Rattle.fuse_contract.specs.Contracting.{put_or_cell, word_contracted}
-use Rattle.fuse_contract.proofs.CellFitLemmas.{every_mapped}
+use Rattle.zpl_compile.specs.of_fuse_contract.Contracting.{arrays_of_row, becomes_cell, begins_it, cell_among}
+use Rattle.zpl_compile.specs.of_fuse_contract.Contracting.{contracted, contracted_arrays, contracted_from}
+use Rattle.zpl_compile.specs.of_fuse_contract.Contracting.{fits_a_cell, here_or_cell, is_among, is_begun, is_named_in}
+use Rattle.zpl_compile.specs.of_fuse_contract.Contracting.{is_shifted_in, member_contracted, naming_group}
+use Rattle.zpl_compile.specs.of_fuse_contract.Contracting.{put_or_cell, word_contracted}
+use Rattle.zpl_compile.proofs.of_fuse_contract.CellFitLemmas.{every_mapped}
 use Rattle.pass_promises.proofs.StayLemmas.{not_true, same_exprs}
 use Rattle.needs_runs.proofs.HoldsLemmas.{both_parts, both_true}
 use Rattle.sharable_tables.proofs.UnitLemmas.{same_depth}

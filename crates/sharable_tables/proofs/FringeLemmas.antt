@@ -11,10 +11,10 @@ use Rattle.node_form.proofs.GrowthLemmas.{Keeps-append}
 use Rattle.flat_form.specs.Static.{HasFringes, array_has_fringe, word_has_fringe}
 use Rattle.temp_norm.specs.Normalised.{normalised, read_each, temporaries}
 use Rattle.bound_check.specs.Checked.{checked}
-use Rattle.fuse_contract.specs.Contracting.{cell_among, contracted, contracted_arrays, here_or_cell}
-use Rattle.fuse_contract.specs.Contracting.{word_contracted}
-use Rattle.fuse_contract.specs.Fusing.{fused}
-use Rattle.fuse_contract.proofs.CellFitLemmas.{every_mapped}
+use Rattle.zpl_compile.specs.of_fuse_contract.Contracting.{cell_among, contracted, contracted_arrays, here_or_cell}
+use Rattle.zpl_compile.specs.of_fuse_contract.Contracting.{word_contracted}
+use Rattle.zpl_compile.specs.of_fuse_contract.Fusing.{fused}
+use Rattle.zpl_compile.proofs.of_fuse_contract.CellFitLemmas.{every_mapped}
 use Rattle.needs_runs.proofs.HoldsLemmas.{both_parts, both_true}
 
 -- the words of an expression changed, in tables with other arrays

@@ -12,8 +12,8 @@ use Rattle.flat_form.specs.Static.{HasFringes, HasOneUnitALoop, KeepsCells}
 use Rattle.temp_norm.specs.Normalised.{IsNormal, normalised, reads_itself}
 use Rattle.temp_norm.proofs.NormalLemmas.{is_normal}
 use Rattle.bound_check.specs.Checked.{checked}
-use Rattle.fuse_contract.specs.Contracting.{contracted}
-use Rattle.fuse_contract.specs.Fusing.{fused}
+use Rattle.zpl_compile.specs.of_fuse_contract.Contracting.{contracted}
+use Rattle.zpl_compile.specs.of_fuse_contract.Fusing.{fused}
 use Rattle.pass_promises.proofs.StayLemmas.{checked_normal, contracted_normal, fused_normal}
 use Rattle.stored_shifts.specs.Stored.{ShiftsAreStored}
 use Rattle.pass_fits.proofs.FlatLemmas.{checked_flat, contracted_flat, fused_flat, normalised_flat}

@@ -14,15 +14,15 @@ use Rattle.flat_passes.specs.Rewritten.{with_moved_goal}
 use Rattle.temp_norm.specs.Normalised.{normalised, read_each}
 use Rattle.temp_norm.specs.Normalised.{temporaries}
 use Rattle.bound_check.specs.Checked.{checked}
-use Rattle.fuse_contract.specs.Contracting.{cell_among, contracted, contracted_arrays, here_or_cell}
-use Rattle.fuse_contract.specs.Contracting.{word_contracted}
-use Rattle.fuse_contract.specs.Fusing.{fused}
-use Rattle.fuse_contract.proofs.CellFitLemmas.{every_mapped}
+use Rattle.zpl_compile.specs.of_fuse_contract.Contracting.{cell_among, contracted, contracted_arrays, here_or_cell}
+use Rattle.zpl_compile.specs.of_fuse_contract.Contracting.{word_contracted}
+use Rattle.zpl_compile.specs.of_fuse_contract.Fusing.{fused}
+use Rattle.zpl_compile.proofs.of_fuse_contract.CellFitLemmas.{every_mapped}
 use Rattle.contracted_runs.proofs.ThreeLemmas.{normalised_three as normalised_dims}
-use Rattle.pass_sizes.specs.Sizes.{IsBlind}
-use Rattle.pass_sizes.proofs.NormalLemmas.{normal_count}
-use Rattle.pass_sizes.proofs.SettledLemmas.{checked_count, fused_count}
-use Rattle.pass_parts.proofs.NameLemmas.{none_counted, none_first}
+use Rattle.pass_fits.specs.of_pass_sizes.Sizes.{IsBlind}
+use Rattle.pass_fits.proofs.of_pass_sizes.NormalLemmas.{normal_count}
+use Rattle.pass_fits.proofs.of_pass_sizes.SettledLemmas.{checked_count, fused_count}
+use Rattle.pass_fits.proofs.of_pass_parts.NameLemmas.{none_counted, none_first}
 use Rattle.needs_runs.specs.Agree.{HasThreeOf}
 use Rattle.needs_runs.specs.Sharable.{HasThreeIn}
 use Rattle.sharable_tables.specs.Threes.{HasThrees}

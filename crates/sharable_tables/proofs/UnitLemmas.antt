@@ -10,10 +10,10 @@ use Rattle.code_parts.specs.Uses.{is_turning}
 use Rattle.flat_form.specs.Static.{HasOneUnitALoop, has_one_unit}
 use Rattle.temp_norm.specs.Normalised.{normalised}
 use Rattle.bound_check.specs.Checked.{checked}
-use Rattle.fuse_contract.specs.Contracting.{cell_among, contracted, contracted_arrays}
-use Rattle.fuse_contract.specs.Contracting.{member_contracted, put_or_cell}
-use Rattle.fuse_contract.specs.Fusing.{fused}
-use Rattle.fuse_contract.proofs.CellFitLemmas.{every_mapped}
+use Rattle.zpl_compile.specs.of_fuse_contract.Contracting.{cell_among, contracted, contracted_arrays}
+use Rattle.zpl_compile.specs.of_fuse_contract.Contracting.{member_contracted, put_or_cell}
+use Rattle.zpl_compile.specs.of_fuse_contract.Fusing.{fused}
+use Rattle.zpl_compile.proofs.of_fuse_contract.CellFitLemmas.{every_mapped}
 use Rattle.pass_promises.proofs.StayLemmas.{any_both, fused_hold, normalised_hold, not_true, parts}
 use Rattle.pass_promises.proofs.StayLemmas.{same_turning}
 

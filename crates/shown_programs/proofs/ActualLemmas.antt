@@ -18,8 +18,8 @@ use Rattle.zpl_meaning.proofs.ProperLemmas.{reach_at}
 use Rattle.zpl_meaning.proofs.VisitLemmas.{Laws, IsHere}
 use Rattle.meaning_ranks.specs.Ranked.{AreShapedActuals, IsRanked, IsRankedStmt}
 use Rattle.zpl_lowering.specs.Where.{Where}
-use Rattle.lowering_runs.specs.Seen.{Spot}
-use Rattle.call_runs.specs.Taken.{AreCallActuals, IsArrayThing}
+use Rattle.served_places.specs.of_lowering_runs.Seen.{Spot}
+use Rattle.operator_runs.specs.of_call_runs.Taken.{AreCallActuals, IsArrayThing}
 use Rattle.operator_runs.specs.Served.{OperatedValue}
 use Rattle.served_places.specs.Told.{IsSeenFrom, place_of}
 use Rattle.shown_programs.specs.Text.{AreCallTexts, IsOperatedText}

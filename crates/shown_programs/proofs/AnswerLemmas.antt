@@ -24,17 +24,17 @@ use Rattle.node_form.specs.declared.tables.Tables.{Tables}
 use Rattle.flat_form.specs.Whole.{Whole}
 use Rattle.zpl_lowering.specs.Where.{Stored, Where, Next}
 use Rattle.zpl_lowering.specs.Statement.{Given, Valued, Copied, Referring}
-use Rattle.lowering_runs.specs.Seen.{Spot, Answer, numbered, seen_spot, seen_store}
-use Rattle.lowering_runs.specs.Stands.{AreKnown, IsKnown, IsLike, Keeps, Rises, Stands}
-use Rattle.lowering_runs.specs.Frames.{seen_given}
-use Rattle.lowering_runs.specs.Suits.{SuitsStmtBy}
-use Rattle.lowering_runs.proofs.FrameLemmas.{map_append, names_below, numbered_append, thing_below}
-use Rattle.lowering_runs.proofs.StatementLemmas.{contains_first, contains_later}
+use Rattle.served_places.specs.of_lowering_runs.Seen.{Spot, Answer, numbered, seen_spot, seen_store}
+use Rattle.served_places.specs.of_lowering_runs.Stands.{AreKnown, IsKnown, IsLike, Keeps, Rises, Stands}
+use Rattle.served_places.specs.of_lowering_runs.Frames.{seen_given}
+use Rattle.served_places.specs.of_lowering_runs.Suits.{SuitsStmtBy}
+use Rattle.served_places.proofs.of_lowering_runs.FrameLemmas.{map_append, names_below, numbered_append, thing_below}
+use Rattle.served_places.proofs.of_lowering_runs.StatementLemmas.{contains_first, contains_later}
 use Rattle.operator_runs.specs.Served.{OperatedValue}
-use Rattle.prefix_runs.specs.Under.{IsUnder}
+use Rattle.served_places.specs.of_prefix_runs.Under.{IsUnder}
 use Rattle.served_places.specs.Told.{IsSeenFrom, place_of}
-use Rattle.call_runs.specs.Ending.{AreAnswering, IsAnsweringBody, IsBlockAnswering, IsReturned, IsReturning}
-use Rattle.call_runs.specs.Taken.{AllGiven}
+use Rattle.operator_runs.specs.of_call_runs.Ending.{AreAnswering, IsAnsweringBody, IsBlockAnswering, IsReturned, IsReturning}
+use Rattle.operator_runs.specs.of_call_runs.Taken.{AllGiven}
 use Rattle.shown_programs.specs.Text.{AreAnsweringTexts, IsAnsweringForm, IsAnsweringText, IsOperatedText, IsReturnForm, IsReturnText}
 use Rattle.shown_programs.proofs.BoundedLemmas.{IsBoundedAt}
 use Rattle.shown_programs.proofs.CallLemmas.{setup, text_of, IsKnownAt}

@@ -23,10 +23,10 @@ use Rattle.zpl_meaning.proofs.ProperLemmas.{reach_at}
 use Rattle.zpl_meaning.proofs.VisitLemmas.{Laws, Inside, InStmt}
 use Rattle.meaning_ranks.specs.Ranked.{AreArraysOf, IsRankedStmt}
 use Rattle.zpl_lowering.specs.Where.{Where, slotted_at}
-use Rattle.lowering_runs.specs.Seen.{Spot, seen_thing}
+use Rattle.served_places.specs.of_lowering_runs.Seen.{Spot, seen_thing}
 use Rattle.served_places.specs.Told.{place_of}
 use Rattle.served_places.proofs.ToldLemmas.{has_slot, or_false, writable}
-use Rattle.border_runs.specs.Bordered.{IsBordered, AreBordered, IsSomeBordered, IsBorder, IsBorderServed, BorderLeaf}
+use Rattle.operator_runs.specs.of_border_runs.Bordered.{IsBordered, AreBordered, IsSomeBordered, IsBorder, IsBorderServed, BorderLeaf}
 use Rattle.shown_programs.specs.Text.{IsBorderForm}
 use Rattle.shown_programs.proofs.BoundedLemmas.{IsEdgeAt}
 use Rattle.shown_programs.proofs.CallLemmas.{setup}

@@ -25,9 +25,9 @@ use Rattle.zpl_meaning.specs.Store.{Store}
 use Rattle.zpl_meaning.specs.Context.{Mask, Over, Currents, over_or, over_at, with_over, Edge, Place}
 use Rattle.zpl_meaning.specs.Regions.{fault_trap, computed_of, dims_in, span_in, forms_in, name_in, inner_over, current_for, mask_in, over_in, edge_in}
 use Rattle.zpl_meaning.specs.Proper.{HasCurrent, IsArrayRank}
-use Rattle.prefix_runs.specs.Opens.{IsOpenedAs, Opens}
-use Rattle.prefix_runs.specs.Under.{OpensPrefix, over_of, mean_under}
-use Rattle.border_runs.specs.Bordered.{IsBorder}
+use Rattle.served_places.specs.of_prefix_runs.Opens.{IsOpenedAs, Opens}
+use Rattle.served_places.specs.of_prefix_runs.Under.{OpensPrefix, over_of, mean_under}
+use Rattle.operator_runs.specs.of_border_runs.Bordered.{IsBorder}
 
 -- ---- what is declared is within the limit
 

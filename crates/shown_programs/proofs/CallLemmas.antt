@@ -21,20 +21,20 @@ use Rattle.zpl_meaning.proofs.VisitLemmas.{Laws}
 use Rattle.meaning_ranks.proofs.PlaceLemmas.{IsAt}
 use Rattle.zpl_lowering.specs.Where.{Where}
 use Rattle.zpl_lowering.specs.Statement.{Given}
-use Rattle.lowering_runs.specs.Goes.{World}
-use Rattle.lowering_runs.proofs.SuitLemmas.{LeafGoes}
-use Rattle.call_runs.specs.Taken.{CallsGo}
-use Rattle.call_runs.specs.Answered.{CallsAnswer}
-use Rattle.call_runs.specs.Leaf as leaf
-use Rattle.call_runs.proofs.LeafLemmas as leaf_lemmas
+use Rattle.served_places.specs.of_lowering_runs.Goes.{World}
+use Rattle.served_places.proofs.of_lowering_runs.SuitLemmas.{LeafGoes}
+use Rattle.operator_runs.specs.of_call_runs.Taken.{CallsGo}
+use Rattle.operator_runs.specs.of_call_runs.Answered.{CallsAnswer}
+use Rattle.operator_runs.specs.of_call_runs.Leaf as leaf
+use Rattle.operator_runs.proofs.of_call_runs.LeafLemmas as leaf_lemmas
 use Rattle.operator_runs.specs.Served.{OperatedValue}
 use Rattle.operator_runs.proofs.ValueLemmas.{operated_values}
 use Rattle.served_places.specs.Told.{IsTold}
 use Rattle.served_places.specs.Given.{KnowsGiven}
-use Rattle.lowering_fits.specs.Reach.{FitNames, AreGlobals}
-use Rattle.lowering_fits.specs.Storages.{AllKept}
-use Rattle.lowering_fits.proofs.KeptLemmas.{AreGivenOf}
-use Rattle.lowering_fits.proofs.ReachLemmas.{FewScalars}
+use Rattle.lowered_flat.specs.of_lowering_fits.Reach.{FitNames, AreGlobals}
+use Rattle.lowered_flat.specs.of_lowering_fits.Storages.{AllKept}
+use Rattle.lowered_flat.proofs.of_lowering_fits.KeptLemmas.{AreGivenOf}
+use Rattle.lowered_flat.proofs.of_lowering_fits.ReachLemmas.{FewScalars}
 use Rattle.lowered_flat.proofs.CalledLemmas.{AreGiven}
 use Rattle.lowered_flat.proofs.ToldLemmas.{AreTold}
 use Rattle.shown_programs.specs.Operators.{HasCopyWithin}

@@ -81,22 +81,22 @@ use Rattle.zpl_lowering.specs.Program as low
 use Rattle.zpl_lowering.specs.Program.{Framed, Entry, where_in, givens_code, names_code}
 use Rattle.zpl_lowering.specs.Program.{locals_code}
 use Rattle.zpl_lowering.specs.Program.{body_code, reads_round, call_code}
-use Rattle.lowering_fits.specs.Standing.{calling_of}
-use Rattle.lowering_fits.specs.Whole.{given_frames, local_frame, name_frames, local_frames}
-use Rattle.lowering_fits.proofs.PartLemmas.{AreRight, contains_first, contains_later, contains_left}
-use Rattle.lowering_fits.proofs.PartLemmas.{contains_right}
-use Rattle.lowering_fits.proofs.TallyLemmas.{round, tally, rounds_append, reads_are, IsSilent}
-use Rattle.lowering_fits.proofs.TallyLemmas.{no_sites, silent_both, region_silent, IsTameDim}
-use Rattle.lowering_fits.proofs.TallyLemmas.{AreTameDims, IsTameInner}
-use Rattle.lowering_fits.proofs.MadeLemmas.{IsTame, AreTame, inner_tame, proper_tame, IsSettled}
-use Rattle.lowering_fits.proofs.MadeLemmas.{settled_behind, settled_made}
-use Rattle.lowering_fits.proofs.PointSiteLemmas.{actual_sites, actuals_split, IsNamed}
-use Rattle.lowering_fits.proofs.PointSiteLemmas.{variable_named}
-use Rattle.lowering_fits.proofs.PointSiteLemmas.{array_named, named_silent, form_silent}
-use Rattle.lowering_fits.proofs.MadeCodeLemmas.{no_settled, first_settled, one_settled}
+use Rattle.lowered_flat.specs.of_lowering_fits.Standing.{calling_of}
+use Rattle.lowered_flat.specs.of_lowering_fits.Whole.{given_frames, local_frame, name_frames, local_frames}
+use Rattle.lowered_flat.proofs.of_lowering_fits.PartLemmas.{AreRight, contains_first, contains_later, contains_left}
+use Rattle.lowered_flat.proofs.of_lowering_fits.PartLemmas.{contains_right}
+use Rattle.lowered_flat.proofs.of_lowering_fits.TallyLemmas.{round, tally, rounds_append, reads_are, IsSilent}
+use Rattle.lowered_flat.proofs.of_lowering_fits.TallyLemmas.{no_sites, silent_both, region_silent, IsTameDim}
+use Rattle.lowered_flat.proofs.of_lowering_fits.TallyLemmas.{AreTameDims, IsTameInner}
+use Rattle.lowered_flat.proofs.of_lowering_fits.MadeLemmas.{IsTame, AreTame, inner_tame, proper_tame, IsSettled}
+use Rattle.lowered_flat.proofs.of_lowering_fits.MadeLemmas.{settled_behind, settled_made}
+use Rattle.lowered_flat.proofs.of_lowering_fits.PointSiteLemmas.{actual_sites, actuals_split, IsNamed}
+use Rattle.lowered_flat.proofs.of_lowering_fits.PointSiteLemmas.{variable_named}
+use Rattle.lowered_flat.proofs.of_lowering_fits.PointSiteLemmas.{array_named, named_silent, form_silent}
+use Rattle.lowered_flat.proofs.of_lowering_fits.MadeCodeLemmas.{no_settled, first_settled, one_settled}
 use Rattle.flat_form.specs.Whole.{Whole}
-use Rattle.lowering_runs.specs.Seen.{Spot, seen_thing}
-use Rattle.lowering_runs.specs.Frames.{seen_given}
+use Rattle.served_places.specs.of_lowering_runs.Seen.{Spot, seen_thing}
+use Rattle.served_places.specs.of_lowering_runs.Frames.{seen_given}
 
 -- ---- names that stand for things of the same kinds
 

@@ -17,13 +17,13 @@ use Rattle.zpl_lowering.specs.Where.{Stored, Next}
 use Rattle.zpl_lowering.specs.Statement.{Referring}
 use Rattle.zpl_lowering.specs.Program as low
 use Rattle.zpl_lowering.specs.Program.{Framed}
-use Rattle.lowering_runs.specs.Seen.{array_in, Spot, At, Answer, seen_spot, seen_store, numbered, seen_thing, seen_names}
-use Rattle.lowering_runs.specs.Stands.{Rises, IsKnown, AreKnown, array_numbers, IsStored, AreStored}
-use Rattle.lowering_runs.specs.Frames.{seen_frame, seen_given, AreGiven}
-use Rattle.lowering_runs.specs.Frames as low_frames
-use Rattle.lowering_runs.proofs.NumberLemmas.{rises_on, rises_with}
-use Rattle.lowering_runs.proofs.FrameLemmas.{map_append, thing_below, known_both, thing_more, scalar_frame}
-use Rattle.lowering_runs.proofs.FrameLemmas as lowers
+use Rattle.served_places.specs.of_lowering_runs.Seen.{array_in, Spot, At, Answer, seen_spot, seen_store, numbered, seen_thing, seen_names}
+use Rattle.served_places.specs.of_lowering_runs.Stands.{Rises, IsKnown, AreKnown, array_numbers, IsStored, AreStored}
+use Rattle.served_places.specs.of_lowering_runs.Frames.{seen_frame, seen_given, AreGiven}
+use Rattle.served_places.specs.of_lowering_runs.Frames as low_frames
+use Rattle.served_places.proofs.of_lowering_runs.NumberLemmas.{rises_on, rises_with}
+use Rattle.served_places.proofs.of_lowering_runs.FrameLemmas.{map_append, thing_below, known_both, thing_more, scalar_frame}
+use Rattle.served_places.proofs.of_lowering_runs.FrameLemmas as lowers
 
 -- ---- numbers of arrays
 

@@ -21,20 +21,20 @@ use Rattle.zpl_lowering.specs.Statement.{Given, Valued, Copied, Referring}
 use Rattle.zpl_lowering.specs.Program as low
 use Rattle.zpl_lowering.specs.Program.{Framed, Entry}
 use Rattle.zpl_lowering.specs.Tables.{stored_row}
-use Rattle.lowering_runs.specs.Seen.{scalar_in, array_in, Spot, At, seen_spot, numbered}
-use Rattle.lowering_runs.specs.Run.{does}
-use Rattle.lowering_runs.specs.Agrees.{Agrees}
-use Rattle.lowering_runs.specs.Stands.{Rises, array_numbers, IsKnown, IsBefore, HasRoom, IsStored, AreStored, IsSound, Keeps}
-use Rattle.lowering_runs.specs.Frames.{seen_frame, seen_given}
-use Rattle.lowering_runs.proofs.FitLemmas.{room_coded, room_rest}
-use Rattle.lowering_runs.proofs.NumberLemmas.{rises_le, same_spots}
-use Rattle.lowering_runs.proofs.FrameLemmas.{known_both, thing_more, scalar_frame}
-use Rattle.lowering_fits.specs.Storages.{IsStorage, AllKept}
-use Rattle.lowering_fits.specs.Whole.{given_frames}
-use Rattle.lowering_fits.proofs.ArrayLemmas.{row_storage, row_three}
-use Rattle.call_runs.specs.Copied.{copy_at}
-use Rattle.call_runs.specs.Taken.{AllGiven}
-use Rattle.call_runs.proofs.CopyLemmas.{copied}
+use Rattle.served_places.specs.of_lowering_runs.Seen.{scalar_in, array_in, Spot, At, seen_spot, numbered}
+use Rattle.served_places.specs.of_lowering_runs.Run.{does}
+use Rattle.served_places.specs.of_lowering_runs.Agrees.{Agrees}
+use Rattle.served_places.specs.of_lowering_runs.Stands.{Rises, array_numbers, IsKnown, IsBefore, HasRoom, IsStored, AreStored, IsSound, Keeps}
+use Rattle.served_places.specs.of_lowering_runs.Frames.{seen_frame, seen_given}
+use Rattle.served_places.proofs.of_lowering_runs.FitLemmas.{room_coded, room_rest}
+use Rattle.served_places.proofs.of_lowering_runs.NumberLemmas.{rises_le, same_spots}
+use Rattle.served_places.proofs.of_lowering_runs.FrameLemmas.{known_both, thing_more, scalar_frame}
+use Rattle.lowered_flat.specs.of_lowering_fits.Storages.{IsStorage, AllKept}
+use Rattle.lowered_flat.specs.of_lowering_fits.Whole.{given_frames}
+use Rattle.lowered_flat.proofs.of_lowering_fits.ArrayLemmas.{row_storage, row_three}
+use Rattle.operator_runs.specs.of_call_runs.Copied.{copy_at}
+use Rattle.operator_runs.specs.of_call_runs.Taken.{AllGiven}
+use Rattle.operator_runs.proofs.of_call_runs.CopyLemmas.{copied}
 use Rattle.shown_programs.proofs.FrameLemmas.{Framing, array_frame, array_more, framing_array, framing_on, framing_scalar, inside, longer_spots, thing_frame}
 use Rattle.shown_programs.proofs.KnownLemmas.{kept_at}
 use Rattle.shown_programs.proofs.LocalLemmas.{AreFresh, AreFreshArrays, GoesOn, below_same}

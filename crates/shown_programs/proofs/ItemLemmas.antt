@@ -14,7 +14,7 @@ use Rattle.zpl_meaning.proofs.ProperLemmas.{IsClean, reach_at}
 use Rattle.zpl_meaning.proofs.VisitLemmas.{IsHere, clean_of}
 use Rattle.meaning_ranks.specs.Ranked.{AreRankedItems, IsOfRank}
 use Rattle.zpl_lowering.specs.Where.{Where}
-use Rattle.lowering_runs.specs.Seen.{Spot}
+use Rattle.served_places.specs.of_lowering_runs.Seen.{Spot}
 use Rattle.operator_runs.specs.Served.{ArePrintedOperated, IsPrintedOperated}
 use Rattle.served_places.specs.Told.{place_of}
 use Rattle.served_places.proofs.ToldLemmas.{or_false}

@@ -40,22 +40,22 @@ use Rattle.meaning_ranks.proofs.RegionLemmas.{reach_fits}
 use Rattle.node_form.specs.declared.tables.Tables.{Tables}
 use Rattle.node_form.specs.Fits.{IsRank}
 use Rattle.zpl_lowering.specs.Where.{Stored, Slotted, Where, is_flood, flood_of}
-use Rattle.array_runs.specs.Reads.{IsShift}
-use Rattle.array_runs.specs.Floods.{three_floods, IsReadableAs, IsReadableMaskAs}
-use Rattle.prefix_runs.specs.Opens.{IsGiven, IsGivenRegion}
-use Rattle.prefix_runs.proofs.ShapeLemmas.{is_region}
+use Rattle.point_runs.specs.of_array_runs.Reads.{IsShift}
+use Rattle.point_runs.specs.of_array_runs.Floods.{three_floods, IsReadableAs, IsReadableMaskAs}
+use Rattle.served_places.specs.of_prefix_runs.Opens.{IsGiven, IsGivenRegion}
+use Rattle.served_places.proofs.of_prefix_runs.ShapeLemmas.{is_region}
 use Rattle.served_places.specs.Told.{IsMaskTold, IsStoredOf}
 use Rattle.served_places.specs.Given.{KnowsGiven}
 use Rattle.served_places.proofs.SlotLemmas.{declared_given}
-use Rattle.lowering_fits.specs.Reach.{IsGivenBox, IsStoredAs, FitNames}
-use Rattle.lowering_fits.specs.Lowerings.{AllRanks, region_rank}
-use Rattle.lowering_fits.specs.Storages.{AllBoxed, IsStorage, AllKept}
-use Rattle.lowering_fits.proofs.VectorLemmas.{VectorBy}
-use Rattle.lowering_fits.proofs.KnownLemmas.{IsThreeBy}
-use Rattle.lowering_fits.proofs.KeptLemmas.{Grows}
-use Rattle.lowering_fits.proofs.ScopeLemmas.{dirs_by, box_of, found_of}
-use Rattle.lowering_fits.proofs.RegionRankLemmas.{regions_ranked}
-use Rattle.lowering_fits.proofs.DeclaredLemmas.{own_kinds, ranks_of}
+use Rattle.lowered_flat.specs.of_lowering_fits.Reach.{IsGivenBox, IsStoredAs, FitNames}
+use Rattle.lowered_flat.specs.of_lowering_fits.Lowerings.{AllRanks, region_rank}
+use Rattle.lowered_flat.specs.of_lowering_fits.Storages.{AllBoxed, IsStorage, AllKept}
+use Rattle.lowered_flat.proofs.of_lowering_fits.VectorLemmas.{VectorBy}
+use Rattle.lowered_flat.proofs.of_lowering_fits.KnownLemmas.{IsThreeBy}
+use Rattle.lowered_flat.proofs.of_lowering_fits.KeptLemmas.{Grows}
+use Rattle.lowered_flat.proofs.of_lowering_fits.ScopeLemmas.{dirs_by, box_of, found_of}
+use Rattle.lowered_flat.proofs.of_lowering_fits.RegionRankLemmas.{regions_ranked}
+use Rattle.lowered_flat.proofs.of_lowering_fits.DeclaredLemmas.{own_kinds, ranks_of}
 
 -- ---- flood dimensions
 

@@ -32,26 +32,26 @@ use Rattle.node_form.specs.declared.tables.Tables.{Tables}
 use Rattle.zpl_lowering.specs.Where.{Stored, Where}
 use Rattle.zpl_lowering.specs.Statement as low
 use Rattle.zpl_lowering.specs.Statement.{given_to}
-use Rattle.lowering_runs.specs.Seen.{Spot, seen_thing}
-use Rattle.lowering_runs.specs.Goes.{World, Goes}
-use Rattle.lowering_runs.specs.Called.{world_at}
-use Rattle.lowering_runs.proofs.SuitLemmas.{either_goes, leaf_goes}
-use Rattle.call_runs.specs.Leaf.{IsAnsweredBy}
-use Rattle.call_runs.specs.Taken.{AreCallActuals, IsInvoked}
+use Rattle.served_places.specs.of_lowering_runs.Seen.{Spot, seen_thing}
+use Rattle.served_places.specs.of_lowering_runs.Goes.{World, Goes}
+use Rattle.served_places.specs.of_lowering_runs.Called.{world_at}
+use Rattle.served_places.proofs.of_lowering_runs.SuitLemmas.{either_goes, leaf_goes}
+use Rattle.operator_runs.specs.of_call_runs.Leaf.{IsAnsweredBy}
+use Rattle.operator_runs.specs.of_call_runs.Taken.{AreCallActuals, IsInvoked}
 use Rattle.operator_runs.specs.Served.{OperatedLeaf, OperatedValue}
 use Rattle.operator_runs.proofs.LeafLemmas.{operated_leaves}
-use Rattle.border_runs.specs.Bordered.{BorderLeaf}
-use Rattle.border_runs.proofs.BorderLemmas.{border_leaves}
+use Rattle.operator_runs.specs.of_border_runs.Bordered.{BorderLeaf}
+use Rattle.operator_runs.proofs.of_border_runs.BorderLemmas.{border_leaves}
 use Rattle.point_runs.specs.Shattered.{SplitLeaf}
 use Rattle.point_runs.proofs.SplitLemmas.{split_leaves}
 use Rattle.served_places.specs.Told.{IsSeenFrom, place_of}
-use Rattle.lowering_fits.specs.Reach.{FitNames}
-use Rattle.lowering_fits.specs.Storages.{IsHomeIn}
-use Rattle.lowering_fits.proofs.KeptLemmas.{AreGivenOf}
-use Rattle.lowering_fits.proofs.MadeFrameLemmas.{as_many}
+use Rattle.lowered_flat.specs.of_lowering_fits.Reach.{FitNames}
+use Rattle.lowered_flat.specs.of_lowering_fits.Storages.{IsHomeIn}
+use Rattle.lowered_flat.proofs.of_lowering_fits.KeptLemmas.{AreGivenOf}
+use Rattle.lowered_flat.proofs.of_lowering_fits.MadeFrameLemmas.{as_many}
 use Rattle.lowered_flat.proofs.GivenLemmas.{givens_told}
 use Rattle.lowered_flat.proofs.ToldLemmas.{handed_told, reach_more}
-use Rattle.lowering_fits.proofs.ReachLemmas.{givens_of}
+use Rattle.lowered_flat.proofs.of_lowering_fits.ReachLemmas.{givens_of}
 use Rattle.shown_programs.specs.Text.{AreCallTexts, IsAskedText, IsCallForm, IsLeafForm}
 use Rattle.shown_programs.proofs.CallLemmas.{setup, text_of, IsCalledFrom, IsCalledBy, CallLeaf, call_leaves}
 use Rattle.shown_programs.proofs.ActualLemmas.{actuals_suit}

@@ -6,7 +6,7 @@ use Rattle.std.proofs.lemmas.List.{length-map}
 use Rattle.std.specs.Prelude.{slice_get, slice_index_or}
 use Rattle.zpl_nums.specs.Integer.{IsInteger}
 use Rattle.row_runs.specs.Straight.{Every}
-use Rattle.lowering_runs.proofs.EntryLemmas.{zeros_integers}
+use Rattle.served_places.proofs.of_lowering_runs.EntryLemmas.{zeros_integers}
 use Rattle.std.proofs.lemmas.Bool.{cases_eq}
 use Rattle.zpl_nums.proofs.IntegerLemmas.{IsInteger-truth}
 use Rattle.zpl_region.specs.declared.regions.Region.{Region}
@@ -38,20 +38,20 @@ use Rattle.zpl_lowering.specs.Lowered.{Lowered, behind, rows_alone}
 use Rattle.zpl_lowering.specs.Program as low
 use Rattle.zpl_lowering.specs.Program.{Framed, Entry}
 use Rattle.zpl_lowering.specs.Tables.{stored_row}
-use Rattle.lowering_runs.specs.Seen.{scalar_in, array_in, Spot, At, seen_spot, numbered}
-use Rattle.lowering_runs.specs.Run.{straight, step, does}
-use Rattle.lowering_runs.specs.Agrees.{Agrees}
-use Rattle.lowering_runs.specs.Stands.{Rises, array_numbers, IsBefore, HasRoom, IsStored, IsSound, Keeps}
-use Rattle.lowering_runs.specs.Frames.{seen_frame}
-use Rattle.lowering_runs.proofs.FitLemmas.{room_coded, room_rest}
-use Rattle.lowering_runs.proofs.NumberLemmas.{rises_le, same_spots, get_set_same, get_set_other}
-use Rattle.lowering_runs.proofs.RowLemmas.{set, set_to, set_step, set_sound, settled_act}
-use Rattle.lowering_runs.proofs.FrameLemmas.{scalar_frame}
-use Rattle.array_puts.specs.Put.{with_array_in}
-use Rattle.array_runs.proofs.StoredLemmas.{index_of_found, zip_at}
-use Rattle.array_runs.proofs.LikeLemmas.{zip_new, index_is, index_if}
-use Rattle.lowering_fits.specs.Whole.{FitsVars, AllVars, local_frame, name_frames, local_frames}
-use Rattle.lowering_fits.proofs.ArrayLemmas.{row_storage, row_three}
+use Rattle.served_places.specs.of_lowering_runs.Seen.{scalar_in, array_in, Spot, At, seen_spot, numbered}
+use Rattle.served_places.specs.of_lowering_runs.Run.{straight, step, does}
+use Rattle.served_places.specs.of_lowering_runs.Agrees.{Agrees}
+use Rattle.served_places.specs.of_lowering_runs.Stands.{Rises, array_numbers, IsBefore, HasRoom, IsStored, IsSound, Keeps}
+use Rattle.served_places.specs.of_lowering_runs.Frames.{seen_frame}
+use Rattle.served_places.proofs.of_lowering_runs.FitLemmas.{room_coded, room_rest}
+use Rattle.served_places.proofs.of_lowering_runs.NumberLemmas.{rises_le, same_spots, get_set_same, get_set_other}
+use Rattle.served_places.proofs.of_lowering_runs.RowLemmas.{set, set_to, set_step, set_sound, settled_act}
+use Rattle.served_places.proofs.of_lowering_runs.FrameLemmas.{scalar_frame}
+use Rattle.served_places.specs.of_array_puts.Put.{with_array_in}
+use Rattle.point_runs.proofs.of_array_runs.StoredLemmas.{index_of_found, zip_at}
+use Rattle.point_runs.proofs.of_array_runs.LikeLemmas.{zip_new, index_is, index_if}
+use Rattle.lowered_flat.specs.of_lowering_fits.Whole.{FitsVars, AllVars, local_frame, name_frames, local_frames}
+use Rattle.lowered_flat.proofs.of_lowering_fits.ArrayLemmas.{row_storage, row_three}
 use Rattle.shown_programs.proofs.FrameLemmas.{Framing, framing_scalar, framing_array, array_frame}
 
 -- ---- what is free is clear already, where variables aren't cleared

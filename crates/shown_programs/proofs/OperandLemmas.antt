@@ -28,13 +28,13 @@ use Rattle.meaning_ranks.specs.Ranked.{AreOfRank, GoesAlong, IsInnerOf, IsOfRank
 use Rattle.meaning_ranks.proofs.CurrentLemmas.{region_first, region_told}
 use Rattle.zpl_lowering.specs.Where.{Slotted, Stored, Where, slotted_at}
 use Rattle.zpl_lowering.specs.Slate.{opened_source, source_of, source_rank, under_source}
-use Rattle.lowering_runs.specs.Seen.{Spot, seen_thing}
-use Rattle.array_runs.specs.Floods.{IsElementwiseAs}
-use Rattle.prefix_runs.specs.Opens.{Opens}
+use Rattle.served_places.specs.of_lowering_runs.Seen.{Spot, seen_thing}
+use Rattle.point_runs.specs.of_array_runs.Floods.{IsElementwiseAs}
+use Rattle.served_places.specs.of_prefix_runs.Opens.{Opens}
 use Rattle.operator_runs.specs.Meant.{IsAlong}
 use Rattle.operator_runs.specs.Operated.{AreIndices, HaveNoFlood, IsFoldedUnder, IsOperated, IsPlainSource, IsRemapped, IsUnderSource, OpensSource}
-use Rattle.lowering_fits.specs.Reach.{FitNames}
-use Rattle.lowering_fits.specs.Storages.{AllKept}
+use Rattle.lowered_flat.specs.of_lowering_fits.Reach.{FitNames}
+use Rattle.lowered_flat.specs.of_lowering_fits.Storages.{AllKept}
 use Rattle.served_places.specs.Told.{AreFree, IsPlainExpr, IsSeenFrom, IsStoredOf, IsTold, place_of, reach_told}
 use Rattle.served_places.specs.Given.{IsSound, KnowsGiven}
 use Rattle.served_places.proofs.GivenLemmas.{opens}

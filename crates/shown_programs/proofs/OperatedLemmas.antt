@@ -31,8 +31,8 @@ use Rattle.zpl_meaning.proofs.VisitLemmas.{Laws, IsHere, clean_of, Inside, InStm
 use Rattle.meaning_ranks.specs.Ranked.{IsOfRank, IsRankedAssign, IsRankedStmt, IsRankedValue, TakesRank}
 use Rattle.meaning_ranks.proofs.RankLemmas.{zero_or_same}
 use Rattle.zpl_lowering.specs.Where.{Where, slotted_at}
-use Rattle.lowering_runs.specs.Seen.{Spot, seen_thing}
-use Rattle.array_runs.specs.Floods.{IsArrayServed}
+use Rattle.served_places.specs.of_lowering_runs.Seen.{Spot, seen_thing}
+use Rattle.point_runs.specs.of_array_runs.Floods.{IsArrayServed}
 use Rattle.operator_runs.specs.Operated.{IsOperated}
 use Rattle.operator_runs.specs.Served.{ArePrintedOperated, IsArrayOperated, IsScalarOperated, OperatedLeaf}
 use Rattle.served_places.specs.Told.{place_of, reach_told}

@@ -33,11 +33,11 @@ use Rattle.meaning_ranks.proofs.CurrentLemmas.{region_told, region_first}
 use Rattle.meaning_ranks.proofs.PlaceLemmas.{IsAt, behind, inside_at, part_at}
 use Rattle.zpl_lowering.specs.Where.{Where}
 use Rattle.zpl_lowering.specs.Statement as low
-use Rattle.lowering_runs.specs.Seen.{Spot}
-use Rattle.lowering_runs.specs.Suits.{IsServedHeadBy, SuitsStmtBy, SuitAllBy, SuitsFormBy, SuitArmsBy, SuitsElseBy}
-use Rattle.lowering_runs.proofs.StatementLemmas.{false_choice, contains_first, contains_later}
+use Rattle.served_places.specs.of_lowering_runs.Seen.{Spot}
+use Rattle.served_places.specs.of_lowering_runs.Suits.{IsServedHeadBy, SuitsStmtBy, SuitAllBy, SuitsFormBy, SuitArmsBy, SuitsElseBy}
+use Rattle.served_places.proofs.of_lowering_runs.StatementLemmas.{false_choice, contains_first, contains_later}
 use Rattle.operator_runs.specs.Served.{OperatedValue}
-use Rattle.prefix_runs.specs.Under.{opened_at, over_of, mean_under, IsUnder}
+use Rattle.served_places.specs.of_prefix_runs.Under.{opened_at, over_of, mean_under, IsUnder}
 use Rattle.served_places.specs.Told.{IsSeenFrom, AreFree, place_of}
 use Rattle.served_places.proofs.GivenLemmas.{prefix_opens}
 use Rattle.served_places.proofs.PrefixLemmas.{under_told}

@@ -21,8 +21,8 @@ use Rattle.zpl_binding.specs.Vectors.{three_components, vector_of}
 use Rattle.zpl_meaning.specs.Given as mean
 use Rattle.zpl_meaning.proofs.DepthLemmas.{Each, each_left, each_right, each_from}
 use Rattle.meaning_runs.specs.Computed.{HasVectors, IsComputedAt}
-use Rattle.prefix_runs.specs.Opens.{AreGivenPosts}
-use Rattle.lowering_fits.proofs.MadeCallLemmas.{IsGood}
+use Rattle.served_places.specs.of_prefix_runs.Opens.{AreGivenPosts}
+use Rattle.lowered_flat.proofs.of_lowering_fits.MadeCallLemmas.{IsGood}
 use Rattle.lowered_flat.proofs.ToldLemmas.{call_there, read_there}
 use Rattle.shown_programs.proofs.KnownLemmas.{given_is}
 use Rattle.zpl_meaning.specs.Statement.{step_expr}

@@ -35,21 +35,21 @@ use Rattle.zpl_lowering.specs.Lowered.{behind}
 use Rattle.zpl_lowering.specs.Statement.{Calling}
 use Rattle.zpl_lowering.specs.Program as low
 use Rattle.zpl_lowering.specs.Tables.{rows_of, flat_tables}
-use Rattle.lowering_runs.specs.Seen.{Spot, seen_store, numbered}
-use Rattle.lowering_runs.specs.Run.{does}
-use Rattle.lowering_runs.specs.Agrees.{Agrees}
-use Rattle.lowering_runs.specs.Shown.{Shows}
-use Rattle.lowering_runs.specs.Stands.{AreKnown, Stands, HasRoom, IsLike, IsHeld}
-use Rattle.lowering_runs.proofs.AgreeLemmas.{alike_agrees}
-use Rattle.lowering_runs.proofs.FitLemmas.{itself, keeps_all}
-use Rattle.lowering_runs.proofs.EntryLemmas.{spots_from, spots_numbered, spots_rise, spots_length, spots_names, spots_zero}
-use Rattle.lowering_runs.proofs.StartLemmas.{many_declared, globals_stored, IsBegun, shown_by}
-use Rattle.lowering_fits.specs.Declarations.{FitsProgram}
-use Rattle.lowering_fits.specs.Whole.{IsNumbered}
-use Rattle.lowering_fits.proofs.KeptLemmas.{AreGivenOf}
-use Rattle.lowering_fits.proofs.GlobalsLemmas.{globals_fit}
-use Rattle.lowering_fits.proofs.ProgramFitLemmas.{AllBoxes, decls_boxed, boxes_kept}
-use Rattle.lowering_fits.proofs.MadeWholeLemmas.{entry_is_bare}
+use Rattle.served_places.specs.of_lowering_runs.Seen.{Spot, seen_store, numbered}
+use Rattle.served_places.specs.of_lowering_runs.Run.{does}
+use Rattle.served_places.specs.of_lowering_runs.Agrees.{Agrees}
+use Rattle.served_places.specs.of_lowering_runs.Shown.{Shows}
+use Rattle.served_places.specs.of_lowering_runs.Stands.{AreKnown, Stands, HasRoom, IsLike, IsHeld}
+use Rattle.served_places.proofs.of_lowering_runs.AgreeLemmas.{alike_agrees}
+use Rattle.served_places.proofs.of_lowering_runs.FitLemmas.{itself, keeps_all}
+use Rattle.served_places.proofs.of_lowering_runs.EntryLemmas.{spots_from, spots_numbered, spots_rise, spots_length, spots_names, spots_zero}
+use Rattle.served_places.proofs.of_lowering_runs.StartLemmas.{many_declared, globals_stored, IsBegun, shown_by}
+use Rattle.lowered_flat.specs.of_lowering_fits.Declarations.{FitsProgram}
+use Rattle.lowered_flat.specs.of_lowering_fits.Whole.{IsNumbered}
+use Rattle.lowered_flat.proofs.of_lowering_fits.KeptLemmas.{AreGivenOf}
+use Rattle.lowered_flat.proofs.of_lowering_fits.GlobalsLemmas.{globals_fit}
+use Rattle.lowered_flat.proofs.of_lowering_fits.ProgramFitLemmas.{AllBoxes, decls_boxed, boxes_kept}
+use Rattle.lowered_flat.proofs.of_lowering_fits.MadeWholeLemmas.{entry_is_bare}
 use Rattle.lowered_flat.proofs.CalledLemmas.{AreGiven}
 use Rattle.shown_programs.specs.Text.{IsRoutine, IsShownCall, IsShownProgram, IsLeafForm}
 use Rattle.shown_programs.proofs.FrameLemmas.{apart_in}

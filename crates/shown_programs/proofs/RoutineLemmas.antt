@@ -36,45 +36,45 @@ use Rattle.zpl_lowering.specs.Lowered.{Lowered, behind}
 use Rattle.zpl_lowering.specs.Statement.{Given, Valued, Copied, Referring, Calling, lowered}
 use Rattle.zpl_lowering.specs.Program as low
 use Rattle.zpl_lowering.specs.Program.{Framed, Entry as CallEntry}
-use Rattle.lowering_runs.specs.Seen.{Spot, Answer, Sight, seen_place, seen_store, seen_names, seen_thing, seen_over, seen_currents, numbered, slot_in}
-use Rattle.lowering_runs.specs.Run.{does}
-use Rattle.lowering_runs.specs.Agrees.{Agrees}
-use Rattle.lowering_runs.specs.Stands.{Misses, IsBefore, array_numbers, AreKnown, AreDeclared, Stands, HasRoom, IsSound, Keeps, IsLike, IsHeld}
-use Rattle.lowering_runs.specs.Frames.{seen_frame}
-use Rattle.call_runs.specs.Copied.{copy_at}
-use Rattle.call_runs.specs.Answered.{CallsAnswer, HasAnswered, HasReturned}
-use Rattle.call_runs.specs.Taken.{AllGiven, CallsGo}
-use Rattle.call_runs.proofs.AnswerLemmas.{returned_store}
-use Rattle.call_runs.proofs.EndLemmas.{body_returns}
-use Rattle.lowering_runs.specs.Goes.{World, TestsGo}
-use Rattle.lowering_runs.specs.Called.{calling_at, called_at, world_at}
-use Rattle.lowering_runs.proofs.AgreeLemmas.{stored_agrees}
-use Rattle.lowering_runs.proofs.ControlLemmas.{}
-use Rattle.lowering_runs.proofs.FitLemmas.{all_taken_on, currents_kept, keeps_all, held_on, room_inside}
-use Rattle.lowering_runs.proofs.FrameLemmas.{map_append, numbered_append, names_below, known_both, known_more, misses_more}
-use Rattle.lowering_runs.proofs.NumberLemmas.{rises_on}
-use Rattle.lowering_runs.proofs.SuitLemmas.{LeafGoes}
-use Rattle.lowering_runs.proofs.ValueLemmas.{thing_seen}
+use Rattle.served_places.specs.of_lowering_runs.Seen.{Spot, Answer, Sight, seen_place, seen_store, seen_names, seen_thing, seen_over, seen_currents, numbered, slot_in}
+use Rattle.served_places.specs.of_lowering_runs.Run.{does}
+use Rattle.served_places.specs.of_lowering_runs.Agrees.{Agrees}
+use Rattle.served_places.specs.of_lowering_runs.Stands.{Misses, IsBefore, array_numbers, AreKnown, AreDeclared, Stands, HasRoom, IsSound, Keeps, IsLike, IsHeld}
+use Rattle.served_places.specs.of_lowering_runs.Frames.{seen_frame}
+use Rattle.operator_runs.specs.of_call_runs.Copied.{copy_at}
+use Rattle.operator_runs.specs.of_call_runs.Answered.{CallsAnswer, HasAnswered, HasReturned}
+use Rattle.operator_runs.specs.of_call_runs.Taken.{AllGiven, CallsGo}
+use Rattle.operator_runs.proofs.of_call_runs.AnswerLemmas.{returned_store}
+use Rattle.operator_runs.proofs.of_call_runs.EndLemmas.{body_returns}
+use Rattle.served_places.specs.of_lowering_runs.Goes.{World, TestsGo}
+use Rattle.served_places.specs.of_lowering_runs.Called.{calling_at, called_at, world_at}
+use Rattle.served_places.proofs.of_lowering_runs.AgreeLemmas.{stored_agrees}
+use Rattle.served_places.proofs.of_lowering_runs.ControlLemmas.{}
+use Rattle.served_places.proofs.of_lowering_runs.FitLemmas.{all_taken_on, currents_kept, keeps_all, held_on, room_inside}
+use Rattle.served_places.proofs.of_lowering_runs.FrameLemmas.{map_append, numbered_append, names_below, known_both, known_more, misses_more}
+use Rattle.served_places.proofs.of_lowering_runs.NumberLemmas.{rises_on}
+use Rattle.served_places.proofs.of_lowering_runs.SuitLemmas.{LeafGoes}
+use Rattle.served_places.proofs.of_lowering_runs.ValueLemmas.{thing_seen}
 use Rattle.operator_runs.specs.Served.{OperatedValue}
 use Rattle.operator_runs.proofs.TestLemmas.{tests_go}
 use Rattle.operator_runs.proofs.ValueLemmas.{operated_values}
 use Rattle.operator_runs.proofs.ReturnLemmas.{return_goes}
-use Rattle.prefix_runs.specs.Under.{IsUnder}
-use Rattle.prefix_runs.proofs.PlainLemmas.{suited_agrees_by}
-use Rattle.lowering_runs.specs.Suits.{SuitsStmtBy}
+use Rattle.served_places.specs.of_prefix_runs.Under.{IsUnder}
+use Rattle.served_places.proofs.of_prefix_runs.PlainLemmas.{suited_agrees_by}
+use Rattle.served_places.specs.of_lowering_runs.Suits.{SuitsStmtBy}
 use Rattle.served_places.specs.Told.{IsSeenFrom, place_of}
 use Rattle.served_places.specs.Given.{KnowsGiven}
-use Rattle.array_runs.specs.Reads.{IsShift}
+use Rattle.point_runs.specs.of_array_runs.Reads.{IsShift}
 use Rattle.zpl_names.specs.Ranks.{dir_rank}
 use Rattle.zpl_tree.specs.Syntax.{Dir}
 use Rattle.zpl_meaning.specs.Regions.{vector_in}
-use Rattle.lowering_fits.specs.Storages.{IsStorage, AllKept}
-use Rattle.lowering_fits.specs.Declarations.{FitAllDeclared}
-use Rattle.lowering_fits.specs.Whole.{FitsVars, AllVars, body_frames, given_frames, local_frame, name_frames, local_frames}
-use Rattle.lowering_fits.proofs.KeptLemmas.{grows_none, HasKept, AreGivenOf, Nothing, formals_kept, locals_kept}
-use Rattle.lowering_fits.proofs.ReachLemmas.{names_fit, scalars_few}
-use Rattle.lowering_fits.proofs.CallsFitLemmas.{globals_grow}
-use Rattle.lowering_fits.proofs.ProgramFitLemmas.{vars_fit}
+use Rattle.lowered_flat.specs.of_lowering_fits.Storages.{IsStorage, AllKept}
+use Rattle.lowered_flat.specs.of_lowering_fits.Declarations.{FitAllDeclared}
+use Rattle.lowered_flat.specs.of_lowering_fits.Whole.{FitsVars, AllVars, body_frames, given_frames, local_frame, name_frames, local_frames}
+use Rattle.lowered_flat.proofs.of_lowering_fits.KeptLemmas.{grows_none, HasKept, AreGivenOf, Nothing, formals_kept, locals_kept}
+use Rattle.lowered_flat.proofs.of_lowering_fits.ReachLemmas.{names_fit, scalars_few}
+use Rattle.lowered_flat.proofs.of_lowering_fits.CallsFitLemmas.{globals_grow}
+use Rattle.lowered_flat.proofs.of_lowering_fits.ProgramFitLemmas.{vars_fit}
 use Rattle.zpl_region.specs.declared.regions.Region.{Region}
 use Rattle.zpl_region.specs.Tests.{is_within_limit}
 use Rattle.zpl_arrays.specs.Around.{copy_storage}

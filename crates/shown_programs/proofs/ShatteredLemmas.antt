@@ -27,8 +27,8 @@ use Rattle.meaning_ranks.specs.Ranked.{ArePointArmsOf, ArePointsOf, IsArrayOf, I
 use Rattle.zpl_lowering.specs.Where.{Slotted, Where, slotted_at}
 use Rattle.row_runs.specs.Straight.{Every}
 use Rattle.flat_form.proofs.WordLemmas.{every_append}
-use Rattle.lowering_runs.specs.Seen.{Spot, seen_thing}
-use Rattle.array_runs.specs.Floods.{IsReadableMaskAs}
+use Rattle.served_places.specs.of_lowering_runs.Seen.{Spot, seen_thing}
+use Rattle.point_runs.specs.of_array_runs.Floods.{IsReadableMaskAs}
 use Rattle.point_runs.specs.Shattered.{IsServedPart, IsSplit, IsWrittenAs, SplitLeaf}
 use Rattle.shown_programs.specs.Text.{IsPlainPart}
 use Rattle.served_places.specs.Told.{IsPlainExpr, IsSeenFrom, IsTold, place_of, reach_told}

@@ -8,7 +8,7 @@ use Rattle.zpl_names.specs.Reached.{calls_in}
 use Rattle.zpl_binding.specs.Regions.{Known}
 use Rattle.zpl_binding.specs.Formals.{around_reads}
 use Rattle.zpl_meaning.specs.Store.{Environment}
-use Rattle.prefix_runs.specs.Opens.{AreGivenPosts}
+use Rattle.served_places.specs.of_prefix_runs.Opens.{AreGivenPosts}
 use Rattle.served_places.specs.Given.{IsSound}
 use Rattle.shown_programs.specs.Operators.{AreOperatedExprs, HasCopyWithin, IsOperatedExpr}
 use Rattle.shown_programs.specs.Text.{AreOperatedIndices, HasSmallInner, IsOperatedText}

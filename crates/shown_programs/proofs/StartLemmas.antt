@@ -21,13 +21,13 @@ use Rattle.grid_meaning.specs.Room.{zeros_at}
 use Rattle.zpl_lowering.specs.Where.{Stored}
 use Rattle.zpl_lowering.specs.Program as low
 use Rattle.zpl_lowering.specs.Tables.{stored_row}
-use Rattle.lowering_runs.specs.Seen.{array_in}
-use Rattle.lowering_runs.specs.Stands.{Rises, AreKnown, array_numbers, RowsAt, AreStored}
-use Rattle.lowering_runs.proofs.EntryLemmas.{AreZero}
-use Rattle.lowering_runs.proofs.FrameLemmas.{known_more, known_both}
-use Rattle.array_runs.proofs.StoredLemmas.{index_of_found}
-use Rattle.lowering_fits.proofs.ProgramFitLemmas.{AllBoxes}
-use Rattle.lowering_fits.proofs.ArrayLemmas.{row_storage, row_three}
+use Rattle.served_places.specs.of_lowering_runs.Seen.{array_in}
+use Rattle.served_places.specs.of_lowering_runs.Stands.{Rises, AreKnown, array_numbers, RowsAt, AreStored}
+use Rattle.served_places.proofs.of_lowering_runs.EntryLemmas.{AreZero}
+use Rattle.served_places.proofs.of_lowering_runs.FrameLemmas.{known_more, known_both}
+use Rattle.point_runs.proofs.of_array_runs.StoredLemmas.{index_of_found}
+use Rattle.lowered_flat.proofs.of_lowering_fits.ProgramFitLemmas.{AllBoxes}
+use Rattle.lowered_flat.proofs.of_lowering_fits.ArrayLemmas.{row_storage, row_three}
 use Rattle.shown_programs.proofs.FrameLemmas.{arrays_more}
 
 -- ---- global variables are 0

@@ -20,10 +20,10 @@ use Rattle.zpl_meaning.specs.Store.{Thing, Scalar, ArrayAt, Fixed, thing_of}
 use Rattle.meaning_ranks.specs.Shaped.{AreFloods}
 use Rattle.meaning_ranks.specs.Shaped as shaped
 use Rattle.zpl_lowering.specs.Where.{Slotted, Stored, Where, is_flood}
-use Rattle.array_runs.specs.Floods.{CoverFloods, IsElementAs, IsReadableAs, slot_floods}
-use Rattle.array_runs.specs.Reads.{Covers, EachCovers, IsShift}
-use Rattle.lowering_fits.specs.Reach.{FitNames, FitsName}
-use Rattle.lowering_fits.specs.Storages.{AllBoxed, IsHomeIn, IsStorage}
+use Rattle.point_runs.specs.of_array_runs.Floods.{CoverFloods, IsElementAs, IsReadableAs, slot_floods}
+use Rattle.point_runs.specs.of_array_runs.Reads.{Covers, EachCovers, IsShift}
+use Rattle.lowered_flat.specs.of_lowering_fits.Reach.{FitNames, FitsName}
+use Rattle.lowered_flat.specs.of_lowering_fits.Storages.{AllBoxed, IsHomeIn, IsStorage}
 use Rattle.operator_runs.specs.Operated.{IsWrapped}
 use Rattle.shown_programs.specs.Operators.{HasCopyWithin}
 use Rattle.shown_programs.proofs.KnownLemmas.{same_flood, storage_region}

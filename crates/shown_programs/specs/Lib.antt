@@ -1,2 +1,3 @@
 pub mod Text
 pub mod Operators
+pub use Rattle.served_places.specs as of_served_places

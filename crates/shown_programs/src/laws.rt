@@ -16,13 +16,13 @@ ghost use Rattle.row_runs.specs.Run.{Wrong};
 ghost use Rattle.flat_form.specs.Act.{flat_run};
 ghost use Rattle.zpl_lowering.specs.Tables.{flat_tables};
 ghost use Rattle.lowered_flat.specs.Apart.{NamesStandApart};
-ghost use Rattle.lowering_runs.specs.Shown.{Shows};
-ghost use Rattle.array_runs.specs.Reads.{IsShift};
+ghost use Rattle.served_places.specs.of_lowering_runs.Shown.{Shows};
+ghost use Rattle.point_runs.specs.of_array_runs.Reads.{IsShift};
 ghost use Rattle.served_places.specs.Given.{KnowsGiven};
 ghost use Rattle.shown_programs.specs.Text.{IsShownProgram};
 
+use lowered_flat::lowering_fits::all_code_is_numbered;
 use lowered_flat::{declarations_fit, lowered_rows_are_inline};
-use lowering_fits::all_code_is_numbered;
 use meaning_ranks::ranks_agree;
 use meaning_runs::regions_have_been_computed;
 use zpl_meaning::{no_stand_in_is_met, what_is_computed_has_a_value};

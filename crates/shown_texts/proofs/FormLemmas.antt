@@ -17,8 +17,8 @@ use Rattle.flat_form.proofs.WordLemmas.{every_append}
 use Rattle.zpl_meaning.specs.Calls.{formals_in}
 use Rattle.zpl_meaning.specs.Statement.{step_expr}
 use Rattle.zpl_binding.specs.Settings.{Setting}
-use Rattle.served_places.specs.Told.{IsPlainExpr}
-use Rattle.served_places.specs.Given.{HasSmall, HasSmallDim, HaveSmallDims}
+use Rattle.shown_programs.specs.of_served_places.Told.{IsPlainExpr}
+use Rattle.shown_programs.specs.of_served_places.Given.{HasSmall, HasSmallDim, HaveSmallDims}
 use Rattle.shown_programs.specs.Text.{HasSmallInner, HaveSmallPrefixes, behind_prefixes, IsReturnText, IsShownStmt, AreShown, IsShownForm, AreShownArms, IsShownArm, IsShownElse, AreAnsweringTexts, IsAnsweringText, IsPlainPart, IsOperatedText, AreOperatedIndices, AreOperatedTexts, AreCallTexts, IsAskedText, IsLeafForm, IsShownRoutine, IsShownCall, IsShownProgram}
 use Rattle.shown_texts.specs.Numerals.{IsSmallExpr, AreSmallExprs, IsSmallInner, IsSmallDim, AreSmallDims, IsSmallPrefix, IsSmallStep, IsSmallItem, IsSmallStmt, AreSmallStmts, IsSmallForm, AreSmallArms, IsSmallArm, IsSmallElse, IsSmallProcedure, IsSmallDecl, HasSmallNumerals}
 use Rattle.shown_texts.specs.Forms.{HasPlainForm, HasOperatedForm, HaveOperatedIndices, HasPartForm, IsShatteredOr, HaveCallForms, HavePrintForms, HasAskingForm, HasAssignForm, HasStmtForm, HaveForms, HasForm, HaveArmForms, HasArmForm, HasElseForm, HasReturnForm, HaveAnswerForms, HasAnswerForm, HasRoutineForm, HasChainForms, HasShownForms}

@@ -18,6 +18,8 @@ ghost use Rattle.shown_programs.specs.Text.{IsShownProgram};
 ghost use Rattle.shown_texts.specs.Forms.{HasShownForms};
 ghost use Rattle.shown_texts.specs.Numerals.{HasSmallNumerals};
 
+pub use shown_programs;
+
 /// All numerals in the tree of a text are of 64 bits.
 pub fn numbers_are_small()
     ensures { (text : List ℕ) (tokens : List Token) (program : Program) → IsTokens text tokens →

@@ -7,14 +7,14 @@ use Rattle.zpl_tree.specs.declared.expressions.Expr.{Expr as CodeExpr}
 use Rattle.zpl_tree.specs.declared.expressions.ExprForm.{ExprForm}
 use Rattle.zpl_tree.specs.declared.expressions.ExprForm.TheVariants.{Number, Truth, Coord, Named, Shifted, Around, Remap', Call', Paren', Neg', Not', Abs', Pair', Reduce', Scan', Flood'}
 use Rattle.zpl_tree.specs.declared.names.Name.{Name as CodeName}
-use Rattle.zpl_names.specs.Kinds as kinds
+use Rattle.name_kinds.specs.of_zpl_names.Kinds as kinds
 use Rattle.name_kinds.specs.Seen.{formal_of}
 use Rattle.name_kinds.specs.declared.kinds.Formal.{Formal}
 use Rattle.site_faults.proofs.FindingLemmas.{drop-next, tells-append, tells-none}
-use Rattle.zpl_names.specs.Accepted as kind
-use Rattle.zpl_names.specs.Scope.{is_procedure, is_value}
-use Rattle.zpl_names.specs.Faults.{all_fit, at_if, call_places, fits, fixed_actual, fixed_actuals, formals_in, kind_at}
-use Rattle.zpl_names.specs.Sites.{AtCall, AtNamed, CallRole, AsStatement, AsValue, Elsewhere, Reach, call_of}
+use Rattle.name_kinds.specs.of_zpl_names.Accepted as kind
+use Rattle.name_kinds.specs.of_zpl_names.Scope.{is_procedure, is_value}
+use Rattle.name_kinds.specs.of_zpl_names.Faults.{all_fit, at_if, call_places, fits, fixed_actual, fixed_actuals, formals_in, kind_at}
+use Rattle.name_kinds.specs.of_zpl_names.Sites.{AtCall, AtNamed, CallRole, AsStatement, AsValue, Elsewhere, Reach, call_of}
 use Rattle.site_faults.specs.Findings.{State, after, region_told, tells, text_told, with_call}
 use Rattle.site_faults.specs.Misplaced.{is_misplaced}
 

@@ -6,8 +6,8 @@ use Rattle.zpl_tree.specs.Syntax.{at_of}
 use Rattle.zpl_tree.specs.View.{expr_of}
 use Rattle.zpl_tree.specs.declared.expressions.Expr.{Expr}
 use Rattle.zpl_tree.proofs.Views.{at_of-form}
-use Rattle.zpl_names.specs.Accepted.{FaultKind}
-use Rattle.zpl_names.specs.Faults.{at_if}
+use Rattle.name_kinds.specs.of_zpl_names.Accepted.{FaultKind}
+use Rattle.name_kinds.specs.of_zpl_names.Faults.{at_if}
 use Rattle.site_faults.specs.Findings.{State, kept, tells, told}
 
 pub tells-append : (kind : FaultKind) (one two : List ℕ) (state : State) →

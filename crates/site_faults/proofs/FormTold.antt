@@ -2,8 +2,8 @@
 use Rattle.std.proofs.Common.{◌≡◌, ℕ, ◌+◌, ◌-◌, ◌<◌, ◌≤◌, ◌==◌, length, get_or, drop, slice_get, option_map, true≢false, arith, eqb-true, Bool, true, false, not, ◌&&◌, ◌||◌, cond, Option, Some, None, List, [], ◌∷◌, ◌++◌, is_none, is_some, map, append-nil, append_assoc, refl, sym, ◌∙◌, ap, ap₂}
 use Rattle.std.specs.List.{flat_map, list_any}
 use Rattle.std.proofs.lemmas.List.{drop_all}
-use Rattle.zpl_nums.specs.declared.ends.Border.{Border as BorderKind}
-use Rattle.zpl_nums.specs.declared.operators.Op.{Op}
+use Rattle.name_kinds.specs.of_zpl_nums.declared.ends.Border.{Border as BorderKind}
+use Rattle.name_kinds.specs.of_zpl_nums.declared.operators.Op.{Op}
 use Rattle.zpl_tree.specs.Syntax.{Name, Expr, Exprs, ForHead, Prefix, Stmts, Arms, Item, Otherwise, Assign, Invoke, Block, If, While, Repeat, For, Border, Write, Return, at_of}
 use Rattle.zpl_tree.specs.Syntax.{Posts, RegionBase, Rexpr}
 use Rattle.zpl_tree.specs.View.{inner_of, mask_of, posts_of, pre_of, prefix_of}
@@ -11,14 +11,14 @@ use Rattle.zpl_tree.specs.declared.regions.Post.{Post as CodePost}
 use Rattle.zpl_tree.specs.declared.regions.Pre.{Pre as CodePre}
 use Rattle.zpl_tree.specs.declared.statements.Mask.{Mask as CodeMask}
 use Rattle.zpl_tree.specs.declared.statements.Prefix.{Prefix as CodePrefix}
-use Rattle.zpl_names.specs.Accepted as kind
-use Rattle.zpl_names.specs.Kinds.{Rank}
-use Rattle.zpl_names.specs.Ranks.{array_rank, first_rank, is_above_zero, ranks_clash}
-use Rattle.zpl_names.specs.Scope.{is_array, is_fixed, is_scalar, is_value}
-use Rattle.zpl_names.specs.Types.{is_elementwise, kind_base}
-use Rattle.zpl_names.specs.Faults as written
-use Rattle.zpl_names.specs.Faults.{assigned_operand, at_if, broken_arms, broken_test, ends_in_border, has_flood, has_prefix, is_border_region, is_other_target, is_under_mask, item_rank, kind_at, lacks_region, shape_at, unless_taken, wants_boolean}
-use Rattle.zpl_names.specs.Sites.{AtStmt, Reach, arms_rank, test_rank}
+use Rattle.name_kinds.specs.of_zpl_names.Accepted as kind
+use Rattle.name_kinds.specs.of_zpl_names.Kinds.{Rank}
+use Rattle.name_kinds.specs.of_zpl_names.Ranks.{array_rank, first_rank, is_above_zero, ranks_clash}
+use Rattle.name_kinds.specs.of_zpl_names.Scope.{is_array, is_fixed, is_scalar, is_value}
+use Rattle.name_kinds.specs.of_zpl_names.Types.{is_elementwise, kind_base}
+use Rattle.name_kinds.specs.of_zpl_names.Faults as written
+use Rattle.name_kinds.specs.of_zpl_names.Faults.{assigned_operand, at_if, broken_arms, broken_test, ends_in_border, has_flood, has_prefix, is_border_region, is_other_target, is_under_mask, item_rank, kind_at, lacks_region, shape_at, unless_taken, wants_boolean}
+use Rattle.name_kinds.specs.of_zpl_names.Sites.{AtStmt, Reach, arms_rank, test_rank}
 use Rattle.name_kinds.proofs.PartLemmas.{part-elementwise}
 use Rattle.site_faults.specs.Findings.{State, after, region_told, tells, text_told, where_reached}
 use Rattle.site_faults.specs.Flood.{is_flood_written}

@@ -7,3 +7,5 @@ pub mod RegionTold
 pub mod StatementTold
 pub mod WalkRules
 pub mod WholeLemmas
+pub use Rattle.name_kinds.proofs.of_zpl_names as of_zpl_names
+pub use Rattle.zpl_tree.proofs as of_zpl_tree

@@ -1,20 +1,20 @@
 -- What is told of the nodes of expressions.
 use Rattle.std.proofs.Common.{◌≡◌, ℕ, ℤ, ◌+◌, ◌<◌, ◌≤◌, length, get_or, drop, Bool, true, false, not, ◌&&◌, ◌||◌, cond, List, [], ◌++◌, Option, Some, refl, sym, ◌∙◌, ap, ap₂}
 use Rattle.std.proofs.lemmas.List.{drop_all}
-use Rattle.zpl_nums.specs.declared.operators.Op.{Op}
-use Rattle.zpl_nums.specs.declared.folds.Fold.{Fold}
-use Rattle.zpl_nums.specs.declared.folds.Fold.TheVariants as fold
+use Rattle.name_kinds.specs.of_zpl_nums.declared.operators.Op.{Op}
+use Rattle.name_kinds.specs.of_zpl_nums.declared.folds.Fold.{Fold}
+use Rattle.name_kinds.specs.of_zpl_nums.declared.folds.Fold.TheVariants as fold
 use Rattle.zpl_tree.specs.Syntax.{Name, Dir, Expr, Exprs, Inner, Coord, Named, Shifted, Around, Remap, Not, Pair, Reduce, Scan, Flood, NoBracket, Bracketed, at_of}
 use Rattle.zpl_tree.specs.View.{expr_of, exprs_of}
 use Rattle.zpl_tree.specs.declared.expressions.Expr.{Expr as CodeExpr}
-use Rattle.zpl_names.specs.Accepted as kind
-use Rattle.zpl_names.specs.Kinds.{Rank}
-use Rattle.zpl_names.specs.Ranks.{array_rank, array_shape, both_ranks, dir_rank, exprs_count, inner_rank, operand_rank, placed_rank, ranks_clash}
-use Rattle.zpl_names.specs.Scope.{Scope, is_array, is_value}
-use Rattle.zpl_names.specs.Shapes.{inner_shape}
-use Rattle.zpl_names.specs.Types.{fold_base, is_boolean, takes_booleans}
-use Rattle.zpl_names.specs.Faults.{at_if, dir_at, floods_at, has_flood, index_clashes, is_integer_in, is_other_count, is_past, kind_at, lacks_region, no_dimension, own_rank_in, shape_at, source_rank}
-use Rattle.zpl_names.specs.Sites.{Reach, AtExpr}
+use Rattle.name_kinds.specs.of_zpl_names.Accepted as kind
+use Rattle.name_kinds.specs.of_zpl_names.Kinds.{Rank}
+use Rattle.name_kinds.specs.of_zpl_names.Ranks.{array_rank, array_shape, both_ranks, dir_rank, exprs_count, inner_rank, operand_rank, placed_rank, ranks_clash}
+use Rattle.name_kinds.specs.of_zpl_names.Scope.{Scope, is_array, is_value}
+use Rattle.name_kinds.specs.of_zpl_names.Shapes.{inner_shape}
+use Rattle.name_kinds.specs.of_zpl_names.Types.{fold_base, is_boolean, takes_booleans}
+use Rattle.name_kinds.specs.of_zpl_names.Faults.{at_if, dir_at, floods_at, has_flood, index_clashes, is_integer_in, is_other_count, is_past, kind_at, lacks_region, no_dimension, own_rank_in, shape_at, source_rank}
+use Rattle.name_kinds.specs.of_zpl_names.Sites.{Reach, AtExpr}
 use Rattle.name_kinds.specs.Part.{part_of}
 use Rattle.name_kinds.proofs.PartLemmas.{part-own}
 use Rattle.name_kinds.proofs.RegionLemmas.{exprs_count-slice}

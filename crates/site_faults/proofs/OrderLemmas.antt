@@ -3,10 +3,10 @@ use Rattle.std.proofs.Common.{◌≡◌, ℕ, ◌+◌, ◌*◌, ◌<◌, Bool, t
 use Rattle.std.specs.List.{fold}
 use Rattle.std.specs.Prelude.{slice_index_or}
 use Rattle.std.proofs.lemmas.Bool.{ltb-true, ltb-false}
-use Rattle.zpl_names.specs.Accepted as kind
-use Rattle.zpl_names.specs.Accepted.{FaultKind}
-use Rattle.zpl_names.specs.Sites.{Site, CallSite, call_of}
-use Rattle.zpl_names.specs.Faults.{unknown_names, twice_named, unknown_types, type_clashes, rank_clashes, no_regions, flood_clashes, shatter_bodies, not_assignable, arguments, return_places, call_places, mask_places, masked_statements, border_forms, unknown_ranks}
+use Rattle.name_kinds.specs.of_zpl_names.Accepted as kind
+use Rattle.name_kinds.specs.of_zpl_names.Accepted.{FaultKind}
+use Rattle.name_kinds.specs.of_zpl_names.Sites.{Site, CallSite, call_of}
+use Rattle.name_kinds.specs.of_zpl_names.Faults.{unknown_names, twice_named, unknown_types, type_clashes, rank_clashes, no_regions, flood_clashes, shatter_bodies, not_assignable, arguments, return_places, call_places, mask_places, masked_statements, border_forms, unknown_ranks}
 use Rattle.site_faults.specs.Findings.{Found, State, after, earlier_of, kept, number_of, order_of, region_told, tells, text_told, told, where_reached, with_call}
 
 -- ---- kinds by their numbers

@@ -7,13 +7,13 @@ use Rattle.zpl_tree.specs.declared.expressions.Expr.{Expr as CodeExpr}
 use Rattle.zpl_tree.specs.declared.regions.DimText.{DimText as CodeDim}
 use Rattle.zpl_tree.specs.declared.regions.Pre.{Pre as CodePre}
 use Rattle.zpl_tree.specs.Syntax.{Name, NamedDir, Vector, Exprs, Inner, Rexpr, Dims, DimText, Blank, Star, One, Span, DimTexts, ThenDim, Mask, Posts, Pre, Prefix, RegionBase, NamedRegion, Ditto}
-use Rattle.zpl_names.specs.Accepted as kind
-use Rattle.zpl_names.specs.Kinds.{Rank}
-use Rattle.zpl_names.specs.Ranks.{array_rank, array_shape, at_most_three, dims_count, direction_rank, ditto_rank, is_zero, ranks_clash}
-use Rattle.zpl_names.specs.Scope.{is_array, is_direction}
-use Rattle.zpl_names.specs.Shapes.{inner_shape, prefix_rank}
-use Rattle.zpl_names.specs.Faults.{at_if, base_at, blanks, both_known, dim_at, fourth_dim, fourth_part, is_mask, kind_at, lacks_region, post_clashes, pre_clashes, reaches_beyond, region_rank_in, unknown_base, unless_taken}
-use Rattle.zpl_names.specs.Sites.{AtDir, AtMask, AtPosts, AtRegion, Reach}
+use Rattle.name_kinds.specs.of_zpl_names.Accepted as kind
+use Rattle.name_kinds.specs.of_zpl_names.Kinds.{Rank}
+use Rattle.name_kinds.specs.of_zpl_names.Ranks.{array_rank, array_shape, at_most_three, dims_count, direction_rank, ditto_rank, is_zero, ranks_clash}
+use Rattle.name_kinds.specs.of_zpl_names.Scope.{is_array, is_direction}
+use Rattle.name_kinds.specs.of_zpl_names.Shapes.{inner_shape, prefix_rank}
+use Rattle.name_kinds.specs.of_zpl_names.Faults.{at_if, base_at, blanks, both_known, dim_at, fourth_dim, fourth_part, is_mask, kind_at, lacks_region, post_clashes, pre_clashes, reaches_beyond, region_rank_in, unknown_base, unless_taken}
+use Rattle.name_kinds.specs.of_zpl_names.Sites.{AtDir, AtMask, AtPosts, AtRegion, Reach}
 use Rattle.site_faults.specs.Regions.{clashes_behind, is_blank, is_ditto}
 use Rattle.site_faults.proofs.FindingLemmas.{at_of-expr, drop-next, tells-append, tells-same}
 use Rattle.site_faults.specs.Findings.{State, after, region_told, tells, text_told, where_reached}

@@ -6,11 +6,11 @@ use Rattle.zpl_tree.specs.View.{arms_of, expr_of, prefix_of}
 use Rattle.zpl_tree.specs.declared.statements.Arm.{Arm, out-Arm}
 use Rattle.zpl_tree.specs.declared.statements.Prefix.{Prefix}
 use Rattle.zpl_tree.proofs.Views.{arm_of-parts}
-use Rattle.zpl_names.specs.Accepted as kind
-use Rattle.zpl_names.specs.Kinds.{Rank}
-use Rattle.zpl_names.specs.Ranks.{first_rank}
-use Rattle.zpl_names.specs.Faults.{at_if, broken_arms, broken_test, has_prefix}
-use Rattle.zpl_names.specs.Sites.{Reach, arms_rank, test_rank}
+use Rattle.name_kinds.specs.of_zpl_names.Accepted as kind
+use Rattle.name_kinds.specs.of_zpl_names.Kinds.{Rank}
+use Rattle.name_kinds.specs.of_zpl_names.Ranks.{first_rank}
+use Rattle.name_kinds.specs.of_zpl_names.Faults.{at_if, broken_arms, broken_test, has_prefix}
+use Rattle.name_kinds.specs.of_zpl_names.Sites.{Reach, arms_rank, test_rank}
 use Rattle.site_faults.specs.Findings.{State, tells}
 use Rattle.site_faults.proofs.FindingLemmas.{drop-next, tells-append, tells-none}
 

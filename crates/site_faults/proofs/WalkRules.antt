@@ -9,9 +9,9 @@ use Rattle.zpl_tree.specs.declared.expressions.Expr.{Expr as CodeExpr}
 use Rattle.zpl_tree.specs.declared.expressions.ExprForm.{ExprForm}
 use Rattle.zpl_tree.specs.declared.expressions.ExprForm.TheVariants as code
 use Rattle.zpl_tree.specs.declared.names.Name.{Name as CodeName}
-use Rattle.zpl_names.specs.Kinds.{Rank}
-use Rattle.zpl_names.specs.Ranks.{inner_rank, own_rank}
-use Rattle.zpl_names.specs.Sites.{Reach, Site, Actual, AtExpr, actuals_sites, call_of, expr_sites, over_source, region_sites, whole_sites}
+use Rattle.name_kinds.specs.of_zpl_names.Kinds.{Rank}
+use Rattle.name_kinds.specs.of_zpl_names.Ranks.{inner_rank, own_rank}
+use Rattle.name_kinds.specs.of_zpl_names.Sites.{Reach, Site, Actual, AtExpr, actuals_sites, call_of, expr_sites, over_source, region_sites, whole_sites}
 use Rattle.name_kinds.proofs.RegionLemmas.{few-dims}
 use Rattle.site_faults.specs.Findings.{State, after, region_told, tells, text_told}
 use Rattle.site_faults.proofs.FindingLemmas.{drop-next}

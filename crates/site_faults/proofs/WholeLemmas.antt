@@ -1,14 +1,14 @@
 -- Expressions that stand by themselves, by what is known of them.
 use Rattle.std.proofs.Common.{◌≡◌, Bool, true, ◌&&◌, Option, Some, None, refl, ◌∙◌, ap, ap₂}
-use Rattle.zpl_nums.specs.declared.operators.Op.{Op}
+use Rattle.name_kinds.specs.of_zpl_nums.declared.operators.Op.{Op}
 use Rattle.zpl_tree.specs.Syntax.{Expr, Base, Integer, Boolean, Other, at_of}
-use Rattle.zpl_names.specs.Accepted as kind
-use Rattle.zpl_names.specs.Kinds.{Rank}
-use Rattle.zpl_names.specs.Ranks.{is_open, lacks_rank, placed_rank, rank_of}
-use Rattle.zpl_names.specs.Scope.{Scope}
-use Rattle.zpl_names.specs.Types.{is_boolean, is_integer, type_of}
-use Rattle.zpl_names.specs.Faults.{assigns_integer, at_if, is_rankless, is_wrong_rank, is_wrong_type, own_rank_in, value_base, wants_boolean}
-use Rattle.zpl_names.specs.Sites.{Reach, Role, Bound, Component, Limit, Initial, Result, Test, Printed, Actual, Operand, Assigned, AtWhole, handed, whole_rank}
+use Rattle.name_kinds.specs.of_zpl_names.Accepted as kind
+use Rattle.name_kinds.specs.of_zpl_names.Kinds.{Rank}
+use Rattle.name_kinds.specs.of_zpl_names.Ranks.{is_open, lacks_rank, placed_rank, rank_of}
+use Rattle.name_kinds.specs.of_zpl_names.Scope.{Scope}
+use Rattle.name_kinds.specs.of_zpl_names.Types.{is_boolean, is_integer, type_of}
+use Rattle.name_kinds.specs.of_zpl_names.Faults.{assigns_integer, at_if, is_rankless, is_wrong_rank, is_wrong_type, own_rank_in, value_base, wants_boolean}
+use Rattle.name_kinds.specs.of_zpl_names.Sites.{Reach, Role, Bound, Component, Limit, Initial, Result, Test, Printed, Actual, Operand, Assigned, AtWhole, handed, whole_rank}
 use Rattle.name_kinds.specs.Part.{base_seen, part_of}
 use Rattle.name_kinds.proofs.PartLemmas.{part-base, part-open, part-own, part-parallel}
 use Rattle.site_faults.specs.Findings.{State, after, region_told, tells, text_told}

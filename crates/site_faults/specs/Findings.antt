@@ -1,9 +1,9 @@
 -- What a walk over sites finds: the first fault in the text, and the calls.
 use Rattle.std.specs.Prelude.{ℕ, ◌+◌, ◌*◌, Bool, true, false, nat_lt, if◌then◌else◌, fold, List, [], ◌∷◌, ◌++◌, Option, Some, None}
-use Rattle.zpl_names.specs.Sites.{Site, CallSite, call_of}
-use Rattle.zpl_names.specs.Faults.{unknown_names, twice_named, unknown_types, type_clashes, rank_clashes, no_regions, flood_clashes, shatter_bodies, not_assignable, arguments, return_places, call_places, mask_places, masked_statements, border_forms, unknown_ranks}
-use Rattle.zpl_names.specs.Accepted as kind
-use Rattle.zpl_names.specs.Accepted.{FaultKind}
+use Rattle.name_kinds.specs.of_zpl_names.Sites.{Site, CallSite, call_of}
+use Rattle.name_kinds.specs.of_zpl_names.Faults.{unknown_names, twice_named, unknown_types, type_clashes, rank_clashes, no_regions, flood_clashes, shatter_bodies, not_assignable, arguments, return_places, call_places, mask_places, masked_statements, border_forms, unknown_ranks}
+use Rattle.name_kinds.specs.of_zpl_names.Accepted as kind
+use Rattle.name_kinds.specs.of_zpl_names.Accepted.{FaultKind}
 
 -- ---- of two faults the first
 

@@ -1,9 +1,9 @@
 -- Arrays under the current region of their rank.
 use Rattle.std.specs.Prelude.{Bool, ◌||◌, Option}
-use Rattle.zpl_names.specs.Kinds.{Kind}
-use Rattle.zpl_names.specs.Ranks.{array_rank, array_shape}
-use Rattle.zpl_names.specs.Sites.{Reach}
-use Rattle.zpl_names.specs.Faults.{both_known, reaches_beyond, shape_at}
+use Rattle.name_kinds.specs.of_zpl_names.Kinds.{Kind}
+use Rattle.name_kinds.specs.of_zpl_names.Ranks.{array_rank, array_shape}
+use Rattle.name_kinds.specs.of_zpl_names.Sites.{Reach}
+use Rattle.name_kinds.specs.of_zpl_names.Faults.{both_known, reaches_beyond, shape_at}
 
 -- an array without a flood dimension is read under a region that has it
 abbrev pub is_flood_read : Reach → Option Kind → Bool

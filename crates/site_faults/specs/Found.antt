@@ -1,6 +1,6 @@
 -- Faults and calls that are found, as the definitions see them.
 use Rattle.std.specs.Prelude.{Option, Some, None}
-use Rattle.zpl_names.specs.Accepted as kind
+use Rattle.name_kinds.specs.of_zpl_names.Accepted as kind
 use Rattle.site_faults.specs.Findings as findings
 use Rattle.site_faults.specs.declared.findings.FaultKind.{FaultKind}
 use Rattle.site_faults.specs.declared.findings.FaultKind.TheVariants.{UnknownName, TwiceNamed, UnknownType, TypeClash, RankClash, NoRegion, FloodClash, ShatterBody, NotAssignable, Arguments, Recursion, ReturnPlace, CallPlace, MaskPlace, BorderForm, NoEntry, RankUnknown, DeepCalls}

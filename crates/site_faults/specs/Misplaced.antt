@@ -1,12 +1,12 @@
 -- Calls in wrong places, and actuals of value parameters.
 use Rattle.std.specs.Prelude.{Bool, true, not, ◌&&◌, Option}
 use Rattle.zpl_tree.specs.Syntax.{Base, Expr}
-use Rattle.zpl_names.specs.Kinds.{Kind}
-use Rattle.zpl_names.specs.Ranks.{is_above_zero}
-use Rattle.zpl_names.specs.Scope.{is_procedure}
-use Rattle.zpl_names.specs.Types.{is_boolean}
-use Rattle.zpl_names.specs.Faults.{answers, is_integer_in}
-use Rattle.zpl_names.specs.Sites.{Actual, CallRole, AsStatement, AsValue, Elsewhere, Reach, whole_rank}
+use Rattle.name_kinds.specs.of_zpl_names.Kinds.{Kind}
+use Rattle.name_kinds.specs.of_zpl_names.Ranks.{is_above_zero}
+use Rattle.name_kinds.specs.of_zpl_names.Scope.{is_procedure}
+use Rattle.name_kinds.specs.of_zpl_names.Types.{is_boolean}
+use Rattle.name_kinds.specs.of_zpl_names.Faults.{answers, is_integer_in}
+use Rattle.name_kinds.specs.of_zpl_names.Sites.{Actual, CallRole, AsStatement, AsValue, Elsewhere, Reach, whole_rank}
 
 abbrev pub is_misplaced : CallRole → Option Kind → Bool
 is_misplaced AsStatement kind = answers kind

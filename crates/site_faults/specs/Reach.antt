@@ -1,7 +1,7 @@
 -- What is in reach of a place, and what stands there, as the definitions of sites see it.
 use Rattle.std.specs.Option.{option_map}
 use Rattle.zpl_tree.specs.View.{base_type_of, exprs_of, name_of}
-use Rattle.zpl_names.specs.Sites as sites
+use Rattle.name_kinds.specs.of_zpl_names.Sites as sites
 use Rattle.name_kinds.specs.Reach.{scope_of}
 use Rattle.name_kinds.specs.Seen.{shapes_of}
 use Rattle.site_faults.specs.declared.reach.Reach.{Reach}

@@ -1,10 +1,10 @@
 -- The forms of dimensions and of regions, and the directions before a region.
 use Rattle.std.specs.Prelude.{ℕ, Bool, true, false, List, [], ◌∷◌, ◌++◌}
 use Rattle.zpl_tree.specs.Syntax.{DimText, Blank, Pre, RegionBase, NamedRegion, Ditto}
-use Rattle.zpl_names.specs.Kinds.{Rank}
-use Rattle.zpl_names.specs.Ranks.{direction_rank, ranks_clash}
-use Rattle.zpl_names.specs.Faults.{at_if, kind_at}
-use Rattle.zpl_names.specs.Sites.{Reach}
+use Rattle.name_kinds.specs.of_zpl_names.Kinds.{Rank}
+use Rattle.name_kinds.specs.of_zpl_names.Ranks.{direction_rank, ranks_clash}
+use Rattle.name_kinds.specs.of_zpl_names.Faults.{at_if, kind_at}
+use Rattle.name_kinds.specs.of_zpl_names.Sites.{Reach}
 
 abbrev pub is_blank : DimText → Bool
 is_blank (Blank at) = true

@@ -1,6 +1,6 @@
 -- What a walk over the sites of a text does to what it found.
 use Rattle.std.specs.Prelude.{◌≡◌, List, map}
-use Rattle.zpl_names.specs.Sites.{Site}
+use Rattle.name_kinds.specs.of_zpl_names.Sites.{Site}
 use Rattle.site_faults.specs.declared.findings.Findings.{Findings}
 use Rattle.site_faults.specs.Findings.{State, after, walked}
 use Rattle.site_faults.specs.Found.{found_in}

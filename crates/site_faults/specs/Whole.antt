@@ -1,13 +1,13 @@
 -- What is wrong with an expression that stands by itself, by what is known of it.
 use Rattle.std.specs.Prelude.{Bool, true, false, ◌&&◌, if◌then◌else◌, Option, Some, None}
-use Rattle.zpl_nums.specs.declared.operators.Op.{Op}
-use Rattle.zpl_nums.specs.declared.folds.Fold.{Fold}
-use Rattle.zpl_nums.specs.declared.folds.Fold.TheVariants.{All, Any}
-use Rattle.zpl_names.specs.Kinds.{Kind, Rank}
-use Rattle.zpl_names.specs.Ranks.{is_above_zero, lacks_rank, placed_rank}
-use Rattle.zpl_names.specs.Types.{is_boolean, is_integer, kind_base, takes_booleans}
-use Rattle.zpl_names.specs.Faults.{cannot_hold, kind_at, takes_scalar, value_base, wants_boolean}
-use Rattle.zpl_names.specs.Sites.{Reach, Role, Bound, Initial, Result, Test, Operand, Assigned, handed}
+use Rattle.name_kinds.specs.of_zpl_nums.declared.operators.Op.{Op}
+use Rattle.name_kinds.specs.of_zpl_nums.declared.folds.Fold.{Fold}
+use Rattle.name_kinds.specs.of_zpl_nums.declared.folds.Fold.TheVariants.{All, Any}
+use Rattle.name_kinds.specs.of_zpl_names.Kinds.{Kind, Rank}
+use Rattle.name_kinds.specs.of_zpl_names.Ranks.{is_above_zero, lacks_rank, placed_rank}
+use Rattle.name_kinds.specs.of_zpl_names.Types.{is_boolean, is_integer, kind_base, takes_booleans}
+use Rattle.name_kinds.specs.of_zpl_names.Faults.{cannot_hold, kind_at, takes_scalar, value_base, wants_boolean}
+use Rattle.name_kinds.specs.of_zpl_names.Sites.{Reach, Role, Bound, Initial, Result, Test, Operand, Assigned, handed}
 use Rattle.name_kinds.specs.declared.kinds.BaseType.{BaseType}
 use Rattle.name_kinds.specs.declared.kinds.BaseType.TheVariants.{Integer, Boolean}
 use Rattle.name_kinds.specs.declared.parts.Part.{Part}

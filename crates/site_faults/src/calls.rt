@@ -1,9 +1,9 @@
 //! Calls and their actuals.
 ghost use Rattle.std.specs.Prelude.{◌≡◌, OnOk, Some, map};
-ghost use Rattle.zpl_names.specs.Accepted as kind;
-ghost use Rattle.zpl_names.specs.Faults as faults;
-ghost use Rattle.zpl_names.specs.Sites.{AtCall, AtNamed};
-ghost use Rattle.zpl_names.specs.Types as types;
+ghost use Rattle.name_kinds.specs.of_zpl_names.Accepted as kind;
+ghost use Rattle.name_kinds.specs.of_zpl_names.Faults as faults;
+ghost use Rattle.name_kinds.specs.of_zpl_names.Sites.{AtCall, AtNamed};
+ghost use Rattle.name_kinds.specs.of_zpl_names.Types as types;
 ghost use Rattle.zpl_tree.specs.View.{base_type_of, expr_of, exprs_of, name_of};
 ghost use Rattle.name_kinds.specs.Seen.{formal_of, known_of, shape_of};
 ghost use Rattle.site_faults.specs.Findings.{tells};

@@ -1,6 +1,6 @@
 //! What a walk finds.
 ghost use Rattle.std.specs.Prelude.{◌≡◌, ◌∷◌, [], None, OnOk, Some, map};
-ghost use Rattle.zpl_names.specs.Faults.{at_if};
+ghost use Rattle.name_kinds.specs.of_zpl_names.Faults.{at_if};
 ghost use Rattle.site_faults.specs.Findings.{number_of, order_of, tells, where_reached, with_call};
 ghost use Rattle.site_faults.specs.Found.{found_in, found_of, kind_of};
 ghost use Rattle.site_faults.specs.Walk.{state_of};

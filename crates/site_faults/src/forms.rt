@@ -1,13 +1,13 @@
 //! The forms of statement.
 ghost use Rattle.std.specs.Prelude.{◌≡◌, ℕ, Bool, map};
-ghost use Rattle.zpl_nums.specs.declared.ends.Border.{Border};
+ghost use Rattle.name_kinds.specs.of_zpl_nums.declared.ends.Border.{Border};
 ghost use Rattle.std.specs.List.{flat_map, list_any};
-ghost use Rattle.zpl_names.specs.Accepted as kind;
-ghost use Rattle.zpl_names.specs.Faults as faults;
-ghost use Rattle.zpl_names.specs.Ranks.{array_rank, ranks_clash};
-ghost use Rattle.zpl_names.specs.Scope.{is_array};
-ghost use Rattle.zpl_names.specs.Sites as sites;
-ghost use Rattle.zpl_names.specs.Sites.{AtStmt};
+ghost use Rattle.name_kinds.specs.of_zpl_names.Accepted as kind;
+ghost use Rattle.name_kinds.specs.of_zpl_names.Faults as faults;
+ghost use Rattle.name_kinds.specs.of_zpl_names.Ranks.{array_rank, ranks_clash};
+ghost use Rattle.name_kinds.specs.of_zpl_names.Scope.{is_array};
+ghost use Rattle.name_kinds.specs.of_zpl_names.Sites as sites;
+ghost use Rattle.name_kinds.specs.of_zpl_names.Sites.{AtStmt};
 ghost use Rattle.zpl_tree.specs.Syntax as plain;
 ghost use Rattle.zpl_tree.specs.View.{arms_of, expr_of, head_of, inner_of, item_of, name_of};
 ghost use Rattle.zpl_tree.specs.View.{prefix_of};
@@ -23,11 +23,11 @@ use crate::reach::Reach;
 use crate::shapes::{has_flood, is_written_beyond};
 use crate::statements::{item_rank, tell_broken, tell_broken_arms, tell_broken_test};
 use crate::whole::{is_boolean_type, is_integer, takes_booleans};
+use name_kinds::zpl_nums::Op;
 use name_kinds::{
     Kind, Part, Rank, array_rank, first_rank, is_above_zero, is_array, is_fixed, is_scalar,
     is_value, kind_base, ranks_clash,
 };
-use zpl_nums::Op;
 use zpl_tree::{Arm, Expr, ForHead, Inner, Item, Name, Prefix};
 
 // Whether a shattered statement of a rank can't assign to it.

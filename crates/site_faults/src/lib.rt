@@ -21,6 +21,8 @@ pub use forms::{
     tell_assign, tell_block, tell_border, tell_for, tell_if, tell_invoke, tell_loop, tell_return,
     tell_write,
 };
+pub use name_kinds;
+pub use name_kinds::{zpl_names, zpl_nums, zpl_tree};
 pub use reach::{CallRole, Reach, Role};
 pub use regions::{tell_mask, tell_posts};
 pub use statements::{arms_rank, test_rank};

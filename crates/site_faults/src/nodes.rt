@@ -1,9 +1,9 @@
 //! The nodes of expressions.
 ghost use Rattle.std.specs.Prelude.{◌≡◌, None, Some};
-ghost use Rattle.zpl_names.specs.Accepted as kind;
-ghost use Rattle.zpl_names.specs.Faults as faults;
-ghost use Rattle.zpl_names.specs.Ranks as ranks;
-ghost use Rattle.zpl_names.specs.Sites.{AtExpr};
+ghost use Rattle.name_kinds.specs.of_zpl_names.Accepted as kind;
+ghost use Rattle.name_kinds.specs.of_zpl_names.Faults as faults;
+ghost use Rattle.name_kinds.specs.of_zpl_names.Ranks as ranks;
+ghost use Rattle.name_kinds.specs.of_zpl_names.Sites.{AtExpr};
 ghost use Rattle.zpl_tree.specs.Syntax as plain;
 ghost use Rattle.zpl_tree.specs.View.{dir_of, expr_of, exprs_of, inner_of, name_of};
 ghost use Rattle.name_kinds.specs.Part.{part_of};
@@ -17,11 +17,11 @@ use crate::findings::{FaultKind, Findings};
 use crate::reach::Reach;
 use crate::shapes::{floods_at, has_flood, is_read_beyond};
 use crate::whole::{is_integer, takes_booleans};
+use name_kinds::zpl_nums::{Fold, Op};
 use name_kinds::{
     Kind, Part, Rank, array_rank, array_shape, both_ranks, dir_rank, inner_shape, is_array,
     is_past, is_value, part_of, placed_rank, ranks_clash,
 };
-use zpl_nums::{Fold, Op};
 use zpl_tree::{Dir, Expr, Inner, Name};
 
 /// Whether a reduction or a scan takes booleans.

@@ -2,19 +2,19 @@
 ghost use Rattle.std.specs.Prelude.{◌≡◌};
 ghost use Rattle.std.specs.Option.{option_map};
 ghost use Rattle.zpl_tree.specs.View.{inner_of, mask_of, name_of, prefix_of};
-ghost use Rattle.zpl_names.specs.Faults as faults;
-ghost use Rattle.zpl_names.specs.Ranks as ranks;
-ghost use Rattle.zpl_names.specs.Shapes as spec;
-ghost use Rattle.zpl_names.specs.Sites as sites;
+ghost use Rattle.name_kinds.specs.of_zpl_names.Faults as faults;
+ghost use Rattle.name_kinds.specs.of_zpl_names.Ranks as ranks;
+ghost use Rattle.name_kinds.specs.of_zpl_names.Shapes as spec;
+ghost use Rattle.name_kinds.specs.of_zpl_names.Sites as sites;
 ghost use Rattle.name_kinds.specs.Reach.{scope_of};
 ghost use Rattle.name_kinds.specs.Region.{HasFewDims};
 ghost use Rattle.name_kinds.specs.Seen.{known_of, shape_of, shapes_of};
 ghost use Rattle.site_faults.specs.Reach.{reach_of};
 
+use name_kinds::zpl_nums::Op;
 use name_kinds::{
     Current, Kind, Rank, Scope, Shape, Shapes, array_rank, first_rank, inner_rank, inner_shape,
 };
-use zpl_nums::Op;
 use zpl_tree::{Base, Inner, Mask, Name, Prefix};
 
 /// What is in reach of a place.

@@ -1,10 +1,10 @@
 //! Directions, regions and masks.
 ghost use Rattle.std.specs.Prelude.{◌≡◌, [], if◌then◌else◌, map, not};
 ghost use Rattle.std.specs.List.{flat_map};
-ghost use Rattle.zpl_names.specs.Accepted as kind;
-ghost use Rattle.zpl_names.specs.Faults as faults;
-ghost use Rattle.zpl_names.specs.Scope.{is_direction};
-ghost use Rattle.zpl_names.specs.Sites.{AtDir, AtMask, AtPosts, AtRegion};
+ghost use Rattle.name_kinds.specs.of_zpl_names.Accepted as kind;
+ghost use Rattle.name_kinds.specs.of_zpl_names.Faults as faults;
+ghost use Rattle.name_kinds.specs.of_zpl_names.Scope.{is_direction};
+ghost use Rattle.name_kinds.specs.of_zpl_names.Sites.{AtDir, AtMask, AtPosts, AtRegion};
 ghost use Rattle.zpl_tree.specs.View.{base_of, dim_of, dims_of, dir_of, exprs_of, inner_of};
 ghost use Rattle.zpl_tree.specs.View.{mask_of, posts_of, pre_of, prefix_of};
 ghost use Rattle.name_kinds.specs.Seen.{known_of};

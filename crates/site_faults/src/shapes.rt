@@ -1,6 +1,6 @@
 //! Tests of shapes that may not be known.
 ghost use Rattle.std.specs.Prelude.{◌≡◌};
-ghost use Rattle.zpl_names.specs.Faults as faults;
+ghost use Rattle.name_kinds.specs.of_zpl_names.Faults as faults;
 ghost use Rattle.name_kinds.specs.Seen.{known_of, shape_of};
 ghost use Rattle.site_faults.specs.Reach.{reach_of};
 ghost use Rattle.site_faults.specs.Flood.{is_flood_read, is_flood_written};

@@ -1,11 +1,11 @@
 //! Statements under their prefixes.
 ghost use Rattle.std.specs.Prelude.{◌≡◌, [], if◌then◌else◌, ◌++◌, map};
-ghost use Rattle.zpl_names.specs.Accepted as kind;
-ghost use Rattle.zpl_names.specs.Faults as faults;
-ghost use Rattle.zpl_names.specs.Faults.{at_if};
-ghost use Rattle.zpl_names.specs.Ranks.{is_above_zero};
-ghost use Rattle.zpl_names.specs.Sites as sites;
-ghost use Rattle.zpl_names.specs.Sites.{AtStmt};
+ghost use Rattle.name_kinds.specs.of_zpl_names.Accepted as kind;
+ghost use Rattle.name_kinds.specs.of_zpl_names.Faults as faults;
+ghost use Rattle.name_kinds.specs.of_zpl_names.Faults.{at_if};
+ghost use Rattle.name_kinds.specs.of_zpl_names.Ranks.{is_above_zero};
+ghost use Rattle.name_kinds.specs.of_zpl_names.Sites as sites;
+ghost use Rattle.name_kinds.specs.of_zpl_names.Sites.{AtStmt};
 ghost use Rattle.zpl_tree.specs.Syntax as plain;
 ghost use Rattle.zpl_tree.specs.View.{arms_of, expr_of, item_of, name_of, prefix_of, statement_of};
 ghost use Rattle.name_kinds.specs.Seen.{known_of};
@@ -16,11 +16,11 @@ ghost use Rattle.site_faults.specs.Walk.{Tells, state_of};
 use crate::findings::{FaultKind, Findings};
 use crate::reach::{Reach, Role};
 use crate::whole::{rank_at, takes_booleans};
+use name_kinds::zpl_nums::Op;
 use name_kinds::{
     BaseType, Kind, Rank, array_rank, first_rank, is_above_zero, is_fixed, is_scalar, is_value,
     kind_base, part_of, ranks_clash,
 };
-use zpl_nums::Op;
 use zpl_tree::{Arm, Expr, Item, Name, Prefix};
 
 /// The rank of a test.

@@ -1,6 +1,6 @@
 //! The walk over expressions, regions and directions.
 ghost use Rattle.std.specs.Prelude.{◌≡◌, ◌++◌, IfOk, OnOk, map};
-ghost use Rattle.zpl_names.specs.Sites as sites;
+ghost use Rattle.name_kinds.specs.of_zpl_names.Sites as sites;
 ghost use Rattle.zpl_tree.specs.Syntax as plain;
 ghost use Rattle.zpl_tree.specs.View.{base_of, bracket_of, dim_of, dims_of, dir_of, expr_of};
 ghost use Rattle.zpl_tree.specs.View.{exprs_of, inner_of, posts_of, pre_of};
@@ -18,9 +18,9 @@ use crate::nodes::{
 use crate::reach::{CallRole, Reach, Role};
 use crate::regions::{tell_dir, tell_region};
 use crate::whole::{rank_at, tell_whole};
+use name_kinds::zpl_nums::Fold;
 use name_kinds::{BaseType, Part, Rank, both_ranks, inner_rank, is_index, part_of, parts_of};
 use std::alloc::AllocError;
-use zpl_nums::Fold;
 use zpl_tree::{DimText, Dir, Expr, ExprForm, Inner, Post, Pre, RegionBase};
 
 /// Walks over the nodes of an expression that has a rank.

@@ -1,9 +1,9 @@
 //! Expressions that stand by themselves.
 ghost use Rattle.std.specs.Prelude.{◌≡◌};
-ghost use Rattle.zpl_names.specs.Faults as faults;
-ghost use Rattle.zpl_names.specs.Sites as sites;
-ghost use Rattle.zpl_names.specs.Sites.{AtWhole};
-ghost use Rattle.zpl_names.specs.Types as types;
+ghost use Rattle.name_kinds.specs.of_zpl_names.Faults as faults;
+ghost use Rattle.name_kinds.specs.of_zpl_names.Sites as sites;
+ghost use Rattle.name_kinds.specs.of_zpl_names.Sites.{AtWhole};
+ghost use Rattle.name_kinds.specs.of_zpl_names.Types as types;
 ghost use Rattle.zpl_tree.specs.View.{base_type_of, expr_of};
 ghost use Rattle.name_kinds.specs.Part.{part_of};
 ghost use Rattle.name_kinds.specs.Reach.{scope_of};
@@ -14,11 +14,11 @@ ghost use Rattle.site_faults.specs.Whole as whole;
 
 use crate::findings::{FaultKind, Findings};
 use crate::reach::{Reach, Role};
+use name_kinds::zpl_nums::Op;
 use name_kinds::{
     BaseType, Kind, Part, Rank, array_rank, is_above_zero, is_scalar, kind_base, lacks_rank,
     placed_rank, ranks_clash,
 };
-use zpl_nums::Op;
 use zpl_tree::{Base, Expr};
 
 /// Whether a type is `integer`.

@@ -15,8 +15,8 @@ use Rattle.zpl_lowering.specs.Hoist.{Shifted}
 use Rattle.zpl_lowering.specs.Lowered.{Lowered}
 use Rattle.zpl_lowering.specs.Program.{first_next, lowered_program}
 use Rattle.zpl_lowering.specs.Tables.{empty_tables, flat_tables, rows_of, stored_row, stored_rows, temp_row}
-use Rattle.lowering_fits.specs.Whole.{IsNumbered}
-use Rattle.lowering_fits.proofs.ReadLemmas.{arrays_are}
+use Rattle.lowered_flat.specs.of_lowering_fits.Whole.{IsNumbered}
+use Rattle.lowered_flat.proofs.of_lowering_fits.ReadLemmas.{arrays_are}
 use Rattle.zpl_claims.specs.Boxes.{box_of, boxes_of, copy_box}
 
 -- rows of storages are stored, and those of temporaries aren't

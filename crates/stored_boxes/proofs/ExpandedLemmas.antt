@@ -19,7 +19,7 @@ use Rattle.zpl_names.specs.Sites.{CallSite, calls_under}
 use Rattle.zpl_names.specs.Expansion.{ExpandedArray, Binding, Instance, FormalName, actual_array, actual_arrays, array_named, array_of_entry, called_instance, copy_of, entry_instance, expanded_arrays, formal_named, formal_names, instances_from, local_arrays, of_routine, offset_of}
 use Rattle.zpl_names.proofs.ListLemmas.{Among, Contains-from_among}
 use Rattle.zpl_meaning.proofs.VisitLemmas.{find_among}
-use Rattle.lowering_fits.proofs.MadeWholeLemmas.{entry_is_there}
+use Rattle.lowered_flat.proofs.of_lowering_fits.MadeWholeLemmas.{entry_is_there}
 use Rattle.array_numbers.proofs.FoundLemmas.{has_name, once_first}
 use Rattle.array_numbers.proofs.GlobalLemmas.{array_entry}
 use Rattle.array_numbers.proofs.TextLemmas.{own_once}

@@ -19,8 +19,8 @@ use Rattle.grid_meaning.specs.Stored.{box_of, width_above, width_below}
 use Rattle.zpl_lowering.specs.Reference.{dim_shift, is_unmoved, vector_over}
 use Rattle.zpl_lowering.specs.Hoist.{Shifted}
 use Rattle.zpl_lowering.specs.Tables.{Fringe, all_wider, no_fringe, stored_dim, stored_dims, stored_row, wider, widened}
-use Rattle.lowering_fits.specs.Storages.{IsStorage}
-use Rattle.lowering_fits.proofs.ArrayLemmas.{row_storage}
+use Rattle.lowered_flat.specs.of_lowering_fits.Storages.{IsStorage}
+use Rattle.lowered_flat.proofs.of_lowering_fits.ArrayLemmas.{row_storage}
 use Rattle.zpl_claims.specs.Boxes.{along, box_read, greatest, negated}
 use Rattle.stored_boxes.specs.Noted.{AreVectors, noted}
 use Rattle.stored_boxes.proofs.GreatestLemmas.{AllSame, most, most_none, most_same, same_most}

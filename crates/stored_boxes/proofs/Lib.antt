@@ -6,3 +6,4 @@ pub mod CountLemmas
 pub mod DifferentLemmas
 pub mod ExpandedLemmas
 pub mod NumberedLemmas
+pub use Rattle.array_numbers.proofs as of_array_numbers

@@ -22,7 +22,7 @@ ghost use Rattle.zpl_lowering.specs.Program.{Framed};
 ghost use Rattle.zpl_lowering.specs.Slate.{settled};
 ghost use Rattle.zpl_lowering.specs.Tables.{flat_tables, stored_row};
 ghost use Rattle.zpl_lowering.specs.Where.{Next, Numbers, Stored, Where};
-ghost use Rattle.lowering_fits.specs.Storages.{IsStorage};
+ghost use Rattle.lowered_flat.specs.of_lowering_fits.Storages.{IsStorage};
 ghost use Rattle.lowered_flat.specs.Apart.{NamesStandApart};
 ghost use Rattle.array_numbers.specs.Calls.{IsCallOf};
 ghost use Rattle.zpl_claims.specs.Boxes.{box_read, boxes_of};
@@ -31,7 +31,7 @@ ghost use Rattle.stored_boxes.specs.Different.{AreDifferent, IsToldApart};
 ghost use Rattle.stored_boxes.specs.Noted.{AreVectors, noted};
 ghost use Rattle.stored_boxes.specs.Reads.{IsAt, IsNoted, IsQuietWithin, IsReadAs};
 
-use lowering_fits::all_code_is_numbered;
+use lowered_flat::lowering_fits::all_code_is_numbered;
 
 /// A stored array of lowered tables has its storage, and the greatest shifts of vectors for its
 /// fringe, where the shifts that the code notes of it are those of these vectors that move it, in

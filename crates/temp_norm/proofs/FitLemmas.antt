@@ -10,23 +10,23 @@ use Rattle.std.specs.Cmp.Lexicographic.{pointwise}
 use Rattle.std.proofs.lemmas.List.Elements.{All-append, All-cons, All-from_recursion, All-head}
 use Rattle.std.proofs.lemmas.List.Elements.{All-nil}
 use Rattle.std.proofs.lemmas.List.Elements.{recursion_from_All}
-use Rattle.node_form.specs.declared.words.ExprOp.{ExprOp}
-use Rattle.node_form.specs.declared.words.ExprOp.TheVariants as word
-use Rattle.node_form.specs.declared.arrays.ArrayDim.{ArrayDim}
-use Rattle.node_form.specs.declared.arrays.ArrayDim.TheVariants as axis
-use Rattle.node_form.specs.declared.arrays.ArrayRow.{ArrayRow}
-use Rattle.node_form.specs.declared.members.Member.{Member}
-use Rattle.node_form.specs.declared.members.Member.TheVariants as member
-use Rattle.node_form.specs.declared.instructions.Instr.{Instr}
-use Rattle.node_form.specs.declared.instructions.Instr.TheVariants as instr
-use Rattle.node_form.specs.declared.tables.Tables.{Tables}
-use Rattle.node_form.specs.Expression.{Element}
-use Rattle.node_form.specs.Fits.{Fits, FitsArray, FitsExchange, FitsExpr, FitsGroup, FitsInstr}
-use Rattle.node_form.specs.Fits.{FitsMember, FitsWord, Grows, HasArray, HasExpr, HasSlot, IsRank}
-use Rattle.node_form.specs.Fits.{IsTemporary, IsUnused, IsUnusedOrStar}
-use Rattle.node_form.specs.Nest.{IsNest, Nothing, Putting}
-use Rattle.code_parts.specs.Counts.{is_vote}
-use Rattle.code_parts.specs.Stretch.{ends_stretch, leads_to}
+use Rattle.flat_passes.specs.of_node_form.declared.words.ExprOp.{ExprOp}
+use Rattle.flat_passes.specs.of_node_form.declared.words.ExprOp.TheVariants as word
+use Rattle.flat_passes.specs.of_node_form.declared.arrays.ArrayDim.{ArrayDim}
+use Rattle.flat_passes.specs.of_node_form.declared.arrays.ArrayDim.TheVariants as axis
+use Rattle.flat_passes.specs.of_node_form.declared.arrays.ArrayRow.{ArrayRow}
+use Rattle.flat_passes.specs.of_node_form.declared.members.Member.{Member}
+use Rattle.flat_passes.specs.of_node_form.declared.members.Member.TheVariants as member
+use Rattle.flat_passes.specs.of_node_form.declared.instructions.Instr.{Instr}
+use Rattle.flat_passes.specs.of_node_form.declared.instructions.Instr.TheVariants as instr
+use Rattle.flat_passes.specs.of_node_form.declared.tables.Tables.{Tables}
+use Rattle.flat_passes.specs.of_node_form.Expression.{Element}
+use Rattle.flat_passes.specs.of_node_form.Fits.{Fits, FitsArray, FitsExchange, FitsExpr, FitsGroup, FitsInstr}
+use Rattle.flat_passes.specs.of_node_form.Fits.{FitsMember, FitsWord, Grows, HasArray, HasExpr, HasSlot, IsRank}
+use Rattle.flat_passes.specs.of_node_form.Fits.{IsTemporary, IsUnused, IsUnusedOrStar}
+use Rattle.flat_passes.specs.of_node_form.Nest.{IsNest, Nothing, Putting}
+use Rattle.flat_passes.specs.of_code_parts.Counts.{is_vote}
+use Rattle.flat_passes.specs.of_code_parts.Stretch.{ends_stretch, leads_to}
 use Rattle.flat_passes.specs.Grouped.{Grouped, Plain, Runs, ended_by, grouped, rewritten_rows}
 use Rattle.flat_passes.specs.Numbers.{number_among, numbers_from}
 use Rattle.flat_passes.proofs.NumberLemmas.{becomes, by_number, counted, new_length}
@@ -37,9 +37,9 @@ use Rattle.temp_norm.specs.Normalised.{row_through, temporaries, temporary_like}
 use Rattle.temp_norm.specs.Normalised.{read_each, with_one_like, with_temporaries, without_storage}
 use Rattle.temp_norm.specs.Pieces.{kind_put, kind_through, mask_reads, put_rows, reads_shifted}
 use Rattle.temp_norm.specs.Pieces.{row_written, self_put, through_rows, with_kind}
-use Rattle.node_form.proofs.GrowthLemmas.{Fits-Appends, Fits-array-row, Fits-group-row}
-use Rattle.node_form.proofs.GrowthLemmas.{Keeps-append, Keeps-same}
-use Rattle.code_parts.specs.Uses.{members_of, rows_or_none}
+use Rattle.flat_passes.proofs.of_node_form.GrowthLemmas.{Fits-Appends, Fits-array-row, Fits-group-row}
+use Rattle.flat_passes.proofs.of_node_form.GrowthLemmas.{Keeps-append, Keeps-same}
+use Rattle.flat_passes.specs.of_code_parts.Uses.{members_of, rows_or_none}
 use Rattle.flat_passes.proofs.StretchLemmas.{every_append}
 use Rattle.temp_norm.specs.declared.reads.Put.{Put}
 use Rattle.temp_norm.proofs.PieceLemmas.{any_both, by_steps, one_for_one, temporaries_are}

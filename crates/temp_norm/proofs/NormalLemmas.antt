@@ -7,18 +7,18 @@ use Rattle.std.specs.Prelude.{slice_get, IsSomeAnd}
 use Rattle.std.specs.List.{AllByRecursion, list_any}
 use Rattle.std.proofs.lemmas.Grind.{flat_map-append}
 use Rattle.std.proofs.lemmas.List.Elements.{All-from_recursion, recursion_from_All}
-use Rattle.row_runs.specs.Cut.{Stretch, moved_by}
-use Rattle.node_form.specs.declared.words.ExprOp.{ExprOp}
-use Rattle.node_form.specs.declared.words.ExprOp.TheVariants as word
-use Rattle.node_form.specs.declared.arrays.ArrayRow.{ArrayRow}
-use Rattle.node_form.specs.declared.members.Member.{Member}
-use Rattle.node_form.specs.declared.members.Member.TheVariants as member
-use Rattle.node_form.specs.declared.instructions.Instr.{Instr}
-use Rattle.node_form.specs.declared.instructions.Instr.TheVariants as instr
-use Rattle.node_form.specs.declared.tables.Tables.{Tables}
-use Rattle.node_form.specs.Fits.{Fits, FitsExpr, FitsWord}
-use Rattle.code_parts.specs.Uses.{as_list, exprs_of, member_words, members_of, put_by}
-use Rattle.code_parts.specs.Uses.{rows_or_none, share, shifted_in, words_of}
+use Rattle.flat_passes.specs.of_row_runs.Cut.{Stretch, moved_by}
+use Rattle.flat_passes.specs.of_node_form.declared.words.ExprOp.{ExprOp}
+use Rattle.flat_passes.specs.of_node_form.declared.words.ExprOp.TheVariants as word
+use Rattle.flat_passes.specs.of_node_form.declared.arrays.ArrayRow.{ArrayRow}
+use Rattle.flat_passes.specs.of_node_form.declared.members.Member.{Member}
+use Rattle.flat_passes.specs.of_node_form.declared.members.Member.TheVariants as member
+use Rattle.flat_passes.specs.of_node_form.declared.instructions.Instr.{Instr}
+use Rattle.flat_passes.specs.of_node_form.declared.instructions.Instr.TheVariants as instr
+use Rattle.flat_passes.specs.of_node_form.declared.tables.Tables.{Tables}
+use Rattle.flat_passes.specs.of_node_form.Fits.{Fits, FitsExpr, FitsWord}
+use Rattle.flat_passes.specs.of_code_parts.Uses.{as_list, exprs_of, member_words, members_of, put_by}
+use Rattle.flat_passes.specs.of_code_parts.Uses.{rows_or_none, share, shifted_in, words_of}
 use Rattle.flat_passes.specs.Rewritten.{stretches_of}
 use Rattle.flat_passes.specs.Grouped.{Grouped, Runs, ended_by, group_of, grouped, groups_of}
 use Rattle.flat_passes.specs.Grouped.{rewritten_rows}

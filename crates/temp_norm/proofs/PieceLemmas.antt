@@ -8,17 +8,17 @@ use Rattle.std.specs.List.{list_any, position_or_len, prefix_len}
 use Rattle.std.proofs.lemmas.Grind.{flat_map-append}
 use Rattle.std.proofs.lemmas.List.{drop_all}
 use Rattle.std.proofs.lemmas.List.Sums.{fold-append}
-use Rattle.row_runs.specs.Cut.{as_list as found_list}
-use Rattle.node_form.specs.declared.words.ExprOp.{ExprOp}
-use Rattle.node_form.specs.declared.words.ExprOp.TheVariants as word
-use Rattle.node_form.specs.declared.arrays.ArrayRow.{ArrayRow}
-use Rattle.node_form.specs.declared.members.Member.{Member}
-use Rattle.node_form.specs.declared.members.Member.TheVariants as member
-use Rattle.node_form.specs.declared.instructions.Instr.{Instr}
-use Rattle.node_form.specs.declared.instructions.Instr.TheVariants as instr
-use Rattle.node_form.specs.declared.tables.Tables.{Tables}
-use Rattle.code_parts.specs.Stretch.{ends_stretch}
-use Rattle.code_parts.specs.Uses.{as_list, member_words, members_of, shifted_in, words_of}
+use Rattle.flat_passes.specs.of_row_runs.Cut.{as_list as found_list}
+use Rattle.flat_passes.specs.of_node_form.declared.words.ExprOp.{ExprOp}
+use Rattle.flat_passes.specs.of_node_form.declared.words.ExprOp.TheVariants as word
+use Rattle.flat_passes.specs.of_node_form.declared.arrays.ArrayRow.{ArrayRow}
+use Rattle.flat_passes.specs.of_node_form.declared.members.Member.{Member}
+use Rattle.flat_passes.specs.of_node_form.declared.members.Member.TheVariants as member
+use Rattle.flat_passes.specs.of_node_form.declared.instructions.Instr.{Instr}
+use Rattle.flat_passes.specs.of_node_form.declared.instructions.Instr.TheVariants as instr
+use Rattle.flat_passes.specs.of_node_form.declared.tables.Tables.{Tables}
+use Rattle.flat_passes.specs.of_code_parts.Stretch.{ends_stretch}
+use Rattle.flat_passes.specs.of_code_parts.Uses.{as_list, member_words, members_of, shifted_in, words_of}
 use Rattle.flat_passes.specs.declared.draft.Draft.{Draft}
 use Rattle.flat_passes.specs.Draft.{empty_draft, moved_draft, with_rows}
 use Rattle.flat_passes.specs.Grouped.{Runs, ended_by, grouped}

@@ -6,15 +6,15 @@ use Rattle.std.specs.Prelude.{slice_get}
 use Rattle.std.specs.Option.{option_map}
 use Rattle.std.specs.List.{AllByRecursion}
 use Rattle.std.proofs.lemmas.List.Sums.{sum_by-cons}
-use Rattle.row_runs.specs.Cut.{Stretch, as_list, moved_by}
-use Rattle.row_runs.proofs.CutLemmas.{cut_rows}
-use Rattle.node_form.specs.declared.arrays.ArrayRow.{ArrayRow}
-use Rattle.node_form.specs.declared.members.Member.{Member}
-use Rattle.node_form.specs.declared.members.Member.TheVariants as member
-use Rattle.node_form.specs.declared.instructions.Instr.{Instr}
-use Rattle.node_form.specs.declared.tables.Tables.{Tables}
-use Rattle.code_parts.specs.Counts.{count_of}
-use Rattle.code_parts.specs.Stretch.{ends_stretch, is_goal}
+use Rattle.flat_passes.specs.of_row_runs.Cut.{Stretch, as_list, moved_by}
+use Rattle.flat_passes.proofs.of_row_runs.CutLemmas.{cut_rows}
+use Rattle.flat_passes.specs.of_node_form.declared.arrays.ArrayRow.{ArrayRow}
+use Rattle.flat_passes.specs.of_node_form.declared.members.Member.{Member}
+use Rattle.flat_passes.specs.of_node_form.declared.members.Member.TheVariants as member
+use Rattle.flat_passes.specs.of_node_form.declared.instructions.Instr.{Instr}
+use Rattle.flat_passes.specs.of_node_form.declared.tables.Tables.{Tables}
+use Rattle.flat_passes.specs.of_code_parts.Counts.{count_of}
+use Rattle.flat_passes.specs.of_code_parts.Stretch.{ends_stretch, is_goal}
 use Rattle.flat_passes.specs.Rewritten.{stretches_of}
 use Rattle.flat_passes.specs.Grouped.{Grouped, Runs, Plain, ended_by, grouped, rewritten_rows}
 use Rattle.flat_passes.proofs.GroupedLemmas.{numbered_length}

@@ -4,18 +4,18 @@ use Rattle.std.specs.Prelude.{List, [], ◌∷◌, ◌++◌, flat_map, fold, len
 use Rattle.std.specs.Prelude.{◌≡◌, All, count_by, if◌then◌else◌}
 use Rattle.std.specs.List.{list_any, position_or_len}
 use Rattle.std.specs.Cmp.Lexicographic.{pointwise}
-use Rattle.row_runs.specs.Cut.{as_list as found_list}
-use Rattle.node_form.specs.declared.words.ExprOp.{ExprOp}
-use Rattle.node_form.specs.declared.words.ExprOp.TheVariants as word
-use Rattle.node_form.specs.declared.arrays.ArrayDim.{ArrayDim}
-use Rattle.node_form.specs.declared.arrays.ArrayDim.TheVariants as axis
-use Rattle.node_form.specs.declared.arrays.ArrayRow.{ArrayRow}
-use Rattle.node_form.specs.declared.members.Member.{Member}
-use Rattle.node_form.specs.declared.members.Member.TheVariants as member
-use Rattle.node_form.specs.declared.instructions.Instr.{Instr}
-use Rattle.node_form.specs.declared.instructions.Instr.TheVariants as instr
-use Rattle.node_form.specs.declared.tables.Tables.{Tables}
-use Rattle.code_parts.specs.Uses.{as_list, member_words, put_by, share, shifted_in, words_of}
+use Rattle.flat_passes.specs.of_row_runs.Cut.{as_list as found_list}
+use Rattle.flat_passes.specs.of_node_form.declared.words.ExprOp.{ExprOp}
+use Rattle.flat_passes.specs.of_node_form.declared.words.ExprOp.TheVariants as word
+use Rattle.flat_passes.specs.of_node_form.declared.arrays.ArrayDim.{ArrayDim}
+use Rattle.flat_passes.specs.of_node_form.declared.arrays.ArrayDim.TheVariants as axis
+use Rattle.flat_passes.specs.of_node_form.declared.arrays.ArrayRow.{ArrayRow}
+use Rattle.flat_passes.specs.of_node_form.declared.members.Member.{Member}
+use Rattle.flat_passes.specs.of_node_form.declared.members.Member.TheVariants as member
+use Rattle.flat_passes.specs.of_node_form.declared.instructions.Instr.{Instr}
+use Rattle.flat_passes.specs.of_node_form.declared.instructions.Instr.TheVariants as instr
+use Rattle.flat_passes.specs.of_node_form.declared.tables.Tables.{Tables}
+use Rattle.flat_passes.specs.of_code_parts.Uses.{as_list, member_words, put_by, share, shifted_in, words_of}
 use Rattle.flat_passes.specs.Grouped.{Grouped, Runs, Plain, grouped, rewritten_rows, with_grouped}
 
 -- ---- which groups

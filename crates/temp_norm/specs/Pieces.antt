@@ -2,15 +2,15 @@
 use Rattle.std.specs.Prelude.{ℕ, ◌==◌, Bool, false, ◌||◌, Option, Some, None, if◌then◌else◌}
 use Rattle.std.specs.Prelude.{List, [], ◌∷◌, ◌+◌, flat_map, length, slice_get}
 use Rattle.std.specs.List.{list_any}
-use Rattle.node_form.specs.declared.words.ExprOp.{ExprOp}
-use Rattle.node_form.specs.declared.words.ExprOp.TheVariants as word
-use Rattle.node_form.specs.declared.members.Member.{Member}
-use Rattle.node_form.specs.declared.members.Member.TheVariants as member
-use Rattle.node_form.specs.declared.arrays.ArrayRow.{ArrayRow}
-use Rattle.node_form.specs.declared.instructions.Instr.{Instr}
-use Rattle.node_form.specs.declared.instructions.Instr.TheVariants as instr
-use Rattle.node_form.specs.declared.tables.Tables.{Tables}
-use Rattle.code_parts.specs.Uses.{members_of, words_of}
+use Rattle.flat_passes.specs.of_node_form.declared.words.ExprOp.{ExprOp}
+use Rattle.flat_passes.specs.of_node_form.declared.words.ExprOp.TheVariants as word
+use Rattle.flat_passes.specs.of_node_form.declared.members.Member.{Member}
+use Rattle.flat_passes.specs.of_node_form.declared.members.Member.TheVariants as member
+use Rattle.flat_passes.specs.of_node_form.declared.arrays.ArrayRow.{ArrayRow}
+use Rattle.flat_passes.specs.of_node_form.declared.instructions.Instr.{Instr}
+use Rattle.flat_passes.specs.of_node_form.declared.instructions.Instr.TheVariants as instr
+use Rattle.flat_passes.specs.of_node_form.declared.tables.Tables.{Tables}
+use Rattle.flat_passes.specs.of_code_parts.Uses.{members_of, words_of}
 use Rattle.flat_passes.specs.declared.draft.Draft.{Draft}
 use Rattle.flat_passes.specs.Grouped.{Grouped, Runs, Plain, all_numbered, groups_of}
 use Rattle.flat_passes.specs.Grouped.{rewritten_rows}

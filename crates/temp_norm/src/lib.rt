@@ -6,14 +6,16 @@ mod reads;
 mod temporaries;
 
 ghost use Rattle.std.specs.Prelude.{◌≡◌, ◌+◌, ◌*◌, ◌≤◌, All, false, length, sum_by};
-ghost use Rattle.node_form.specs.Fits.{Fits};
-ghost use Rattle.node_form.specs.declared.tables.Tables.{Tables as Code};
-ghost use Rattle.code_parts.specs.Counts.{code_size, count_of, is_vote};
+ghost use Rattle.flat_passes.specs.of_node_form.Fits.{Fits};
+ghost use Rattle.flat_passes.specs.of_node_form.declared.tables.Tables.{Tables as Code};
+ghost use Rattle.flat_passes.specs.of_code_parts.Counts.{code_size, count_of, is_vote};
 ghost use Rattle.flat_passes.specs.Grouped.{loop_members};
 ghost use Rattle.flat_passes.specs.Rewritten.{has_goal};
 ghost use Rattle.temp_norm.specs.Normalised.{IsNormal, ReadThemselvesAlone, loops_on_themselves};
 ghost use Rattle.temp_norm.specs.Normalised.{normalised, temporaries};
 
+pub use flat_passes;
+pub use flat_passes::node_form;
 pub use loops::normalise;
 
 /// No group reads with a shift what it puts, where each that did had one member, with a mask that

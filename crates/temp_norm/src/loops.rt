@@ -7,8 +7,8 @@ ghost use Rattle.temp_norm.specs.Pieces.{put_rows, row_written, self_put, throug
 
 use crate::reads::{Put, self_put};
 use crate::temporaries::{place_among, temporaries};
+use flat_passes::node_form::{ArrayRow, ExprOp, ExprRow, Instr, Member, Tables};
 use flat_passes::{Draft, NewNumbers, number_of};
-use node_form::{ArrayRow, ExprOp, ExprRow, Instr, Member, Tables};
 use std::alloc::{AllocError, Global};
 
 /// The tables in which no group reads with a shift what it puts: where a loop of one member does,

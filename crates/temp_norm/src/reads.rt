@@ -3,7 +3,7 @@ ghost use Rattle.std.specs.Prelude.{◌≡◌};
 ghost use Rattle.std.specs.List.{list_any};
 ghost use Rattle.temp_norm.specs.Pieces.{mask_reads, only_put, reads_shifted, self_put, word_reads};
 
-use node_form::{ExprOp, Member, Tables};
+use flat_passes::node_form::{ExprOp, Member, Tables};
 
 /// The member of a group that puts an array.
 #[derive(Clone, Copy, Debug)]

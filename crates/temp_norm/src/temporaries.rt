@@ -6,7 +6,7 @@ ghost use Rattle.temp_norm.specs.Normalised.{temporary_like, with_one_like, with
 ghost use Rattle.temp_norm.specs.Pieces.{kind_through, with_kind};
 
 use crate::reads::self_put;
-use node_form::{ArrayDim, ArrayRow, Instr, Tables};
+use flat_passes::node_form::{ArrayDim, ArrayRow, Instr, Tables};
 use std::alloc::{AllocError, Global};
 
 /// The temporaries, in the order in which the code wants them.

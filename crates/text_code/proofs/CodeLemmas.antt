@@ -26,19 +26,19 @@ use Rattle.list_claims.specs.Refusal.{IsCodeless, IsRefusal, IsSetWrong}
 use Rattle.list_claims.specs.Refusal.IsCodeless.{faulty, many_nodes, many_statements}
 use Rattle.list_claims.specs.Refusal.IsSetWrong.{bad_shape, declared, no_room}
 use Rattle.list_claims.specs.Code.{HasNoProgram, IsCodeOf, IsTooMuchFor}
-use Rattle.compiled_tidy.specs.Accepted.{IsAcceptedText}
+use Rattle.right_code.specs.of_compiled_tidy.Accepted.{IsAcceptedText}
 use Rattle.call_claims.specs.Accepted.{IsAccepted, IsAcceptedUnder, IsFaulty}
-use Rattle.zpl_compile.specs.Compilable.{IsCompiledTo, IsCounted}
+use Rattle.list_claims.specs.of_zpl_compile.Compilable.{IsCompiledTo, IsCounted}
 use Rattle.program_code.specs.Outcome.{IsUncompiled}
-use Rattle.zpl_compile.specs.Compile.{compiled}
+use Rattle.list_claims.specs.of_zpl_compile.Compile.{compiled}
 use Rattle.program_code.specs.declared.faults.CompileFault.{CompileFault}
 use Rattle.program_code.specs.declared.faults.CompileFault.TheVariants as compile
 use Rattle.code_layout.specs.Room.{HasRoom}
-use Rattle.call_answers.specs.declared.refusals.Refusal.{Refusal}
-use Rattle.call_answers.specs.declared.refusals.Refusal.TheVariants.{Lex, Parse, Judge, Bind}
-use Rattle.call_answers.specs.declared.refusals.Refusal.TheVariants.{NoMemory}
+use Rattle.bound_texts.specs.of_call_answers.declared.refusals.Refusal.{Refusal}
+use Rattle.bound_texts.specs.of_call_answers.declared.refusals.Refusal.TheVariants.{Lex, Parse, Judge, Bind}
+use Rattle.bound_texts.specs.of_call_answers.declared.refusals.Refusal.TheVariants.{NoMemory}
 use Rattle.bound_texts.specs.Refused.{IsOnlyTree, IsRejected, IsTreeless, IsUnread}
-use Rattle.call_answers.specs.declared.refusals.BuildFault.TheVariants as unbuilt
+use Rattle.bound_texts.specs.of_call_answers.declared.refusals.BuildFault.TheVariants as unbuilt
 use Rattle.text_code.specs.Refusals.{of_compile, Refuses, RefusesText}
 use Rattle.text_code.specs.declared.compiling.Uncoded.{Uncoded}
 use Rattle.text_code.specs.declared.compiling.Uncoded.TheVariants.{Refused, Unbuilt}

@@ -1,2 +1,3 @@
 pub mod CodeLemmas
 pub mod TextLemmas
+pub use Rattle.list_claims.proofs as of_list_claims

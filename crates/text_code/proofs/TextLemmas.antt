@@ -9,17 +9,17 @@ use Rattle.zpl_claims.specs.Build.{Build}
 use Rattle.list_claims.specs.Cause.{TextFault}
 use Rattle.list_claims.specs.Cause.TextFault.{refused, unbound}
 use Rattle.call_claims.specs.declared.status.TheConstants.{UNREADABLE}
-use Rattle.call_answers.specs.Answers.{status_of}
-use Rattle.call_answers.specs.Fetched.{FailsToFetch}
-use Rattle.call_answers.proofs.FetchLemmas.{unread_is_decided}
+use Rattle.bound_texts.specs.of_call_answers.Answers.{status_of}
+use Rattle.bound_texts.specs.of_call_answers.Fetched.{FailsToFetch}
+use Rattle.bound_texts.proofs.of_call_answers.FetchLemmas.{unread_is_decided}
 use Rattle.text_code.specs.Refusals.{answer_for, IsUncoded, Refuses}
 use Rattle.text_code.specs.declared.compiling.Uncoded.{Uncoded}
 use Rattle.text_code.specs.declared.compiling.Uncoded.TheVariants.{Refused, Unbuilt}
-use Rattle.call_answers.specs.declared.answers.Answer.{Answer}
-use Rattle.call_answers.specs.declared.answers.Answer.TheVariants as answer
-use Rattle.call_answers.specs.declared.refusals.BuildFault.TheVariants as unbuilt
-use Rattle.call_answers.specs.declared.refusals.Refusal.TheVariants.{Lex, Parse, Judge, Bind}
-use Rattle.call_answers.specs.declared.refusals.Refusal.TheVariants.{NoMemory}
+use Rattle.bound_texts.specs.of_call_answers.declared.answers.Answer.{Answer}
+use Rattle.bound_texts.specs.of_call_answers.declared.answers.Answer.TheVariants as answer
+use Rattle.bound_texts.specs.of_call_answers.declared.refusals.BuildFault.TheVariants as unbuilt
+use Rattle.bound_texts.specs.of_call_answers.declared.refusals.Refusal.TheVariants.{Lex, Parse, Judge, Bind}
+use Rattle.bound_texts.specs.of_call_answers.declared.refusals.Refusal.TheVariants.{NoMemory}
 
 -- code without arrays has room
 pub no_arrays_have_room : (code : Tables) → code.arrays ≡ [] → HasRoom code

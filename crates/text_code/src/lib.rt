@@ -4,4 +4,5 @@
 mod compiling;
 mod texts;
 
+pub use list_claims;
 pub use texts::code_of_text;

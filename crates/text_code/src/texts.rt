@@ -8,7 +8,7 @@ ghost use Rattle.call_words.specs.Reading.{asked_in};
 ghost use Rattle.text_code.specs.Refusals.{IsUncoded};
 
 use crate::compiling::compile;
-use call_answers::Answer;
+use bound_texts::call_answers::Answer;
 use call_words::Asked;
 use node_form::NodeProgram;
 use std::alloc::Global;

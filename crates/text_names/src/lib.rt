@@ -12,3 +12,4 @@ pub use found::{define_found, direction_found, region_found, resumed, variables_
 pub use heads::{formals, hiding_names, own_table, walk_head, walk_locals, walk_params};
 pub use stops::Stop;
 pub use tables::{add_name, add_names};
+pub use text_walk;

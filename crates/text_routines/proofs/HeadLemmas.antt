@@ -12,7 +12,7 @@ use Rattle.zpl_names.specs.Shapes.{variable_kind}
 use Rattle.zpl_names.specs.Declared.{declaring, entry_for, own_entries, own_names, signature_of, formals_of, head_scope}
 use Rattle.zpl_names.specs.Sites as sites
 use Rattle.zpl_names.specs.Sites.{Site, AtBase, AtProcedure, in_declaration}
-use Rattle.text_walk.specs.Sites.{bracket_sites}
+use Rattle.text_names.specs.of_text_walk.Sites.{bracket_sites}
 use Rattle.text_names.specs.Heads as heads
 use Rattle.text_names.specs.Found.{goes_on}
 use Rattle.text_names.specs.Heads.{scalars}

@@ -20,8 +20,8 @@ use bumpalo::Bump;
 use name_kinds::{Names, Scope, Signature};
 use site_faults::{Findings, Found, Reach};
 use std::alloc::{AllocError, Global};
+use text_names::text_walk::{tell_procedure, walk_base};
 use text_names::{Stop, formals, own_table, resumed, walk_locals, walk_params};
-use text_walk::{tell_procedure, walk_base};
 use zpl_tree::{Base, Param, Procedure, VarDef, place_list};
 
 // What is wrong with a procedure whose own names are distinct: that a `return` is missing.

@@ -7,4 +7,6 @@ mod heads;
 mod texts;
 
 pub use declarations::{Declared, declare_all};
+pub use routine_walks;
+pub use text_names;
 pub use texts::text_of;

@@ -4,15 +4,15 @@ use Rattle.std.specs.Prelude.{slice_get}
 use Rattle.std.specs.Option.{IsSomeAnd}
 use Rattle.std.proofs.lemmas.List.{length-map}
 use Rattle.std.proofs.lemmas.List.Elements.{All-map}
-use Rattle.node_form.specs.declared.words.ExprOp.{ExprOp}
-use Rattle.node_form.specs.declared.arrays.ArrayRow.{ArrayRow}
-use Rattle.node_form.specs.declared.arrays.Item.{Item}
-use Rattle.node_form.specs.declared.members.Member.{Member}
-use Rattle.node_form.specs.declared.instructions.Instr.{Instr}
-use Rattle.node_form.specs.declared.instructions.Instr.TheVariants as instr
-use Rattle.node_form.specs.declared.tables.Tables.{Tables}
-use Rattle.node_form.specs.Fits.{Fits, FitsAt, FitsExchange, FitsExpr, FitsGroup, FitsInstr}
-use Rattle.node_form.specs.Fits.{FitsItem, FitsRemap}
+use Rattle.flat_form.specs.of_node_form.declared.words.ExprOp.{ExprOp}
+use Rattle.flat_form.specs.of_node_form.declared.arrays.ArrayRow.{ArrayRow}
+use Rattle.flat_form.specs.of_node_form.declared.arrays.Item.{Item}
+use Rattle.flat_form.specs.of_node_form.declared.members.Member.{Member}
+use Rattle.flat_form.specs.of_node_form.declared.instructions.Instr.{Instr}
+use Rattle.flat_form.specs.of_node_form.declared.instructions.Instr.TheVariants as instr
+use Rattle.flat_form.specs.of_node_form.declared.tables.Tables.{Tables}
+use Rattle.flat_form.specs.of_node_form.Fits.{Fits, FitsAt, FitsExchange, FitsExpr, FitsGroup, FitsInstr}
+use Rattle.flat_form.specs.of_node_form.Fits.{FitsItem, FitsRemap}
 use Rattle.flat_form.specs.Flat.{IsFlat, IsFlatRow}
 use Rattle.text_sharing.specs.Shared.{row_shared, texts_shared}
 use Rattle.text_sharing.proofs.DifferentLemmas.{number-within}

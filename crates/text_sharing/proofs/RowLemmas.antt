@@ -4,11 +4,11 @@ use Rattle.std.proofs.Common.{◌∷◌, map}
 use Rattle.std.specs.List.{count_by}
 use Rattle.std.proofs.lemmas.List.{length-map}
 use Rattle.std.proofs.lemmas.List.Sums.{sum_by-cons}
-use Rattle.node_form.specs.declared.instructions.Instr.{Instr}
-use Rattle.node_form.specs.declared.instructions.Instr.TheVariants as instr
-use Rattle.node_form.specs.declared.tables.Tables.{Tables}
-use Rattle.row_runs.specs.Run.{runs}
-use Rattle.code_parts.specs.Counts.{code_size, count_of}
+use Rattle.flat_form.specs.of_node_form.declared.instructions.Instr.{Instr}
+use Rattle.flat_form.specs.of_node_form.declared.instructions.Instr.TheVariants as instr
+use Rattle.flat_form.specs.of_node_form.declared.tables.Tables.{Tables}
+use Rattle.flat_form.specs.of_row_runs.Run.{runs}
+use Rattle.flat_form.specs.of_code_parts.Counts.{code_size, count_of}
 use Rattle.flat_form.specs.Act.{act, flat_run}
 use Rattle.flat_form.specs.Row as row
 use Rattle.flat_form.specs.Row.{all_inlined, inlined}

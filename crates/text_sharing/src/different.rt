@@ -3,7 +3,7 @@ ghost use Rattle.std.specs.Prelude.{◌≡◌, IfOk, OnOk, []};
 ghost use Rattle.text_sharing.specs.Shared.{different, number_of, with_text};
 ghost use Rattle.text_sharing.specs.Numbered.{IsNumbered};
 
-use node_form::{Row, Rows, Texts};
+use flat_form::node_form::{Row, Rows, Texts};
 use std::alloc::{AllocError, Global};
 use std::collections::HashMap;
 

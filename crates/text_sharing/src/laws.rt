@@ -2,11 +2,11 @@
 ghost use Rattle.std.specs.Prelude.{◌≡◌, ℕ, ◌≤◌, All, Bool, Contains, List, [], length, sum_by};
 ghost use Rattle.std.specs.List.{IsDistinct};
 ghost use Rattle.std.specs.Str.{bytes_eq};
-ghost use Rattle.node_form.specs.declared.instructions.Instr.{Instr};
-ghost use Rattle.node_form.specs.declared.instructions.Instr.TheVariants.{Print};
-ghost use Rattle.node_form.specs.declared.tables.Tables.{Tables};
-ghost use Rattle.node_form.specs.Fits.{Fits};
-ghost use Rattle.code_parts.specs.Counts.{code_size, count_of};
+ghost use Rattle.flat_form.specs.of_node_form.declared.instructions.Instr.{Instr};
+ghost use Rattle.flat_form.specs.of_node_form.declared.instructions.Instr.TheVariants.{Print};
+ghost use Rattle.flat_form.specs.of_node_form.declared.tables.Tables.{Tables};
+ghost use Rattle.flat_form.specs.of_node_form.Fits.{Fits};
+ghost use Rattle.flat_form.specs.of_code_parts.Counts.{code_size, count_of};
 ghost use Rattle.flat_form.specs.Act.{flat_run};
 ghost use Rattle.flat_form.specs.Flat.{IsFlat};
 ghost use Rattle.flat_form.specs.Row.{all_inlined};

@@ -8,6 +8,7 @@ mod different;
 mod laws;
 mod share;
 
+pub use flat_form::node_form;
 pub use laws::{
     rows_are_the_same_inline, shared_tables_are_no_larger, shared_tables_fit,
     shared_texts_are_different,

@@ -4,7 +4,7 @@ ghost use Rattle.text_sharing.specs.Shared.{different, number_among, row_shared,
 ghost use Rattle.text_sharing.specs.Numbered.{IsNumbered};
 
 use crate::different::{Different, different_of};
-use node_form::{Code, Instr, Tables, Texts};
+use flat_form::node_form::{Code, Instr, Tables, Texts};
 use std::alloc::{AllocError, Global};
 
 /// The tables with each different text once, in the order in which they first have it; rows that

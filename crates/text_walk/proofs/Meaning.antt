@@ -3,11 +3,11 @@ use Rattle.std.proofs.Common.{◌≡◌, ℕ, inl, inr, Bool, true, false, cond,
 use Rattle.std.specs.Prelude.{nat_lt}
 use Rattle.std.specs.List.{fold, flat_map, filter_map, cons_option}
 use Rattle.std.proofs.lemmas.List.Sums.{fold-append}
-use Rattle.zpl_names.specs.Accepted as kind
-use Rattle.zpl_names.specs.Accepted.{FaultKind, tagged}
-use Rattle.zpl_names.specs.Sites.{Site, CallSite, call_of}
-use Rattle.zpl_names.specs.Faults.{unknown_names, twice_named, unknown_types, type_clashes, rank_clashes, no_regions, flood_clashes, shatter_bodies, not_assignable, arguments, return_places, call_places, mask_places, masked_statements, border_forms, unknown_ranks}
-use Rattle.zpl_names.proofs.ListLemmas.{Among, Contains-from_among}
+use Rattle.site_faults.specs.of_zpl_names.Accepted as kind
+use Rattle.site_faults.specs.of_zpl_names.Accepted.{FaultKind, tagged}
+use Rattle.site_faults.specs.of_zpl_names.Sites.{Site, CallSite, call_of}
+use Rattle.site_faults.specs.of_zpl_names.Faults.{unknown_names, twice_named, unknown_types, type_clashes, rank_clashes, no_regions, flood_clashes, shatter_bodies, not_assignable, arguments, return_places, call_places, mask_places, masked_statements, border_forms, unknown_ranks}
+use Rattle.site_faults.proofs.of_zpl_names.ListLemmas.{Among, Contains-from_among}
 use Rattle.site_faults.specs.Findings.{Found, State, after, kept, order_of, region_told, tells, text_told, told, where_reached, with_call}
 use Rattle.text_walk.specs.Meaning.{IsOneOf, faults_of}
 

@@ -13,10 +13,10 @@ use Rattle.zpl_tree.specs.declared.statements.Form.TheVariants as code
 use Rattle.zpl_tree.specs.declared.statements.Stmt.{Stmt as CodeStmt}
 use Rattle.zpl_tree.specs.declared.expressions.Expr.{Expr as CodeExpr}
 use Rattle.zpl_tree.proofs.Views.{arm_of-parts}
-use Rattle.zpl_names.specs.Accepted as kind
-use Rattle.zpl_names.specs.Declared.{own_names}
-use Rattle.zpl_names.specs.Faults.{at_if, body_returns, ends_in_return, repeated}
-use Rattle.zpl_names.specs.Sites.{AtBase, AtProcedure, Reach, Site, Test, arms_sites, body_sites, stmt_sites, stmts_sites, whole_sites}
+use Rattle.site_faults.specs.of_zpl_names.Accepted as kind
+use Rattle.site_faults.specs.of_zpl_names.Declared.{own_names}
+use Rattle.site_faults.specs.of_zpl_names.Faults.{at_if, body_returns, ends_in_return, repeated}
+use Rattle.site_faults.specs.of_zpl_names.Sites.{AtBase, AtProcedure, Reach, Site, Test, arms_sites, body_sites, stmt_sites, stmts_sites, whole_sites}
 use Rattle.site_faults.specs.Findings.{State, after, region_told, tells, text_told}
 use Rattle.site_faults.proofs.FindingLemmas.{drop-next}
 

@@ -1,9 +1,9 @@
 -- What a walk finds, said of the faults of its sites.
 use Rattle.std.specs.Prelude.{◌≡◌, Bool, List, [], ◌++◌, flat_map, fold, Option, Some, None, Contains}
-use Rattle.zpl_names.specs.Sites.{Site}
-use Rattle.zpl_names.specs.Faults.{flood_clashes, masked_statements}
-use Rattle.zpl_names.specs.Accepted as kind
-use Rattle.zpl_names.specs.Accepted.{site_faults, tagged}
+use Rattle.site_faults.specs.of_zpl_names.Sites.{Site}
+use Rattle.site_faults.specs.of_zpl_names.Faults.{flood_clashes, masked_statements}
+use Rattle.site_faults.specs.of_zpl_names.Accepted as kind
+use Rattle.site_faults.specs.of_zpl_names.Accepted.{site_faults, tagged}
 use Rattle.site_faults.specs.Findings.{Found, kept, where_reached}
 
 -- The faults that a walk tells of a site: those of the text; and where some chain of calls gives the

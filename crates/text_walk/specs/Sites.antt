@@ -2,7 +2,7 @@
 use Rattle.std.specs.Prelude.{ℕ, List, [], ◌∷◌, ◌++◌}
 use Rattle.zpl_tree.specs.Syntax.{Base, Bracket, NoBracket, Bracketed, Define, Form, Inner, Posts, Prefix}
 use Rattle.std.specs.Prelude.{Some}
-use Rattle.zpl_names.specs.Sites.{AtBase, AtPosts, AtStmt, Initial, Reach, Site, form_sites, posts_sites, region_sites, whole_sites}
+use Rattle.site_faults.specs.of_zpl_names.Sites.{AtBase, AtPosts, AtStmt, Initial, Reach, Site, form_sites, posts_sites, region_sites, whole_sites}
 
 -- a statement under its prefixes, and what stands in it
 abbrev pub own_sites : Reach → ℕ → List Prefix → Form → List Site

@@ -3,7 +3,7 @@ ghost use Rattle.std.specs.Prelude.{◌≡◌, ◌∷◌, OnOk, Some};
 ghost use Rattle.zpl_tree.specs.Syntax as plain;
 ghost use Rattle.zpl_tree.specs.View.{base_type_of, bracket_of, define_of, exprs_of, inner_of};
 ghost use Rattle.zpl_tree.specs.View.{posts_of};
-ghost use Rattle.zpl_names.specs.Sites as sites;
+ghost use Rattle.site_faults.specs.of_zpl_names.Sites as sites;
 ghost use Rattle.site_faults.specs.Reach.{reach_of};
 ghost use Rattle.site_faults.specs.Walk.{Tells, Walks};
 ghost use Rattle.text_walk.specs.Sites.{bracket_sites, define_sites, region_def_sites};

@@ -2,7 +2,7 @@
 //!
 //! The law is the contract of a function that does nothing: a call brings it into a proof.
 ghost use Rattle.std.specs.Prelude.{◌≡◌, ◌++◌, Bool, List, None, filter_map};
-ghost use Rattle.zpl_names.specs.Sites.{CallSite, Site, call_of};
+ghost use Rattle.site_faults.specs.of_zpl_names.Sites.{CallSite, Site, call_of};
 ghost use Rattle.site_faults.specs.Findings.{State, walked};
 ghost use Rattle.text_walk.specs.Meaning.{IsOneOf, all_faults};
 

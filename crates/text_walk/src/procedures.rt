@@ -2,9 +2,9 @@
 ghost use Rattle.std.specs.Prelude.{◌≡◌, [], OnOk, map};
 ghost use Rattle.std.specs.Option.{option_map};
 ghost use Rattle.zpl_tree.specs.View.{base_type_of, procedure_of, stmt_of, stmts_of};
-ghost use Rattle.zpl_names.specs.Declared.{own_names};
-ghost use Rattle.zpl_names.specs.Faults as faults;
-ghost use Rattle.zpl_names.specs.Sites as sites;
+ghost use Rattle.site_faults.specs.of_zpl_names.Declared.{own_names};
+ghost use Rattle.site_faults.specs.of_zpl_names.Faults as faults;
+ghost use Rattle.site_faults.specs.of_zpl_names.Sites as sites;
 ghost use Rattle.site_faults.specs.Reach.{reach_of};
 ghost use Rattle.site_faults.specs.Walk.{Tells, Walks};
 

@@ -4,21 +4,21 @@ ghost use Rattle.std.specs.Option.{option_map};
 ghost use Rattle.zpl_tree.specs.Syntax as plain;
 ghost use Rattle.zpl_tree.specs.View.{arms_of, expr_of, exprs_of, head_of, item_of, name_of};
 ghost use Rattle.zpl_tree.specs.View.{prefix_of, statement_of, stmt_of, stmts_of};
-ghost use Rattle.zpl_names.specs.Faults.{kind_at};
-ghost use Rattle.zpl_names.specs.Sites as sites;
+ghost use Rattle.site_faults.specs.of_zpl_names.Faults.{kind_at};
+ghost use Rattle.site_faults.specs.of_zpl_names.Sites as sites;
 ghost use Rattle.name_kinds.specs.Seen.{known_of};
 ghost use Rattle.site_faults.specs.Reach.{call_role_of, reach_of};
 ghost use Rattle.site_faults.specs.Walk.{Walks};
 ghost use Rattle.text_walk.specs.Sites.{own_sites};
 
 use name_kinds::{Kind, is_array, part_of};
+use site_faults::zpl_nums::Op;
 use site_faults::{
     CallRole, Findings, Reach, Role, arms_rank, tell_assign, tell_block, tell_border, tell_call,
     tell_for, tell_if, tell_invoke, tell_loop, tell_mask, tell_return, tell_whole, tell_write,
     test_rank, walk_actuals, walk_region, walk_whole,
 };
 use std::alloc::AllocError;
-use zpl_nums::Op;
 use zpl_tree::{Arm, Expr, ExprForm, ForHead, Form, Item, Name, Prefix, Stmt};
 
 // Walks over a prefix.

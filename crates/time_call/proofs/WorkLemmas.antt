@@ -5,34 +5,34 @@ use Rattle.zpl_io.specs.Sink.{Takes, TakesFront}
 use Rattle.node_form.specs.declared.tables.Tables.{Tables}
 use Rattle.grid_meaning.specs.Grid.{processors}
 use Rattle.grid_runs.specs.Run.{Run}
-use Rattle.grid_sim.specs.declared.counts.Counts.{Counts}
+use Rattle.exec_call.specs.of_grid_sim.declared.counts.Counts.{Counts}
 use Rattle.call_claims.specs.Call.{Call, call_of}
 use Rattle.call_claims.specs.Command.{Asked, IsTime, latency_of}
 use Rattle.call_claims.specs.Decided.{IsDecided}
 use Rattle.call_claims.specs.Execution.{Execution, HasNoCounts, HasNoRun, execution_of}
 use Rattle.call_claims.specs.Stream.{Stream}
 use Rattle.call_claims.specs.declared.status.TheConstants.{PUT_FAILED}
-use Rattle.exec_claims.specs.Answer.{HasCounts, IsListedIn, Runs}
-use Rattle.exec_claims.specs.Cause.{ListingFileCause, OrderFileCause, RunCause, run_of}
-use Rattle.exec_claims.specs.Cause.RunCause.{done, trap, turn_limit, stuck, idle}
-use Rattle.exec_claims.specs.Cause.TextCause.{too_long, unreadable, work as of_text}
-use Rattle.exec_claims.specs.Cause.ListingCause.{bad_line, bad_table, listed}
-use Rattle.exec_claims.specs.Decided.{HasRun}
-use Rattle.call_answers.specs.Answers.{IsUnrun, status_of, told_of}
-use Rattle.call_answers.specs.Told.{IsAnswerOf}
-use Rattle.call_answers.specs.Work.{execution_in, ran_of}
-use Rattle.call_answers.specs.declared.answers.Answer.{Answer}
-use Rattle.call_answers.specs.declared.refusals.BuildFault.{BuildFault}
-use Rattle.call_answers.specs.declared.refusals.BuildFault.TheVariants as unbuilt
-use Rattle.call_answers.specs.declared.answers.Answer.TheVariants as answer
-use Rattle.call_answers.specs.declared.answers.Stop.TheVariants as stop
-use Rattle.call_answers.specs.declared.work.Work.{Work}
-use Rattle.call_answers.proofs.AnswerLemmas.{kind_of}
-use Rattle.call_answers.proofs.AnswerLemmas.Kind.{is_failed, is_wanting, is_decided}
-use Rattle.call_answers.proofs.CallLemmas.{told_as, work_other}
+use Rattle.time_claims.specs.of_exec_claims.Answer.{HasCounts, IsListedIn, Runs}
+use Rattle.time_claims.specs.of_exec_claims.Cause.{ListingFileCause, OrderFileCause, RunCause, run_of}
+use Rattle.time_claims.specs.of_exec_claims.Cause.RunCause.{done, trap, turn_limit, stuck, idle}
+use Rattle.time_claims.specs.of_exec_claims.Cause.TextCause.{too_long, unreadable, work as of_text}
+use Rattle.time_claims.specs.of_exec_claims.Cause.ListingCause.{bad_line, bad_table, listed}
+use Rattle.time_claims.specs.of_exec_claims.Decided.{HasRun}
+use Rattle.exec_call.specs.of_call_answers.Answers.{IsUnrun, status_of, told_of}
+use Rattle.exec_call.specs.of_call_answers.Told.{IsAnswerOf}
+use Rattle.exec_call.specs.of_call_answers.Work.{execution_in, ran_of}
+use Rattle.exec_call.specs.of_call_answers.declared.answers.Answer.{Answer}
+use Rattle.exec_call.specs.of_call_answers.declared.refusals.BuildFault.{BuildFault}
+use Rattle.exec_call.specs.of_call_answers.declared.refusals.BuildFault.TheVariants as unbuilt
+use Rattle.exec_call.specs.of_call_answers.declared.answers.Answer.TheVariants as answer
+use Rattle.exec_call.specs.of_call_answers.declared.answers.Stop.TheVariants as stop
+use Rattle.exec_call.specs.of_call_answers.declared.work.Work.{Work}
+use Rattle.exec_call.proofs.of_call_answers.AnswerLemmas.{kind_of}
+use Rattle.exec_call.proofs.of_call_answers.AnswerLemmas.Kind.{is_failed, is_wanting, is_decided}
+use Rattle.exec_call.proofs.of_call_answers.CallLemmas.{told_as, work_other}
 use Rattle.exec_call.specs.Work.{ReadsNone}
-use Rattle.grid_call.specs.Work.{HasNoTurns, IsOrderOf}
-use Rattle.grid_call.proofs.WorkLemmas.{cause_back, none_counted, order_back}
+use Rattle.exec_call.specs.of_grid_call.Work.{HasNoTurns, IsOrderOf}
+use Rattle.exec_call.proofs.of_grid_call.WorkLemmas.{cause_back, none_counted, order_back}
 use Rattle.time_claims.specs.Answer.{IsOverStatus, IsReadFor, TakesOutput, TakesTime, TakesTimeFront, TellsTime}
 use Rattle.time_claims.specs.Cause.{Cause, IsRunEnd, TimeCause}
 use Rattle.time_claims.specs.Cause.Cause.{time}

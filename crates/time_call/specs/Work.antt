@@ -12,28 +12,28 @@ use Rattle.zpl_nums.specs.declared.ends.End.TheVariants as ending
 use Rattle.zpl_io.specs.Sink.{Takes, TakesFront}
 use Rattle.node_form.specs.declared.tables.Tables.{Tables}
 use Rattle.grid_runs.specs.Run.{Run, GoesOnTo, grid_at, turns_in}
-use Rattle.grid_sim.specs.declared.counts.Counts.{Counts}
-use Rattle.grid_sim.specs.declared.faults.SimFault.{SimFault}
-use Rattle.grid_sim.specs.declared.faults.SimFault.TheVariants as fault
-use Rattle.grid_time.specs.Timed.{IsPastMoves, moves_at}
-use Rattle.grid_time.specs.declared.faults.TimeFault.{TimeFault}
-use Rattle.grid_time.specs.declared.faults.TimeFault.TheVariants as time
+use Rattle.exec_call.specs.of_grid_sim.declared.counts.Counts.{Counts}
+use Rattle.exec_call.specs.of_grid_sim.declared.faults.SimFault.{SimFault}
+use Rattle.exec_call.specs.of_grid_sim.declared.faults.SimFault.TheVariants as fault
+use Rattle.time_claims.specs.of_grid_time.Timed.{IsPastMoves, moves_at}
+use Rattle.time_claims.specs.of_grid_time.declared.faults.TimeFault.{TimeFault}
+use Rattle.time_claims.specs.of_grid_time.declared.faults.TimeFault.TheVariants as time
 use Rattle.grid_timetable.specs.Adding.{most_moves}
 use Rattle.grid_timetable.specs.History.{History}
 use Rattle.call_claims.specs.Call.{Call}
 use Rattle.call_claims.specs.Command.{Asked, latency_of}
 use Rattle.call_claims.specs.Decided.{IsDecided}
-use Rattle.exec_claims.specs.Answer.{IsListedIn}
-use Rattle.exec_claims.specs.Cause.{RunCause, run_of}
-use Rattle.exec_claims.specs.Texts.{too_many_moves_text}
-use Rattle.exec_claims.specs.declared.status.TheConstants.{TOO_MANY_MOVES}
-use Rattle.call_answers.specs.Answers.{IsUnrun, status_of, told_of}
-use Rattle.call_answers.specs.declared.answers.Answer.{Answer}
-use Rattle.call_answers.specs.declared.answers.Answer.TheVariants as answer
-use Rattle.call_answers.specs.declared.answers.Stop.{Stop}
-use Rattle.call_answers.specs.declared.answers.Stop.TheVariants as stop
-use Rattle.call_answers.specs.declared.work.Work.{Work}
-use Rattle.grid_call.specs.Work.{HasNoTurns, IsOrderOf, OrderFails}
+use Rattle.time_claims.specs.of_exec_claims.Answer.{IsListedIn}
+use Rattle.time_claims.specs.of_exec_claims.Cause.{RunCause, run_of}
+use Rattle.time_claims.specs.of_exec_claims.Texts.{too_many_moves_text}
+use Rattle.time_claims.specs.of_exec_claims.declared.status.TheConstants.{TOO_MANY_MOVES}
+use Rattle.exec_call.specs.of_call_answers.Answers.{IsUnrun, status_of, told_of}
+use Rattle.exec_call.specs.of_call_answers.declared.answers.Answer.{Answer}
+use Rattle.exec_call.specs.of_call_answers.declared.answers.Answer.TheVariants as answer
+use Rattle.exec_call.specs.of_call_answers.declared.answers.Stop.{Stop}
+use Rattle.exec_call.specs.of_call_answers.declared.answers.Stop.TheVariants as stop
+use Rattle.exec_call.specs.of_call_answers.declared.work.Work.{Work}
+use Rattle.exec_call.specs.of_grid_call.Work.{HasNoTurns, IsOrderOf, OrderFails}
 use Rattle.exec_call.specs.Work.{ReadsNone}
 use Rattle.time_claims.specs.Answer.{IsTimeText, TellsTime}
 

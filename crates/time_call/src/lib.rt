@@ -11,3 +11,4 @@ mod runs;
 mod tables;
 
 pub use call::time;
+pub use exec_call;

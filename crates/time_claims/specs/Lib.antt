@@ -1,3 +1,5 @@
 pub mod Answer
 pub mod Cause
 pub mod Decided
+pub use Rattle.exec_claims.specs as of_exec_claims
+pub use Rattle.grid_time.specs as of_grid_time

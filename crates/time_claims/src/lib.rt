@@ -7,4 +7,5 @@
 
 mod laws;
 
+pub use grid_time;
 pub use laws::time_statuses_are_exact;

@@ -4,23 +4,23 @@ use Rattle.std.proofs.Common.{IfSome, refl, sym, subst, arith}
 use Rattle.node_form.specs.declared.tables.Tables.{Tables}
 use Rattle.zpl_claims.specs.Build.{Build}
 use Rattle.call_claims.specs.Call.{Call}
-use Rattle.list_claims.specs.Cause.{TextFault, ProgramCause}
+use Rattle.gen_call.specs.of_list_claims.Cause.{TextFault, ProgramCause}
 use Rattle.call_claims.specs.Cause.{FileCause}
-use Rattle.list_claims.specs.Cause.CodeCause.{faulty}
+use Rattle.gen_call.specs.of_list_claims.Cause.CodeCause.{faulty}
 use Rattle.call_claims.specs.Cause.FileCause.{unreadable, too_long, work}
-use Rattle.list_claims.specs.Cause.TextFault.{refused, unbound}
+use Rattle.gen_call.specs.of_list_claims.Cause.TextFault.{refused, unbound}
 use Rattle.call_claims.specs.Decided.{IsDecided}
 use Rattle.call_claims.specs.Execution.{Execution, HasNoRun}
 use Rattle.call_claims.specs.Source.{Source}
 use Rattle.call_claims.specs.Texts.{too_long_text, unreadable_text}
 use Rattle.call_claims.specs.declared.status.TheConstants.{DONE, TOO_LONG, UNREADABLE}
 use Rattle.zpl_text.specs.declared.TheConstants.{MOST_SOURCE}
-use Rattle.call_answers.specs.Answers.{status_of, told_of}
-use Rattle.call_answers.specs.Fetched.{IsNoText}
-use Rattle.text_code.specs.Refusals.{IsUncoded}
+use Rattle.mean_call.specs.of_call_answers.Answers.{status_of, told_of}
+use Rattle.mean_call.specs.of_call_answers.Fetched.{IsNoText}
+use Rattle.gen_call.specs.of_text_code.Refusals.{IsUncoded}
 use Rattle.top_call.specs.Work.{HasNoCode}
-use Rattle.call_answers.specs.declared.answers.Answer.{Answer}
-use Rattle.call_answers.specs.declared.answers.Answer.TheVariants as answer
+use Rattle.mean_call.specs.of_call_answers.declared.answers.Answer.{Answer}
+use Rattle.mean_call.specs.of_call_answers.declared.answers.Answer.TheVariants as answer
 
 -- ---- a fault of a text is told of its file
 pub no_code : (call : Call) (file : List ℕ) (build : Build) (source : Source call file)

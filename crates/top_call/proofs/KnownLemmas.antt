@@ -4,17 +4,17 @@ use Rattle.node_form.specs.declared.tables.Tables.{Tables}
 use Rattle.zpl_claims.specs.Build.{Build}
 use Rattle.call_claims.specs.Call.{Call}
 use Rattle.call_claims.specs.Command.{build_of}
-use Rattle.list_claims.specs.Cause.{Cause, CodeCause, IsListed, ProgramCause}
-use Rattle.list_claims.specs.Cause.Cause.{no_memory, list}
-use Rattle.list_claims.specs.Cause.CodeCause.{faulty, made}
+use Rattle.gen_call.specs.of_list_claims.Cause.{Cause, CodeCause, IsListed, ProgramCause}
+use Rattle.gen_call.specs.of_list_claims.Cause.Cause.{no_memory, list}
+use Rattle.gen_call.specs.of_list_claims.Cause.CodeCause.{faulty, made}
 use Rattle.call_claims.specs.Cause.FileCause.{unreadable, too_long, work}
-use Rattle.list_claims.specs.Cause.IsListed.{listed}
+use Rattle.gen_call.specs.of_list_claims.Cause.IsListed.{listed}
 use Rattle.call_claims.specs.Execution.{Execution}
 use Rattle.call_claims.specs.declared.status.TheConstants.{USAGE}
-use Rattle.list_claims.proofs.ProgramLemmas.{fault_other}
-use Rattle.exec_claims.proofs.KnownLemmas.{order_file_known}
-use Rattle.run_claims.specs.Cause as run_cause
-use Rattle.run_claims.specs.Cause.Cause.{no_memory as wanting, run}
+use Rattle.gen_call.proofs.of_list_claims.ProgramLemmas.{fault_other}
+use Rattle.mean_call.proofs.of_exec_claims.KnownLemmas.{order_file_known}
+use Rattle.gen_call.specs.of_run_claims.Cause as run_cause
+use Rattle.gen_call.specs.of_run_claims.Cause.Cause.{no_memory as wanting, run}
 
 -- where what is done with the code hasn't it
 abbrev pub AreKnown : (Tables → ℕ → List ℕ → Type 0) → Type 0

@@ -5,25 +5,25 @@ use Rattle.zpl_io.specs.Sink.{Takes, TakesFront}
 use Rattle.node_form.specs.declared.tables.Tables.{Tables}
 use Rattle.listing_rows.specs.Listing.{listing_of}
 use Rattle.call_claims.specs.Call.{Call}
-use Rattle.list_claims.specs.Cause.{IsListed, ListCause}
-use Rattle.list_claims.specs.Cause.CodeCause.{made}
+use Rattle.gen_call.specs.of_list_claims.Cause.{IsListed, ListCause}
+use Rattle.gen_call.specs.of_list_claims.Cause.CodeCause.{made}
 use Rattle.call_claims.specs.Cause.FileCause.{work as of_text}
-use Rattle.list_claims.specs.Cause.IsListed.{listed}
+use Rattle.gen_call.specs.of_list_claims.Cause.IsListed.{listed}
 use Rattle.call_claims.specs.Command.{Asked, build_of}
 use Rattle.call_claims.specs.Decided.{IsDecided}
 use Rattle.call_claims.specs.Execution.{Execution, HasNoRun}
-use Rattle.list_claims.specs.Listing.{IsMadeOf, TakesListing, TakesListingFront}
+use Rattle.gen_call.specs.of_list_claims.Listing.{IsMadeOf, TakesListing, TakesListingFront}
 use Rattle.call_claims.specs.Stream.{Stream}
 use Rattle.call_claims.specs.declared.status.TheConstants.{DONE, PUT_FAILED, UNREADABLE}
-use Rattle.call_answers.specs.Told.{IsAnswerOf}
-use Rattle.call_answers.proofs.CallLemmas.{told_as}
-use Rattle.call_answers.specs.Answers.{status_of, told_of}
-use Rattle.call_answers.specs.Work.{execution_in, no_counts}
+use Rattle.mean_call.specs.of_call_answers.Told.{IsAnswerOf}
+use Rattle.mean_call.proofs.of_call_answers.CallLemmas.{told_as}
+use Rattle.mean_call.specs.of_call_answers.Answers.{status_of, told_of}
+use Rattle.mean_call.specs.of_call_answers.Work.{execution_in, no_counts}
 use Rattle.top_call.specs.Work.{HasNoCode, IsListOn, IsOfListing}
-use Rattle.call_answers.specs.declared.answers.Answer.{Answer}
-use Rattle.call_answers.specs.declared.answers.Answer.TheVariants as answer
-use Rattle.call_answers.specs.declared.answers.Stop.TheVariants as stop
-use Rattle.call_answers.specs.declared.work.Work.{Work}
+use Rattle.mean_call.specs.of_call_answers.declared.answers.Answer.{Answer}
+use Rattle.mean_call.specs.of_call_answers.declared.answers.Answer.TheVariants as answer
+use Rattle.mean_call.specs.of_call_answers.declared.answers.Stop.TheVariants as stop
+use Rattle.mean_call.specs.of_call_answers.declared.work.Work.{Work}
 use Rattle.top_call.proofs.FileLemmas.{none_caused}
 
 pub no_turns : (work : Work) → work.counts ≡ no_counts → work.counts.turns ≡ 0

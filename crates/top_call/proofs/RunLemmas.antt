@@ -3,22 +3,22 @@ use Rattle.std.proofs.Common.{◌≡◌, ◌≢◌, ℕ, List, Some, MatchOption
 use Rattle.std.proofs.Common.{sym, ap, subst, inl, inr}
 use Rattle.node_form.specs.declared.tables.Tables.{Tables}
 use Rattle.call_claims.specs.Call.{Call}
-use Rattle.list_claims.specs.Cause.CodeCause.{made as of_code_made}
+use Rattle.gen_call.specs.of_list_claims.Cause.CodeCause.{made as of_code_made}
 use Rattle.call_claims.specs.Cause.FileCause.{work as of_file}
 use Rattle.call_claims.specs.Command.{Asked, IsRun, build_of}
 use Rattle.call_claims.specs.Decided.{IsDecided}
 use Rattle.call_claims.specs.Execution.{HasNoCounts}
-use Rattle.exec_claims.specs.Cause.{OrderFileCause}
-use Rattle.grid_call.specs.Work.{IsCodeWork}
-use Rattle.grid_call.specs.Work.IsCodeWork.{unordered, ran}
-use Rattle.grid_call.proofs.WorkLemmas.{none_counted, of_code, run_counted}
-use Rattle.run_claims.specs.Answer.{IsMadeFor, IsOutputCut, TakesPrinted}
-use Rattle.run_claims.specs.Cause.{Cause}
-use Rattle.run_claims.specs.Cause.Cause.{run}
-use Rattle.call_answers.specs.Answers.{status_of, told_of}
-use Rattle.call_answers.specs.Work.{execution_in, ran_of}
-use Rattle.call_answers.specs.declared.answers.Answer.TheVariants as answer
-use Rattle.call_answers.specs.declared.work.Work.{Work}
+use Rattle.mean_call.specs.of_exec_claims.Cause.{OrderFileCause}
+use Rattle.gen_call.specs.of_grid_call.Work.{IsCodeWork}
+use Rattle.gen_call.specs.of_grid_call.Work.IsCodeWork.{unordered, ran}
+use Rattle.gen_call.proofs.of_grid_call.WorkLemmas.{none_counted, of_code, run_counted}
+use Rattle.gen_call.specs.of_run_claims.Answer.{IsMadeFor, IsOutputCut, TakesPrinted}
+use Rattle.gen_call.specs.of_run_claims.Cause.{Cause}
+use Rattle.gen_call.specs.of_run_claims.Cause.Cause.{run}
+use Rattle.mean_call.specs.of_call_answers.Answers.{status_of, told_of}
+use Rattle.mean_call.specs.of_call_answers.Work.{execution_in, ran_of}
+use Rattle.mean_call.specs.of_call_answers.declared.answers.Answer.TheVariants as answer
+use Rattle.mean_call.specs.of_call_answers.declared.work.Work.{Work}
 use Rattle.top_call.specs.Work.{IsRunWork}
 use Rattle.top_call.specs.Work.IsRunWork.{unmade, made}
 use Rattle.top_call.proofs.FileLemmas.{none_caused}

@@ -7,23 +7,23 @@ use Rattle.zpl_io.specs.Sink.{Takes, TakesFront}
 use Rattle.call_claims.specs.declared.ran.Ran.{Ran}
 use Rattle.call_claims.specs.Answer.{IsAnswered, IsHalfAnswered}
 use Rattle.call_claims.specs.Call.{Call}
-use Rattle.list_claims.specs.Cause.{Cause, Lists}
+use Rattle.gen_call.specs.of_list_claims.Cause.{Cause, Lists}
 use Rattle.call_claims.specs.Command.{Asked, IsExec, IsGen, IsList, IsMean, IsRun, IsTime, build_of}
 use Rattle.call_claims.specs.Decided.{IsSettled}
-use Rattle.list_claims.specs.Decided.{IsExact}
-use Rattle.list_claims.specs.Whole.{CanList, HasListed}
+use Rattle.gen_call.specs.of_list_claims.Decided.{IsExact}
+use Rattle.gen_call.specs.of_list_claims.Whole.{CanList, HasListed}
 use Rattle.listing_rows.specs.Listing.{listing_of}
-use Rattle.zpl_compile.specs.Compile.{compiled}
+use Rattle.gen_call.specs.of_zpl_compile.Compile.{compiled}
 use Rattle.call_claims.specs.Execution.{execution_of, HasNoCounts}
-use Rattle.list_claims.specs.Listing.{IsMadeOf, TakesListingFront}
-use Rattle.list_claims.specs.Listing.{TakesOutput}
+use Rattle.gen_call.specs.of_list_claims.Listing.{IsMadeOf, TakesListingFront}
+use Rattle.gen_call.specs.of_list_claims.Listing.{TakesOutput}
 use Rattle.call_claims.specs.Stream.{Stream}
 use Rattle.call_claims.specs.Texts.{usage_text}
 use Rattle.call_claims.specs.declared.status.TheConstants.{PUT_FAILED, USAGE}
-use Rattle.run_claims.specs.Answer.{IsMadeFor, IsOutputCut, TakesPrinted}
-use Rattle.run_claims.specs.Cause as ran
-use Rattle.run_claims.specs.Decided.{IsExact as IsRunExact}
-use Rattle.run_claims.specs.Whole.{CanFinish, HasFinished, meant_by}
+use Rattle.gen_call.specs.of_run_claims.Answer.{IsMadeFor, IsOutputCut, TakesPrinted}
+use Rattle.gen_call.specs.of_run_claims.Cause as ran
+use Rattle.gen_call.specs.of_run_claims.Decided.{IsExact as IsRunExact}
+use Rattle.gen_call.specs.of_run_claims.Whole.{CanFinish, HasFinished, meant_by}
 
 -- ---- words
 abbrev pub AsksList : List (List ℕ) → Type 0

@@ -8,19 +8,19 @@ use Rattle.std.specs.Prelude.{◌≡◌, ◌⊎◌, ℕ, List, None, Some}
 use Rattle.node_form.specs.declared.tables.Tables.{Tables}
 use Rattle.zpl_claims.specs.Build.{Build}
 use Rattle.call_claims.specs.Call.{Call}
-use Rattle.list_claims.specs.Cause.{TextFault, ListCause}
+use Rattle.gen_call.specs.of_list_claims.Cause.{TextFault, ListCause}
 use Rattle.call_claims.specs.Cause.{FileCause}
 use Rattle.call_claims.specs.Command.{Asked, build_of}
 use Rattle.call_claims.specs.Decided.{IsDecided}
 use Rattle.call_claims.specs.Execution.{Execution, HasNoRun}
-use Rattle.list_claims.specs.Listing.{IsMadeOf}
-use Rattle.grid_call.specs.Work.{HasNoTurns, IsCodeWork}
-use Rattle.call_answers.specs.Answers.{status_of, told_of}
-use Rattle.call_answers.specs.Work.{execution_in}
-use Rattle.call_answers.specs.declared.answers.Answer.{Answer}
-use Rattle.call_answers.specs.declared.answers.Answer.TheVariants as answer
-use Rattle.call_answers.specs.declared.answers.Stop.TheVariants as stop
-use Rattle.call_answers.specs.declared.work.Work.{Work}
+use Rattle.gen_call.specs.of_list_claims.Listing.{IsMadeOf}
+use Rattle.gen_call.specs.of_grid_call.Work.{HasNoTurns, IsCodeWork}
+use Rattle.mean_call.specs.of_call_answers.Answers.{status_of, told_of}
+use Rattle.mean_call.specs.of_call_answers.Work.{execution_in}
+use Rattle.mean_call.specs.of_call_answers.declared.answers.Answer.{Answer}
+use Rattle.mean_call.specs.of_call_answers.declared.answers.Answer.TheVariants as answer
+use Rattle.mean_call.specs.of_call_answers.declared.answers.Stop.TheVariants as stop
+use Rattle.mean_call.specs.of_call_answers.declared.work.Work.{Work}
 
 -- ---- no code: the answer has its cause, unless memory was wanting
 abbrev pub HasNoCode : Call → List ℕ → Build → Answer → Type 0

@@ -6,8 +6,8 @@ ghost use Rattle.call_claims.specs.Call.{call_of};
 ghost use Rattle.call_claims.specs.Command.{IsNoCommand};
 ghost use Rattle.call_claims.specs.Stream.{stream_of};
 ghost use Rattle.call_claims.specs.declared.status.TheConstants.{USAGE};
-ghost use Rattle.call_answers.specs.Stops.{CallStopsAtFault};
-ghost use Rattle.exec_call.specs.Call.{IsExecuted};
+ghost use Rattle.mean_call.specs.of_call_answers.Stops.{CallStopsAtFault};
+ghost use Rattle.time_call.specs.of_exec_call.Call.{IsExecuted};
 ghost use Rattle.gen_call.specs.Call.{IsGenerated};
 ghost use Rattle.mean_call.specs.Call.{IsMeant};
 ghost use Rattle.time_call.specs.Call.{IsTimed};
@@ -15,9 +15,9 @@ ghost use Rattle.top_call.specs.Call.{AsksExec, AsksGen, AsksList, AsksMean, Ask
 ghost use Rattle.top_call.specs.Call.{IsListed, IsRan, IsUnknown};
 
 use crate::commands::perform;
-use call_answers::{Answer, Work, answered};
 use call_claims::{Ran, commands_are_one};
 use call_words::command_of;
+use mean_call::call_answers::{Answer, Work, answered};
 use std::alloc::Global;
 use zpl_io::{Files, Sink};
 

@@ -6,17 +6,17 @@ ghost use Rattle.call_claims.specs.Call.{call_of};
 ghost use Rattle.call_claims.specs.Stream.{stream_of};
 ghost use Rattle.call_claims.specs.declared.status.TheConstants.{USAGE};
 ghost use Rattle.call_words.specs.Reading.{IsRead};
-ghost use Rattle.call_answers.specs.Stops.{CallStopsAtFault};
+ghost use Rattle.mean_call.specs.of_call_answers.Stops.{CallStopsAtFault};
 ghost use Rattle.top_call.specs.Done.{IsDone};
 
 use crate::lists::list;
 use crate::runs::run;
 use call_claims::Ran;
 use call_words::Command;
-use exec_call::exec;
 use gen_call::generate;
 use mean_call::mean;
 use std::alloc::Global;
+use time_call::exec_call::exec;
 use time_call::time;
 use zpl_io::{Files, Sink};
 

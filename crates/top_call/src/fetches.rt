@@ -5,16 +5,16 @@ ghost use Rattle.zpl_io.specs.Files.{SameTexts};
 ghost use Rattle.code_layout.specs.Room.{HasRoom};
 ghost use Rattle.call_claims.specs.Call.{call_of};
 ghost use Rattle.call_claims.specs.Command.{build_of};
-ghost use Rattle.list_claims.specs.Listing.{IsMadeOf};
-ghost use Rattle.call_answers.specs.Fetched.{FailsToFetch};
+ghost use Rattle.gen_call.specs.of_list_claims.Listing.{IsMadeOf};
+ghost use Rattle.mean_call.specs.of_call_answers.Fetched.{FailsToFetch};
 ghost use Rattle.call_words.specs.Reading.{asked_in};
 ghost use Rattle.top_call.specs.Work.{HasNoCode};
 
-use call_answers::{Answer, text_of_file};
 use call_words::Asked;
+use gen_call::text_code::code_of_text;
+use mean_call::call_answers::{Answer, text_of_file};
 use node_form::NodeProgram;
 use std::alloc::Global;
-use text_code::code_of_text;
 use zpl_io::Files;
 use zpl_text::MOST_SOURCE;
 

@@ -10,3 +10,4 @@ mod runs;
 
 pub use call::zplgrid;
 pub use call_claims::Ran;
+pub use mean_call::call_answers;

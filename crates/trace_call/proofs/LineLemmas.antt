@@ -17,14 +17,14 @@ use Rattle.grid_meaning.specs.Turn.{Turn}
 use Rattle.node_stages.specs.Stage.{staged}
 use Rattle.node_stages.specs.declared.stages.Stage.{Stage}
 use Rattle.node_stages.specs.declared.stages.Stage.TheVariants as stage
-use Rattle.row_turn.specs.Placed.{IsAtRow}
-use Rattle.row_turn.specs.Together.{IsTogether, OfRow}
-use Rattle.row_turn.proofs.RecordLemmas.{is_row, of_row}
-use Rattle.grid_sim.specs.Simulation.{IsTold, Simulation, counts_of, links_of, turn_given, turn_in, turned_by}
-use Rattle.grid_sim.specs.declared.counts.Counts.{Counts}
-use Rattle.grid_sim.specs.declared.turns.Told.{Told}
-use Rattle.grid_sim.specs.declared.turns.Turned.{Turned}
-use Rattle.grid_sim.specs.declared.turns.Turned.TheVariants as turned
+use Rattle.exec_call.specs.of_row_turn.Placed.{IsAtRow}
+use Rattle.exec_call.specs.of_row_turn.Together.{IsTogether, OfRow}
+use Rattle.exec_call.proofs.of_row_turn.RecordLemmas.{is_row, of_row}
+use Rattle.exec_call.specs.of_grid_sim.Simulation.{IsTold, Simulation, counts_of, links_of, turn_given, turn_in, turned_by}
+use Rattle.exec_call.specs.of_grid_sim.declared.counts.Counts.{Counts}
+use Rattle.exec_call.specs.of_grid_sim.declared.turns.Told.{Told}
+use Rattle.exec_call.specs.of_grid_sim.declared.turns.Turned.{Turned}
+use Rattle.exec_call.specs.of_grid_sim.declared.turns.Turned.TheVariants as turned
 use Rattle.trace_call.specs.Line.{line_at, line_of, line_with, move_text, stage_at, stage_running, turn_text, wait_text, words_in}
 use Rattle.trace_call.specs.Stages.{IsHeadOf}
 use Rattle.trace_call.specs.Telling.{event_in, event_text, moved_in, waits_in}

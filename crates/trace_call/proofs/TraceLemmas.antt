@@ -7,16 +7,16 @@ use Rattle.grid_meaning.specs.Local.{processors}
 use Rattle.grid_meaning.specs.Order.{turn_number}
 use Rattle.grid_runs.specs.Run.{IsStopped, IsStuckAt, Run, grid_at, next_processor}
 use Rattle.grid_runs.proofs.TurnLemmas.{turns_at}
-use Rattle.grid_sim.specs.Run.{IsRun, IsStuckOrIdle, run_in, run_to}
-use Rattle.grid_sim.specs.Simulation.{IsStuckTurn, Simulation, turn_given, turn_in}
-use Rattle.grid_sim.specs.Stop.{IsAtEnd, IsStop, IsTurnAt}
-use Rattle.grid_sim.specs.StuckKind.{StuckKind as Kind}
-use Rattle.grid_sim.specs.StuckKind.TheVariants as kind
-use Rattle.grid_sim.specs.Turned.{kind_told}
-use Rattle.grid_sim.specs.declared.faults.SimFault.{SimFault}
-use Rattle.grid_sim.specs.declared.faults.SimFault.TheVariants as fault
-use Rattle.grid_sim.specs.declared.runs.Rounds.{Rounds}
-use Rattle.grid_sim.proofs.RunLemmas.{HasGiven, given_more, given_none, run_limited, run_refused, run_stopped}
+use Rattle.exec_call.specs.of_grid_sim.Run.{IsRun, IsStuckOrIdle, run_in, run_to}
+use Rattle.exec_call.specs.of_grid_sim.Simulation.{IsStuckTurn, Simulation, turn_given, turn_in}
+use Rattle.exec_call.specs.of_grid_sim.Stop.{IsAtEnd, IsStop, IsTurnAt}
+use Rattle.exec_call.specs.of_grid_sim.StuckKind.{StuckKind as Kind}
+use Rattle.exec_call.specs.of_grid_sim.StuckKind.TheVariants as kind
+use Rattle.exec_call.specs.of_grid_sim.Turned.{kind_told}
+use Rattle.exec_call.specs.of_grid_sim.declared.faults.SimFault.{SimFault}
+use Rattle.exec_call.specs.of_grid_sim.declared.faults.SimFault.TheVariants as fault
+use Rattle.exec_call.specs.of_grid_sim.declared.runs.Rounds.{Rounds}
+use Rattle.exec_call.proofs.of_grid_sim.RunLemmas.{HasGiven, given_more, given_none, run_limited, run_refused, run_stopped}
 use Rattle.trace_call.specs.Line.{line_of}
 use Rattle.trace_call.specs.Telling.{HasFlushed, IsBuffered, IsLined, IsPutLast}
 use Rattle.trace_call.specs.Telling.IsPutLast.{cut, whole}

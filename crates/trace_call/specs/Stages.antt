@@ -9,7 +9,7 @@ use Rattle.grid_links.specs.Machine.{Heads}
 use Rattle.node_stages.specs.Stage.{staged}
 use Rattle.node_stages.specs.declared.stages.Stage.{Stage}
 use Rattle.node_stages.specs.declared.stages.Stage.TheVariants as stage
-use Rattle.row_turn.specs.Together.{NamesOne}
+use Rattle.exec_call.specs.of_row_turn.Together.{NamesOne}
 use Rattle.trace_call.specs.Line.{words_of}
 
 abbrev pub NamesOneOf : ℕ → Option Stage → Type 0

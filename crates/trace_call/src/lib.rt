@@ -16,3 +16,4 @@ mod stages;
 mod turns;
 
 pub use call::trace;
+pub use exec_call::call_answers;

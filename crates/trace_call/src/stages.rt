@@ -8,12 +8,12 @@ ghost use Rattle.node_stages.specs.Stage.{staged};
 ghost use Rattle.trace_call.specs.Line.{stage_at};
 ghost use Rattle.trace_call.specs.Stages.{IsHeadOf, NamesOneOf};
 
+use exec_call::grid_sim::Local;
+use exec_call::row_turn::{is_together, row_stage};
 use grid_layout::Layout;
 use grid_links::Links;
-use grid_sim::Local;
 use node_form::{NodeProgram, rows_fit};
 use node_stages::{Partners, Stage};
-use row_turn::{is_together, row_stage};
 
 /// At which stage of its next row processor p is, where that is a row in which processors work
 /// together.

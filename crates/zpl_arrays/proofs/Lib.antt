@@ -11,3 +11,5 @@ pub mod ReferenceLemmas
 pub mod RowLemmas
 pub mod ScanLemmas
 pub mod SourceLemmas
+pub use Rattle.zpl_nums.proofs as of_zpl_nums
+pub use Rattle.zpl_region.proofs as of_zpl_region

@@ -10,3 +10,5 @@ pub mod Line
 pub mod Reference
 pub mod Row
 pub mod Scan
+pub use Rattle.zpl_nums.specs as of_zpl_nums
+pub use Rattle.zpl_region.specs as of_zpl_region

@@ -20,3 +20,5 @@ pub use laws::{
 };
 pub use reductions::agrees;
 pub use sources::{around_coordinate, border_coordinate, border_source, flood_coordinate};
+pub use zpl_nums;
+pub use zpl_region;

@@ -7,21 +7,21 @@ use Rattle.zpl_region.specs.declared.regions.Region.{Region}
 use Rattle.zpl_tree.specs.Syntax.{NamedRegion, Ditto, Number, Truth, Coord, Named, Shifted, Around, Remap, Call, Paren, Neg, Not, Abs, Pair, Reduce, Scan, Flood, Exprs, NamedDir, Vector, Inner, Rexpr, Dims, Bracket, NoBracket, Bracketed, NoPost, ThenPost, Decl, Config, Constant, Regions, Directions, Vars, Defined, VarDef, RegionDef, Program}
 use Rattle.zpl_tree.specs.View.{decl_of}
 use Rattle.zpl_tree.specs.declared.declarations.Decl.{Decl as Arena}
-use Rattle.zpl_names.specs.Scope.{Entry}
-use Rattle.zpl_names.specs.Declared.{Routine, routines_of, routines_behind, with_decl, with_procedure}
-use Rattle.zpl_names.specs.Sites.{Site, AtWhole, AtExpr, AtCall, AtNamed, AtDir, AtRegion, AtMask, AtStmt, AtBase, AtPosts, AtProcedure, text_sites}
-use Rattle.zpl_binding.specs.Outcome as plain
-use Rattle.zpl_binding.specs.Outcome.{Outcome, Gives, failures}
-use Rattle.zpl_binding.specs.Settings.{Setting}
-use Rattle.zpl_binding.specs.Regions.{Known}
-use Rattle.zpl_binding.specs.Declarations.{known_of}
-use Rattle.zpl_binding.specs.Vectors.{vector_of}
-use Rattle.zpl_binding.specs.Storages.{Border, borders_at, borders_of, innermost, shaped_by, shaped_in, storages_of}
-use Rattle.zpl_binding.specs.Bound.{Bound, Binds, vectors_at, vectors_in, computed_values, computed_regions, computed_vectors, computed_storages, faults_of, faults_of_settings}
-use Rattle.zpl_binding.specs.Settings.{twice_set}
-use Rattle.zpl_binding.proofs.OutcomeLemmas.{given-none}
-use Rattle.zpl_names.specs.Declared.{globals_of}
-use Rattle.zpl_names.specs.Faults.{repeated}
+use Rattle.zpl_parts.specs.of_zpl_names.Scope.{Entry}
+use Rattle.zpl_parts.specs.of_zpl_names.Declared.{Routine, routines_of, routines_behind, with_decl, with_procedure}
+use Rattle.zpl_parts.specs.of_zpl_names.Sites.{Site, AtWhole, AtExpr, AtCall, AtNamed, AtDir, AtRegion, AtMask, AtStmt, AtBase, AtPosts, AtProcedure, text_sites}
+use Rattle.zpl_parts.specs.of_zpl_binding.Outcome as plain
+use Rattle.zpl_parts.specs.of_zpl_binding.Outcome.{Outcome, Gives, failures}
+use Rattle.zpl_parts.specs.of_zpl_binding.Settings.{Setting}
+use Rattle.zpl_parts.specs.of_zpl_binding.Regions.{Known}
+use Rattle.zpl_parts.specs.of_zpl_binding.Declarations.{known_of}
+use Rattle.zpl_parts.specs.of_zpl_binding.Vectors.{vector_of}
+use Rattle.zpl_parts.specs.of_zpl_binding.Storages.{Border, borders_at, borders_of, innermost, shaped_by, shaped_in, storages_of}
+use Rattle.zpl_parts.specs.of_zpl_binding.Bound.{Bound, Binds, vectors_at, vectors_in, computed_values, computed_regions, computed_vectors, computed_storages, faults_of, faults_of_settings}
+use Rattle.zpl_parts.specs.of_zpl_binding.Settings.{twice_set}
+use Rattle.zpl_parts.proofs.of_zpl_binding.OutcomeLemmas.{given-none}
+use Rattle.zpl_parts.specs.of_zpl_names.Declared.{globals_of}
+use Rattle.zpl_parts.specs.of_zpl_names.Faults.{repeated}
 use Rattle.zpl_bind.specs.declared.faults.BindFault.{BindFault as Code}
 use Rattle.zpl_bind.specs.Fault.{IsAmong}
 use Rattle.zpl_bind.specs.Known.{known_failures}

@@ -4,14 +4,14 @@ use Rattle.std.specs.List.{flat_map, list_all}
 use Rattle.std.proofs.lemmas.List.Concat.{flat_map-append}
 use Rattle.std.proofs.lemmas.List.Elements.{Contains-append_left}
 use Rattle.zpl_tree.specs.Syntax.{Inner, Rexpr, Dims, Bracket, NoBracket, Bracketed, DimTexts, NoDim, ThenDim, RegionDef, VarDef, Decl, Config, Constant, Regions, Directions, Vars, Defined, Program}
-use Rattle.zpl_names.specs.Scope.{Entry, Scope}
-use Rattle.zpl_names.specs.Ranks.{dims_count}
-use Rattle.zpl_names.specs.Declared.{declaring, head_scope, globals_of, routine_of, with_region, with_variables, with_decl}
-use Rattle.zpl_names.specs.Shapes.{unknown_shapes}
-use Rattle.zpl_names.specs.Sites.{in_declaration, Site, AtPosts, AtBase, AtProcedure, region_sites, dims_sites, posts_sites, shape_sites, region_def_sites, variable_sites, param_sites, head_sites, routine_sites, each_sites, decl_sites}
-use Rattle.zpl_names.specs.Faults.{rank_clashes, fourth_dim, repeated}
-use Rattle.zpl_names.specs.Accepted.{IsFaultless, TwiceNamed, RankClash, in_text}
-use Rattle.zpl_binding.proofs.OutcomeLemmas.{no_member, empty-left, empty-right}
+use Rattle.zpl_parts.specs.of_zpl_names.Scope.{Entry, Scope}
+use Rattle.zpl_parts.specs.of_zpl_names.Ranks.{dims_count}
+use Rattle.zpl_parts.specs.of_zpl_names.Declared.{declaring, head_scope, globals_of, routine_of, with_region, with_variables, with_decl}
+use Rattle.zpl_parts.specs.of_zpl_names.Shapes.{unknown_shapes}
+use Rattle.zpl_parts.specs.of_zpl_names.Sites.{in_declaration, Site, AtPosts, AtBase, AtProcedure, region_sites, dims_sites, posts_sites, shape_sites, region_def_sites, variable_sites, param_sites, head_sites, routine_sites, each_sites, decl_sites}
+use Rattle.zpl_parts.specs.of_zpl_names.Faults.{rank_clashes, fourth_dim, repeated}
+use Rattle.zpl_parts.specs.of_zpl_names.Accepted.{IsFaultless, TwiceNamed, RankClash, in_text}
+use Rattle.zpl_parts.proofs.of_zpl_binding.OutcomeLemmas.{no_member, empty-left, empty-right}
 use Rattle.zpl_bind.specs.Few.{is_few, is_few_bracket, are_few_vars, is_few_decl}
 use Rattle.zpl_bind.specs.Once.{IsBindable}
 

@@ -7,13 +7,13 @@ use Rattle.std.proofs.lemmas.List.{append-nil, append_assoc}
 use Rattle.std.proofs.lemmas.List.Concat.{flat_map-append, flat_map_single}
 use Rattle.std.proofs.lemmas.Slice.Eq.{bytes_eq-Decides}
 use Rattle.zpl_tree.specs.Syntax.{Name, Base, Bracket, NoBracket, Bracketed, Define, Decl, Config, Constant, Regions, Directions, Vars, Defined, Program}
-use Rattle.zpl_names.specs.Kinds as kind
-use Rattle.zpl_names.specs.Kinds.{Kind}
-use Rattle.zpl_names.specs.Scope.{Entry, Scope, kind_in}
-use Rattle.zpl_names.specs.Shapes.{variable_kind}
-use Rattle.zpl_names.specs.Declared.{declaring, entry_for, with_define, with_region, with_direction, with_variables, with_each, with_decl, globals_of}
-use Rattle.zpl_names.specs.Faults.{at_if, repeated}
-use Rattle.zpl_binding.specs.Settings.{Setting, config_fault, setting_faults}
+use Rattle.zpl_parts.specs.of_zpl_names.Kinds as kind
+use Rattle.zpl_parts.specs.of_zpl_names.Kinds.{Kind}
+use Rattle.zpl_parts.specs.of_zpl_names.Scope.{Entry, Scope, kind_in}
+use Rattle.zpl_parts.specs.of_zpl_names.Shapes.{variable_kind}
+use Rattle.zpl_parts.specs.of_zpl_names.Declared.{declaring, entry_for, with_define, with_region, with_direction, with_variables, with_each, with_decl, globals_of}
+use Rattle.zpl_parts.specs.of_zpl_names.Faults.{at_if, repeated}
+use Rattle.zpl_parts.specs.of_zpl_binding.Settings.{Setting, config_fault, setting_faults}
 use Rattle.zpl_bind.specs.Tables.{found}
 use Rattle.zpl_bind.specs.Texts.{config_bases, type_fault, text_faults}
 

@@ -5,11 +5,11 @@ use Rattle.std.proofs.lemmas.List.{map-append}
 use Rattle.std.proofs.lemmas.List.Elements.{Contains-append_left, Contains-append_right, Contains-append_cases}
 use Rattle.zpl_region.specs.declared.regions.Region.{Region}
 use Rattle.zpl_tree.specs.Syntax.{Name, Exprs}
-use Rattle.zpl_binding.specs.Outcome as plain
-use Rattle.zpl_binding.specs.Outcome.{Outcome, Gives, Fails, Computed, failures}
-use Rattle.zpl_binding.specs.Regions.{Known}
-use Rattle.zpl_binding.specs.Declarations.{computed_for, with_all, with_value}
-use Rattle.zpl_binding.proofs.DeclarationLemmas.{all-keep}
+use Rattle.zpl_parts.specs.of_zpl_binding.Outcome as plain
+use Rattle.zpl_parts.specs.of_zpl_binding.Outcome.{Outcome, Gives, Fails, Computed, failures}
+use Rattle.zpl_parts.specs.of_zpl_binding.Regions.{Known}
+use Rattle.zpl_parts.specs.of_zpl_binding.Declarations.{computed_for, with_all, with_value}
+use Rattle.zpl_parts.proofs.of_zpl_binding.DeclarationLemmas.{all-keep}
 use Rattle.std.specs.Borrow.{Bor}
 use Rattle.std.specs.Prelude.{find}
 use Rattle.std.specs.Option.{option_map}
@@ -23,11 +23,11 @@ use Rattle.zpl_tree.specs.declared.declarations.Define.{Define}
 use Rattle.zpl_tree.specs.declared.declarations.RegionDef.{RegionDef}
 use Rattle.zpl_tree.specs.declared.declarations.DirDef.{DirDef}
 use Rattle.zpl_tree.specs.declared.declarations.Decl.{Decl}
-use Rattle.zpl_binding.specs.Settings.{Setting, setting_of}
-use Rattle.zpl_binding.specs.Constants.{value_of, constant_value, config_value}
-use Rattle.zpl_binding.specs.Vectors.{vector_of}
-use Rattle.zpl_binding.specs.Regions.{region_of}
-use Rattle.zpl_binding.specs.Declarations.{with_config, with_constant, with_region, with_direction, with_decl}
+use Rattle.zpl_parts.specs.of_zpl_binding.Settings.{Setting, setting_of}
+use Rattle.zpl_parts.specs.of_zpl_binding.Constants.{value_of, constant_value, config_value}
+use Rattle.zpl_parts.specs.of_zpl_binding.Vectors.{vector_of}
+use Rattle.zpl_parts.specs.of_zpl_binding.Regions.{region_of}
+use Rattle.zpl_parts.specs.of_zpl_binding.Declarations.{with_config, with_constant, with_region, with_direction, with_decl}
 use Rattle.zpl_bind.specs.declared.faults.BindFault.{BindFault}
 use Rattle.zpl_bind.specs.declared.faults.BindFault.TheVariants.{NoMemory}
 use Rattle.zpl_bind.specs.Fault.{FailsAs, IsAmong, fault_of}

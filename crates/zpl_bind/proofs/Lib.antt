@@ -10,3 +10,4 @@ pub mod StorageFaults
 pub mod GlobalLemmas
 pub mod BindLemmas
 pub mod FaultlessLemmas
+pub use Rattle.zpl_parts.proofs.of_zpl_binding as of_zpl_binding

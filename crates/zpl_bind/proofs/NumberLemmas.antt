@@ -7,7 +7,7 @@ use Rattle.std.specs.Char.{is_ascii_digit}
 use Rattle.std.specs.Str.Parse.{digits_value}
 use Rattle.std.proofs.lemmas.Int.{ints}
 use Rattle.zpl_nums.specs.Integer.{least, greatest}
-use Rattle.zpl_binding.specs.Settings.{digits_of, integer_in_range}
+use Rattle.zpl_parts.specs.of_zpl_binding.Settings.{digits_of, integer_in_range}
 
 pub no-digits : (text : List ℕ) → (length text == 0) ≡ true → digits_of text ≡ None
 no-digits [] h = refl

@@ -15,19 +15,19 @@ use Rattle.zpl_region.proofs.HullLemmas.{has_steps}
 use Rattle.zpl_tree.specs.Syntax.{Name, NamedRegion, Rexpr, Pre, Posts, NoPost, ThenPost}
 use borrow.Author.Tests.{eqb-true}
 use Rattle.zpl_tree.specs.declared.regions.DimText.{DimText}
-use Rattle.zpl_names.specs.Ranks.{dims_count}
-use Rattle.zpl_binding.specs.Vectors.{three_components}
-use Rattle.zpl_binding.specs.Outcome as plain
-use Rattle.zpl_binding.specs.Outcome.{Outcome, Gives, Fails, Computed, outcome_of}
-use Rattle.zpl_binding.specs.Regions.{Known, limited, region_named, behind, before, formed_by, inner_of}
-use Rattle.zpl_binding.proofs.KeptLemmas.{Formed, formed-kept}
+use Rattle.zpl_parts.specs.of_zpl_names.Ranks.{dims_count}
+use Rattle.zpl_parts.specs.of_zpl_binding.Vectors.{three_components}
+use Rattle.zpl_parts.specs.of_zpl_binding.Outcome as plain
+use Rattle.zpl_parts.specs.of_zpl_binding.Outcome.{Outcome, Gives, Fails, Computed, outcome_of}
+use Rattle.zpl_parts.specs.of_zpl_binding.Regions.{Known, limited, region_named, behind, before, formed_by, inner_of}
+use Rattle.zpl_parts.proofs.of_zpl_binding.KeptLemmas.{Formed, formed-kept}
 use Rattle.std.specs.Prelude.{IsErrAnd}
 use Rattle.std.proofs.Common.{drop-cons}
 use Rattle.std.proofs.lemmas.List.{take_more, map-append}
 use Rattle.zpl_tree.specs.View.{posts_of, pre_of, dims_of}
 use Rattle.zpl_tree.specs.declared.regions.Post.{Post}
 use Rattle.zpl_tree.specs.declared.regions.Pre.{Pre as Arena}
-use Rattle.zpl_binding.specs.Outcome.{and_then}
+use Rattle.zpl_parts.specs.of_zpl_binding.Outcome.{and_then}
 use Rattle.zpl_bind.specs.Fault.{FailsAs, Computes}
 use Rattle.zpl_bind.specs.declared.faults.BindFault.{BindFault}
 use Rattle.zpl_bind.specs.Known.{IsBuilt}

@@ -11,10 +11,10 @@ use Rattle.zpl_parts.specs.declared.parts.Part.{Part}
 use Rattle.zpl_tree.specs.View.{name_of}
 use Rattle.zpl_tree.specs.declared.names.Name.{Name}
 use Rattle.zpl_region.specs.declared.regions.Region.{Region}
-use Rattle.zpl_binding.specs.Outcome as plain
-use Rattle.zpl_binding.specs.Outcome.{Outcome, Gives, Fails, failures}
-use Rattle.zpl_binding.specs.Regions.{Known}
-use Rattle.zpl_binding.specs.Storages.{Border, Shaped, shaped_over, storage_of}
+use Rattle.zpl_parts.specs.of_zpl_binding.Outcome as plain
+use Rattle.zpl_parts.specs.of_zpl_binding.Outcome.{Outcome, Gives, Fails, failures}
+use Rattle.zpl_parts.specs.of_zpl_binding.Regions.{Known}
+use Rattle.zpl_parts.specs.of_zpl_binding.Storages.{Border, Shaped, shaped_over, storage_of}
 use Rattle.zpl_bind.specs.declared.faults.BindFault.{BindFault}
 use Rattle.zpl_bind.specs.Fault.{FailsAs, IsAmong, fault_of}
 use Rattle.zpl_bind.specs.Storages.{storages_over, vectors_among}

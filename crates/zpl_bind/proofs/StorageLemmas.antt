@@ -18,12 +18,12 @@ use Rattle.zpl_tree.specs.Syntax.{Name, NamedRegion, Rexpr, NoPost}
 use Rattle.zpl_tree.specs.View.{posts_of, pre_of}
 use Rattle.zpl_tree.specs.declared.regions.Post.{Post}
 use Rattle.zpl_tree.specs.declared.regions.Pre.{Pre as Arena}
-use Rattle.zpl_binding.specs.Outcome.{Outcome, Gives, Fails, Computed, and_then, outcome_of}
-use Rattle.zpl_binding.specs.Bound.{IsVector}
-use Rattle.zpl_binding.specs.Regions.{Known, limited}
-use Rattle.zpl_binding.specs.Storages.{Border, borders_around, widened}
-use Rattle.zpl_binding.specs.Vectors.{is_component, three_components}
-use Rattle.zpl_binding.proofs.KeptLemmas.{formed-kept}
+use Rattle.zpl_parts.specs.of_zpl_binding.Outcome.{Outcome, Gives, Fails, Computed, and_then, outcome_of}
+use Rattle.zpl_parts.specs.of_zpl_binding.Bound.{IsVector}
+use Rattle.zpl_parts.specs.of_zpl_binding.Regions.{Known, limited}
+use Rattle.zpl_parts.specs.of_zpl_binding.Storages.{Border, borders_around, widened}
+use Rattle.zpl_parts.specs.of_zpl_binding.Vectors.{is_component, three_components}
+use Rattle.zpl_parts.proofs.of_zpl_binding.KeptLemmas.{formed-kept}
 use Rattle.zpl_bind.specs.Known.{IsBuilt}
 use Rattle.zpl_bind.specs.declared.regions.Form.TheVariants.{Of}
 use Rattle.zpl_bind.specs.Storages.{HasNoBorders, HasBordersOf, IsAround, is_flood, borders_among, borders_in}

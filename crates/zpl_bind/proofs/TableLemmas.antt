@@ -4,7 +4,7 @@ use Rattle.std.specs.Option.{option_or}
 use Rattle.std.specs.Str.{bytes_eq}
 use Rattle.std.proofs.lemmas.Slice.Eq.{bytes_eq-Decides}
 use Rattle.std.specs.Prelude.{find, unwrap_or}
-use Rattle.zpl_binding.specs.Outcome.{Gives, Computed, outcome_of, outcome_or}
+use Rattle.zpl_parts.specs.of_zpl_binding.Outcome.{Gives, Computed, outcome_of, outcome_or}
 use Rattle.zpl_bind.specs.Tables.{found, computed}
 
 abbrev pub one_of : {T : Type 0} → List ℕ × T → Computed T

@@ -10,8 +10,8 @@ use Rattle.std.proofs.lemmas.Slice.Eq.{bytes_eq-Decides}
 use Rattle.zpl_tree.specs.Syntax.{Base}
 use Rattle.zpl_tree.specs.View.{base_type_of}
 use Rattle.zpl_tree.specs.declared.declarations.Base.{Base as Arena}
-use Rattle.zpl_binding.specs.Outcome.{BindFault, TwiceSet}
-use Rattle.zpl_binding.specs.Settings.{Setting, is_set, twice_set}
+use Rattle.zpl_parts.specs.of_zpl_binding.Outcome.{BindFault, TwiceSet}
+use Rattle.zpl_parts.specs.of_zpl_binding.Settings.{Setting, is_set, twice_set}
 use Rattle.zpl_bind.specs.Lists.{settings_of}
 use Rattle.zpl_bind.specs.Tables.{found}
 use Rattle.zpl_bind.specs.Texts.{bases_of, type_fault, text_faults, all_text_faults}

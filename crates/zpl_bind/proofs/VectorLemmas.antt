@@ -5,13 +5,13 @@ use Rattle.std.specs.List.{list_all}
 use Rattle.std.proofs.lemmas.List.{append-nil}
 use Rattle.zpl_tree.specs.Syntax.{Exprs}
 use Rattle.zpl_tree.specs.View.{expr_of, exprs_of}
-use Rattle.zpl_binding.specs.Bound.{IsVector}
-use Rattle.zpl_binding.proofs.LimitLemmas.{Holds, vector-holds}
+use Rattle.zpl_parts.specs.of_zpl_binding.Bound.{IsVector}
+use Rattle.zpl_parts.proofs.of_zpl_binding.LimitLemmas.{Holds, vector-holds}
 use Rattle.zpl_tree.specs.declared.expressions.Expr.{Expr}
-use Rattle.zpl_binding.specs.Outcome as plain
-use Rattle.zpl_binding.specs.Outcome.{Outcome, Gives, Fails, and_then, outcome_map, Computed}
-use Rattle.zpl_binding.specs.Constants.{value_of}
-use Rattle.zpl_binding.specs.Vectors.{values_of, three_components, is_component, limited_vector, vector_of}
+use Rattle.zpl_parts.specs.of_zpl_binding.Outcome as plain
+use Rattle.zpl_parts.specs.of_zpl_binding.Outcome.{Outcome, Gives, Fails, and_then, outcome_map, Computed}
+use Rattle.zpl_parts.specs.of_zpl_binding.Constants.{value_of}
+use Rattle.zpl_parts.specs.of_zpl_binding.Vectors.{values_of, three_components, is_component, limited_vector, vector_of}
 use Rattle.zpl_bind.specs.Fault.{FailsAs}
 use Rattle.zpl_bind.specs.declared.faults.BindFault.{BindFault}
 

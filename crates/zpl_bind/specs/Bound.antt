@@ -1,9 +1,9 @@
 -- What a program is bound to, with what is known of its declarations and the parts of its text.
 use Rattle.std.specs.Prelude.{◌≡◌, List}
 use Rattle.zpl_tree.specs.Syntax.{Program}
-use Rattle.zpl_binding.specs.Bound.{Binds}
-use Rattle.zpl_binding.specs.Declarations.{known_of}
-use Rattle.zpl_binding.specs.Settings.{Setting}
+use Rattle.zpl_parts.specs.of_zpl_binding.Bound.{Binds}
+use Rattle.zpl_parts.specs.of_zpl_binding.Declarations.{known_of}
+use Rattle.zpl_parts.specs.of_zpl_binding.Settings.{Setting}
 use Rattle.zpl_parts.specs.View.{seen}
 use Rattle.zpl_parts.specs.Walk.{text_parts}
 use Rattle.zpl_bind.specs.declared.lists.Bound.{Bound}

@@ -2,8 +2,8 @@
 use Rattle.std.specs.Prelude.{◌≡◌, ℕ, List, codes, Option, Some, None, Contains, Result, Ok, Err, MatchOption}
 use Rattle.zpl_bind.specs.declared.faults.BindFault.{BindFault}
 use Rattle.zpl_bind.specs.declared.faults.BindFault.TheVariants.{UnknownConfig, ConfigType, TwiceSet, BadConstant, RegionLimit, DirectionLimit, NoMemory}
-use Rattle.zpl_binding.specs.Outcome as plain
-use Rattle.zpl_binding.specs.Outcome.{Outcome, Gives, Fails}
+use Rattle.zpl_parts.specs.of_zpl_binding.Outcome as plain
+use Rattle.zpl_parts.specs.of_zpl_binding.Outcome.{Outcome, Gives, Fails}
 
 abbrev pub fault_name : BindFault → List ℕ
 fault_name UnknownConfig = codes "UnknownConfig"

@@ -2,7 +2,7 @@
 use Rattle.std.specs.Prelude.{◌≤◌, nat_le, Bool, true, List, All}
 use Rattle.std.specs.List.{list_all}
 use Rattle.zpl_tree.specs.Syntax.{Inner, Rexpr, Dims, Bracket, NoBracket, Bracketed, VarDef, Decl, Config, Constant, Regions, Directions, Vars, Defined}
-use Rattle.zpl_names.specs.Ranks.{dims_count}
+use Rattle.zpl_parts.specs.of_zpl_names.Ranks.{dims_count}
 
 abbrev pub IsFew : Inner → Type 0
 IsFew (Rexpr pre base post) = Unit {0}

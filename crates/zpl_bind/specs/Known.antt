@@ -2,16 +2,16 @@
 use Rattle.std.specs.Prelude.{◌≤◌, ℕ, ℤ, List, [], ◌∷◌, ◌++◌, map, All, IsTrue}
 use Rattle.std.specs.Borrow.{Bor}
 use Rattle.zpl_tree.specs.Syntax.{Name}
-use Rattle.zpl_binding.specs.Outcome.{BindFault, Outcome, failures}
-use Rattle.zpl_binding.specs.Settings.{Setting}
-use Rattle.zpl_binding.specs.Declarations.{computed_for}
+use Rattle.zpl_parts.specs.of_zpl_binding.Outcome.{BindFault, Outcome, failures}
+use Rattle.zpl_parts.specs.of_zpl_binding.Settings.{Setting}
+use Rattle.zpl_parts.specs.of_zpl_binding.Declarations.{computed_for}
 use Rattle.zpl_bind.specs.declared.tables.Table.{Table}
 use Rattle.zpl_region.specs.declared.regions.Region.{Region}
 use Rattle.zpl_region.specs.Dim.{HasStep}
 use Rattle.zpl_region.specs.Region.{IsPadded}
 use Rattle.zpl_region.specs.Tests.{is_within_limit}
-use Rattle.zpl_binding.specs.Bound.{IsVector}
-use Rattle.zpl_binding.specs.Regions as plain
+use Rattle.zpl_parts.specs.of_zpl_binding.Bound.{IsVector}
+use Rattle.zpl_parts.specs.of_zpl_binding.Regions as plain
 use Rattle.zpl_bind.specs.declared.known.Known.{Known}
 use Rattle.zpl_bind.specs.Tables.{IsTable, computed, listed}
 

@@ -8,3 +8,4 @@ pub mod Forms
 pub mod Texts
 pub mod Storages
 pub mod Once
+pub use Rattle.zpl_parts.specs.of_zpl_binding as of_zpl_binding

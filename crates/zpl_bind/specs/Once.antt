@@ -2,8 +2,8 @@
 use Rattle.std.specs.Prelude.{◌≡◌, [], map, true}
 use Rattle.std.specs.List.{list_all}
 use Rattle.zpl_tree.specs.Syntax.{Program}
-use Rattle.zpl_names.specs.Declared.{globals_of}
-use Rattle.zpl_names.specs.Faults.{repeated}
+use Rattle.zpl_parts.specs.of_zpl_names.Declared.{globals_of}
+use Rattle.zpl_parts.specs.of_zpl_names.Faults.{repeated}
 use Rattle.zpl_bind.specs.Few.{is_few_decl}
 
 -- no name stands for a second thing, and no bracket of a declaration has a fourth dimension

@@ -6,9 +6,9 @@ use Rattle.zpl_region.specs.declared.dims.Dim.TheVariants.{Range, Flood}
 use Rattle.zpl_region.specs.declared.regions.Region.{Region}
 use Rattle.zpl_region.specs.Region.{IsRegion}
 use Rattle.zpl_tree.specs.Syntax.{Inner, Exprs, Decl, Defined}
-use Rattle.zpl_binding.specs.Outcome.{Outcome}
-use Rattle.zpl_binding.specs.Regions.{Known}
-use Rattle.zpl_binding.specs.Storages.{Border, Shaped, shape_borders, shaped_by, storage_of}
+use Rattle.zpl_parts.specs.of_zpl_binding.Outcome.{Outcome}
+use Rattle.zpl_parts.specs.of_zpl_binding.Regions.{Known}
+use Rattle.zpl_parts.specs.of_zpl_binding.Storages.{Border, Shaped, shape_borders, shaped_by, storage_of}
 use Rattle.zpl_parts.specs.Part as plain
 use Rattle.zpl_parts.specs.Part.{VectorPart, BorderPart, AroundPart, CallPart}
 use Rattle.zpl_parts.specs.View.{part_of}

@@ -3,7 +3,7 @@ use Rattle.std.specs.Prelude.{◌≡◌, ℕ, List, [], ◌∷◌, map, if◌the
 use Rattle.std.specs.HashMap.{get_by}
 use Rattle.std.specs.Str.{bytes_eq}
 use Rattle.zpl_bind.specs.declared.tables.Table.{Table}
-use Rattle.zpl_binding.specs.Outcome.{Gives, Computed}
+use Rattle.zpl_parts.specs.of_zpl_binding.Outcome.{Gives, Computed}
 
 -- the names with what was computed for them
 abbrev pub listed : {T : Type 0} → Table T → List (List ℕ × T)

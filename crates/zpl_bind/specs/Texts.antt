@@ -3,8 +3,8 @@ use Rattle.std.specs.Prelude.{ℕ, List, [], ◌∷◌, ◌++◌, map, flat_map,
 use Rattle.zpl_tree.specs.Syntax.{Base, Decl, Config}
 use Rattle.zpl_tree.specs.View.{base_type_of}
 use Rattle.zpl_tree.specs.declared.declarations.Base.{Base as Arena}
-use Rattle.zpl_binding.specs.Outcome.{BindFault, UnknownConfig}
-use Rattle.zpl_binding.specs.Settings.{Setting, value_fault, value_in, twice_set}
+use Rattle.zpl_parts.specs.of_zpl_binding.Outcome.{BindFault, UnknownConfig}
+use Rattle.zpl_parts.specs.of_zpl_binding.Settings.{Setting, value_fault, value_in, twice_set}
 use Rattle.zpl_bind.specs.Tables.{found}
 
 -- the types of the configs of a declaration

@@ -1,12 +1,12 @@
 //! Binding a program by settings.
 ghost use Rattle.std.specs.Prelude.{◌≡◌, ◌++◌, ◌∷◌, [], All, IfErr, IfOk, OnOk, flat_map, map};
-ghost use Rattle.zpl_binding.specs.Bound.{Binds, faults_of};
-ghost use Rattle.zpl_binding.specs.Declarations.{known_of};
-ghost use Rattle.zpl_binding.specs.Outcome.{Gives, failures};
-ghost use Rattle.zpl_binding.specs.Storages.{shaped_in};
-ghost use Rattle.zpl_binding.specs.Vectors.{vector_of};
+ghost use Rattle.zpl_parts.specs.of_zpl_binding.Bound.{Binds, faults_of};
+ghost use Rattle.zpl_parts.specs.of_zpl_binding.Declarations.{known_of};
+ghost use Rattle.zpl_parts.specs.of_zpl_binding.Outcome.{Gives, failures};
+ghost use Rattle.zpl_parts.specs.of_zpl_binding.Storages.{shaped_in};
+ghost use Rattle.zpl_parts.specs.of_zpl_binding.Vectors.{vector_of};
 ghost use Rattle.zpl_tree.specs.View.{decl_of, syntax_of};
-ghost use Rattle.zpl_names.specs.Accepted.{IsFaultless};
+ghost use Rattle.zpl_parts.specs.of_zpl_names.Accepted.{IsFaultless};
 ghost use Rattle.zpl_parts.specs.View.{part_of, seen};
 ghost use Rattle.zpl_parts.specs.Walk.{text_parts};
 ghost use Rattle.zpl_bind.specs.Fault.{IsAmong};

@@ -1,11 +1,11 @@
 //! What is known of the declarations so far: each is computed over those that stand earlier.
 ghost use Rattle.std.specs.Prelude.{◌≡◌, All, IfErr, OnOk, map};
-ghost use Rattle.zpl_binding.specs.Constants.{config_value};
-ghost use Rattle.zpl_binding.specs.Declarations.{nothing_known, with_all, with_config};
-ghost use Rattle.zpl_binding.specs.Declarations.{with_constant, with_decl, with_direction};
-ghost use Rattle.zpl_binding.specs.Declarations.{with_region, with_value};
-ghost use Rattle.zpl_binding.specs.Outcome.{Gives};
-ghost use Rattle.zpl_binding.specs.Settings.{setting_of};
+ghost use Rattle.zpl_parts.specs.of_zpl_binding.Constants.{config_value};
+ghost use Rattle.zpl_parts.specs.of_zpl_binding.Declarations.{nothing_known, with_all, with_config};
+ghost use Rattle.zpl_parts.specs.of_zpl_binding.Declarations.{with_constant, with_decl, with_direction};
+ghost use Rattle.zpl_parts.specs.of_zpl_binding.Declarations.{with_region, with_value};
+ghost use Rattle.zpl_parts.specs.of_zpl_binding.Outcome.{Gives};
+ghost use Rattle.zpl_parts.specs.of_zpl_binding.Settings.{setting_of};
 ghost use Rattle.zpl_tree.specs.View.{decl_of, define_of, direction_of, name_of};
 ghost use Rattle.zpl_tree.specs.View.{region_of as seen_region};
 ghost use Rattle.zpl_bind.specs.declared.faults.BindFault.TheVariants.{NoMemory};
@@ -14,7 +14,7 @@ ghost use Rattle.zpl_bind.specs.Few.{IsFew, IsFewDecl};
 ghost use Rattle.zpl_bind.specs.Known.{IsBuilt, IsKnown, adds_direction, adds_region};
 ghost use Rattle.zpl_bind.specs.Known.{known_failures, known_in, settings_in};
 ghost use Rattle.zpl_bind.specs.Tables.{IsTable, computed, listed};
-ghost use Rattle.zpl_binding.specs.Bound.{IsVector};
+ghost use Rattle.zpl_parts.specs.of_zpl_binding.Bound.{IsVector};
 
 use crate::faults::BindFault;
 use crate::numbers::value_in;

@@ -24,3 +24,4 @@ pub use regions::{inner_of, limited, no_region};
 pub use settings::Settings;
 pub use tables::Table;
 pub use vectors::dir_of;
+pub use zpl_parts;

@@ -3,7 +3,7 @@ ghost use Rattle.std.specs.Prelude.{◌≡◌, ◌≤◌, ◌^◌, IsTrue, Match
 ghost use Rattle.std.specs.List.{list_all};
 ghost use Rattle.std.specs.Char.{is_ascii_digit};
 ghost use Rattle.std.specs.Str.Parse.{digits_value};
-ghost use Rattle.zpl_binding.specs.Settings.{digits_of, integer_of, truth_of, value_in};
+ghost use Rattle.zpl_parts.specs.of_zpl_binding.Settings.{digits_of, integer_of, truth_of, value_in};
 ghost use Rattle.zpl_tree.specs.View.{base_type_of};
 
 use zpl_tree::Base;

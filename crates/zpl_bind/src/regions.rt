@@ -3,12 +3,12 @@ ghost use Rattle.std.specs.Prelude.{◌≡◌, ◌≤◌, ◌==◌, ◌&&◌, []
 ghost use Rattle.zpl_region.specs.Dim.{HasStep};
 ghost use Rattle.zpl_region.specs.Hull.{all_from};
 ghost use Rattle.zpl_region.specs.Region.{IsPadded, IsRegion, IsWithinLimit};
-ghost use Rattle.zpl_binding.specs.Bound.{IsVector};
-ghost use Rattle.zpl_binding.specs.Outcome.{Gives, outcome_of};
-ghost use Rattle.zpl_binding.specs.Vectors.{three_components};
-ghost use Rattle.zpl_binding.specs.Regions.{before, behind, dim_of, inner_of, limited};
-ghost use Rattle.zpl_binding.specs.Regions.{named_or_index, no_region, region_named, region_of};
-ghost use Rattle.zpl_binding.specs.Regions.{spanned};
+ghost use Rattle.zpl_parts.specs.of_zpl_binding.Bound.{IsVector};
+ghost use Rattle.zpl_parts.specs.of_zpl_binding.Outcome.{Gives, outcome_of};
+ghost use Rattle.zpl_parts.specs.of_zpl_binding.Vectors.{three_components};
+ghost use Rattle.zpl_parts.specs.of_zpl_binding.Regions.{before, behind, dim_of, inner_of, limited};
+ghost use Rattle.zpl_parts.specs.of_zpl_binding.Regions.{named_or_index, no_region, region_named, region_of};
+ghost use Rattle.zpl_parts.specs.of_zpl_binding.Regions.{spanned};
 ghost use Rattle.zpl_tree.specs.Syntax.{NoPost, Rexpr};
 ghost use Rattle.zpl_tree.specs.View.{base_of, dim_of as seen_dim, dims_of, inner_of as seen_inner};
 ghost use Rattle.zpl_tree.specs.View.{name_of, posts_of, pre_of, region_of as seen_region};

@@ -1,6 +1,6 @@
 //! Tables of what was computed for names.
 ghost use Rattle.std.specs.Prelude.{◌≡◌, ◌∷◌, ◌++◌, [], IfOk, OnOk, map};
-ghost use Rattle.zpl_binding.specs.Outcome.{Gives};
+ghost use Rattle.zpl_parts.specs.of_zpl_binding.Outcome.{Gives};
 ghost use Rattle.zpl_bind.specs.Tables.{IsTable, computed, found, listed};
 
 use std::alloc::{AllocError, Global};

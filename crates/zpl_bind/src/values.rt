@@ -1,7 +1,7 @@
 //! The values of expressions in declarations, and vectors.
 ghost use Rattle.std.specs.Prelude.{◌≡◌};
 ghost use Rattle.zpl_nums.specs.Op.{applied};
-ghost use Rattle.zpl_binding.specs.Constants.{given, value_of};
+ghost use Rattle.zpl_parts.specs.of_zpl_binding.Constants.{given, value_of};
 ghost use Rattle.zpl_tree.specs.View.{expr_of};
 ghost use Rattle.zpl_bind.specs.Fault.{Computes};
 ghost use Rattle.zpl_bind.specs.Tables.{IsTable, computed, listed};

@@ -1,7 +1,7 @@
 //! Vectors, and directions.
 ghost use Rattle.std.specs.Prelude.{◌≡◌, ◌<◌, ◌≤◌, IfOk, slice_set};
-ghost use Rattle.zpl_binding.specs.Bound.{IsVector};
-ghost use Rattle.zpl_binding.specs.Vectors.{dir_of, is_component, vector_of};
+ghost use Rattle.zpl_parts.specs.of_zpl_binding.Bound.{IsVector};
+ghost use Rattle.zpl_parts.specs.of_zpl_binding.Vectors.{dir_of, is_component, vector_of};
 ghost use Rattle.zpl_tree.specs.View.{dir_of as seen_dir, exprs_of};
 ghost use Rattle.zpl_bind.specs.Fault.{Computes};
 ghost use Rattle.zpl_bind.specs.Tables.{IsTable, computed, listed};

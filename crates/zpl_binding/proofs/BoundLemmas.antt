@@ -1,7 +1,7 @@
 -- Settings that are accepted bind a program in one way.
 use Rattle.std.proofs.Common.{◌≡◌, ℤ, List, [], ◌++◌, Contains, inl, refl, ◌∙◌, inr, ap, ap₂}
 use Rattle.std.proofs.lemmas.List.{append-nil}
-use Rattle.zpl_region.specs.declared.regions.Region.{Region}
+use Rattle.zpl_arrays.specs.of_zpl_region.declared.regions.Region.{Region}
 use Rattle.zpl_tree.specs.Syntax.{Program}
 use Rattle.zpl_binding.specs.Outcome.{BindFault, UnknownConfig, ConfigType, TwiceSet, BadConstant, RegionLimit, DirectionLimit, failures}
 use Rattle.zpl_binding.specs.Settings.{Setting}

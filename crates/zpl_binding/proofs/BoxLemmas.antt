@@ -2,14 +2,14 @@
 use Rattle.std.proofs.Common.{ℕ, zero, suc, ℤ, pos, ◌+ℤ◌, Bool, true, false, cond, List, [], ◌∷◌, map, drop, length, All, refl, ap}
 use Rattle.std.specs.List.{AllByRecursion}
 use Rattle.std.proofs.lemmas.List.Elements.{All-from_recursion, recursion_from_All}
-use Rattle.zpl_region.specs.declared.dims.Dim.{Dim}
-use Rattle.zpl_region.specs.declared.dims.Dim.TheVariants.{Range, Flood}
-use Rattle.zpl_region.specs.declared.regions.Region.{Region}
-use Rattle.zpl_region.specs.Dim.{dim_outside_of, dim_inside_of, dim_moved, dim_strided}
-use Rattle.zpl_region.specs.Ends.{has_none}
-use Rattle.zpl_region.specs.Region.{components, each, outside_of, inside_of, moved, strided}
-use Rattle.zpl_region.specs.Tests.{is_within_limit}
-use Rattle.zpl_region.specs.Hull.{IsBoxed, dim_hull, emptied, hull, each_hull_with, hull_with}
+use Rattle.zpl_arrays.specs.of_zpl_region.declared.dims.Dim.{Dim}
+use Rattle.zpl_arrays.specs.of_zpl_region.declared.dims.Dim.TheVariants.{Range, Flood}
+use Rattle.zpl_arrays.specs.of_zpl_region.declared.regions.Region.{Region}
+use Rattle.zpl_arrays.specs.of_zpl_region.Dim.{dim_outside_of, dim_inside_of, dim_moved, dim_strided}
+use Rattle.zpl_arrays.specs.of_zpl_region.Ends.{has_none}
+use Rattle.zpl_arrays.specs.of_zpl_region.Region.{components, each, outside_of, inside_of, moved, strided}
+use Rattle.zpl_arrays.specs.of_zpl_region.Tests.{is_within_limit}
+use Rattle.zpl_arrays.specs.of_zpl_region.Hull.{IsBoxed, dim_hull, emptied, hull, each_hull_with, hull_with}
 use Rattle.zpl_tree.specs.Syntax.{Inner, Program}
 use Rattle.zpl_binding.specs.Outcome.{RegionLimit, Outcome, Gives, Fails, and_then, outcome_of}
 use Rattle.zpl_binding.specs.Settings.{Setting}

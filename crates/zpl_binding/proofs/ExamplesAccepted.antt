@@ -1,8 +1,8 @@
 -- Settings of this program are accepted: a copy is within the limit.
 use Rattle.std.proofs.Common.{◌≡◌, ℕ, zero, suc, List, [], ◌∷◌, None, Some, pos, codes, Contains, inl, inr, refl, sym, ◌∙◌, subst, arith}
 use Rattle.std.specs.Int.{int_wrap}
-use Rattle.zpl_region.specs.declared.regions.Region.{Region}
-use Rattle.zpl_region.specs.Hull.{all_from}
+use Rattle.zpl_arrays.specs.of_zpl_region.declared.regions.Region.{Region}
+use Rattle.zpl_arrays.specs.of_zpl_region.Hull.{all_from}
 use Rattle.zpl_tree.specs.Syntax.{Number, Named, Around, NoExpr, ThenExpr, Dir, Vector, NamedRegion, Rexpr, Dims, Bracketed, NoPost, Span, NoDim, ThenDim, Prefixed, NoStmt, ThenStmt, Assign, Integer, Config, Regions, Vars, Program}
 use Rattle.zpl_names.specs.Declared.{routine_named}
 use Rattle.zpl_names.specs.Sites.{CallSite}

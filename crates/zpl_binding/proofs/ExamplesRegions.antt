@@ -2,9 +2,9 @@
 use Rattle.std.proofs.Common.{◌≡◌, true, false, [], ◌∷◌, pos, codes, refl}
 use Rattle.std.specs.Prelude.{neg_ℤ}
 use Rattle.std.specs.Int.{int_wrap}
-use Rattle.zpl_nums.specs.declared.operators.Op.TheVariants as op
-use Rattle.zpl_region.specs.declared.dims.Dim.TheVariants as dim
-use Rattle.zpl_region.specs.Hull.{all_from}
+use Rattle.zpl_tree.specs.of_zpl_nums.declared.operators.Op.TheVariants as op
+use Rattle.zpl_arrays.specs.of_zpl_region.declared.dims.Dim.TheVariants as dim
+use Rattle.zpl_arrays.specs.of_zpl_region.Hull.{all_from}
 use Rattle.zpl_tree.specs.Syntax.{Number, Named, Neg, Pair, NoExpr, ThenExpr, NamedDir, Vector, NamedRegion, Rexpr, Dims, NoPost, ThenPost, Star, One, Span, NoDim, ThenDim, Value, Prefixed, NoStmt, ThenStmt, Write, Integer, Config, Constant, Regions, Directions}
 use Rattle.zpl_binding.specs.Outcome.{BadConstant, RegionLimit, Gives}
 use Rattle.zpl_binding.specs.Regions.{region_over}

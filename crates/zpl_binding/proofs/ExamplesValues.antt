@@ -2,7 +2,7 @@
 use Rattle.std.proofs.Common.{◌≡◌, true, false, [], ◌∷◌, None, pos, codes, refl}
 use Rattle.std.specs.Prelude.{neg_ℤ}
 use Rattle.std.specs.Int.{int_wrap}
-use Rattle.zpl_nums.specs.declared.operators.Op.TheVariants as op
+use Rattle.zpl_tree.specs.of_zpl_nums.declared.operators.Op.TheVariants as op
 use Rattle.zpl_tree.specs.Syntax.{Number, Truth, Named, Shifted, Neg, Not, Abs, Pair, NoExpr, ThenExpr, NamedDir, Vector, NamedRegion, Rexpr, Dims, Bracketed, NoPost, ThenPost, One, Span, NoDim, ThenDim, Value, Prefixed, NoStmt, ThenStmt, Assign, Block, Write, Integer, Boolean, Config, Constant, Regions, Directions, Vars, Defined}
 use Rattle.zpl_binding.specs.Outcome.{BadConstant, DirectionLimit, Gives, Fails}
 use Rattle.zpl_binding.specs.Bound.{computed_values, computed_vectors, faults_of}

@@ -4,13 +4,13 @@ use Rattle.std.specs.List.{AllByRecursion}
 use Rattle.std.proofs.lemmas.Int.{ints}
 use Rattle.std.proofs.lemmas.Nat.{mul-le}
 use Rattle.std.proofs.lemmas.List.Elements.{All-from_recursion, recursion_from_All}
-use Rattle.zpl_region.specs.declared.dims.Dim.{Dim}
-use Rattle.zpl_region.specs.declared.dims.Dim.TheVariants.{Range, Flood}
-use Rattle.zpl_region.specs.declared.regions.Region.{Region}
-use Rattle.zpl_region.specs.Dim.{HasStep, dim_outside_of, dim_inside_of, dim_moved, dim_strided, least_or, greatest_or}
-use Rattle.zpl_region.specs.Region.{IsPadded, components, each, formed, outside_of, inside_of, moved, strided, padding}
-use Rattle.zpl_region.specs.Tests.{is_within_limit}
-use Rattle.zpl_region.specs.Hull.{all_from}
+use Rattle.zpl_arrays.specs.of_zpl_region.declared.dims.Dim.{Dim}
+use Rattle.zpl_arrays.specs.of_zpl_region.declared.dims.Dim.TheVariants.{Range, Flood}
+use Rattle.zpl_arrays.specs.of_zpl_region.declared.regions.Region.{Region}
+use Rattle.zpl_arrays.specs.of_zpl_region.Dim.{HasStep, dim_outside_of, dim_inside_of, dim_moved, dim_strided, least_or, greatest_or}
+use Rattle.zpl_arrays.specs.of_zpl_region.Region.{IsPadded, components, each, formed, outside_of, inside_of, moved, strided, padding}
+use Rattle.zpl_arrays.specs.of_zpl_region.Tests.{is_within_limit}
+use Rattle.zpl_arrays.specs.of_zpl_region.Hull.{all_from}
 use Rattle.zpl_tree.specs.Syntax.{Pre, NamedRegion, Ditto, Inner, Rexpr, Dims, Posts, NoPost, ThenPost, DimText, Blank, Star, One, Span, DimTexts, NoDim, ThenDim, Program}
 use Rattle.zpl_binding.specs.Outcome.{RegionLimit, Outcome, Gives, Fails, and_then, outcome_of}
 use Rattle.zpl_binding.specs.Settings.{Setting}

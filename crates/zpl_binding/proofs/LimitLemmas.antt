@@ -3,11 +3,11 @@ use Rattle.std.proofs.Common.{◌≡◌, ℕ, zero, suc, ℤ, pos, Bool, true, f
 use Rattle.std.specs.List.{AllByRecursion, list_all, find}
 use Rattle.std.specs.Str.{bytes_eq}
 use Rattle.std.proofs.lemmas.List.Elements.{All-from_recursion}
-use Rattle.zpl_region.specs.declared.regions.Region.{Region}
-use Rattle.zpl_region.specs.declared.dims.Dim.{Dim}
-use Rattle.zpl_region.specs.Region.{outside_of, inside_of, moved, strided}
-use Rattle.zpl_region.specs.Hull.{all_from, hull}
-use Rattle.zpl_region.specs.Tests.{is_within_limit}
+use Rattle.zpl_arrays.specs.of_zpl_region.declared.regions.Region.{Region}
+use Rattle.zpl_arrays.specs.of_zpl_region.declared.dims.Dim.{Dim}
+use Rattle.zpl_arrays.specs.of_zpl_region.Region.{outside_of, inside_of, moved, strided}
+use Rattle.zpl_arrays.specs.of_zpl_region.Hull.{all_from, hull}
+use Rattle.zpl_arrays.specs.of_zpl_region.Tests.{is_within_limit}
 use Rattle.zpl_tree.specs.Syntax.{Pre, NamedRegion, Ditto, Exprs, Inner, Rexpr, Dims, Posts, NoPost, ThenPost, Program}
 use Rattle.zpl_binding.specs.Outcome.{DirectionLimit, RegionLimit, Outcome, Gives, Fails, and_then, Computed, outcome_or, outcome_of}
 use Rattle.zpl_binding.specs.Settings.{Setting}

@@ -2,7 +2,7 @@
 -- text that stands above an example; an ` S: ` between declarations and statements counts too.
 use Rattle.std.proofs.Common.{ℕ, ◌++◌, List, [], ◌∷◌, None, codes}
 use Rattle.std.specs.Prelude.{map}
-use Rattle.zpl_region.specs.declared.regions.Region.{Region}
+use Rattle.zpl_arrays.specs.of_zpl_region.declared.regions.Region.{Region}
 use Rattle.zpl_tree.specs.Syntax.{Name, Prefixed, Stmts, Block, Decl, Defined, Program}
 use Rattle.zpl_binding.specs.Outcome.{Outcome}
 use Rattle.zpl_binding.specs.Settings.{Setting}

@@ -1,10 +1,10 @@
 -- What a program is bound to by settings, what is wrong with them, and settings that it accepts.
 use Rattle.std.specs.Prelude.{◌≡◌, ◌+◌, ℤ, IsTrue, All, length, if◌then◌else◌, List, [], ◌∷◌, ◌++◌, map, flat_map, Contains, ◌⊎◌}
 use Rattle.std.specs.List.{list_all}
-use Rattle.zpl_region.specs.declared.regions.Region.{Region}
-use Rattle.zpl_region.specs.Dim.{HasStep}
-use Rattle.zpl_region.specs.Region.{IsPadded}
-use Rattle.zpl_region.specs.Tests.{is_within_limit}
+use Rattle.zpl_arrays.specs.of_zpl_region.declared.regions.Region.{Region}
+use Rattle.zpl_arrays.specs.of_zpl_region.Dim.{HasStep}
+use Rattle.zpl_arrays.specs.of_zpl_region.Region.{IsPadded}
+use Rattle.zpl_arrays.specs.of_zpl_region.Tests.{is_within_limit}
 use Rattle.zpl_tree.specs.Syntax.{Exprs, Vector, Program}
 use Rattle.zpl_names.specs.Declared.{globals_of}
 use Rattle.zpl_names.specs.Sites.{Site, AtDir, text_sites}

@@ -1,7 +1,7 @@
 -- The values of configs and constants, and of the expressions in declarations.
 use Rattle.std.specs.Prelude.{ℕ, ℤ, pos, List, Option, Some, None}
-use Rattle.zpl_nums.specs.Integer.{truth, negated, absolute, denied}
-use Rattle.zpl_nums.specs.Op.{applied}
+use Rattle.zpl_tree.specs.of_zpl_nums.Integer.{truth, negated, absolute, denied}
+use Rattle.zpl_tree.specs.of_zpl_nums.Op.{applied}
 use Rattle.zpl_tree.specs.Syntax.{Expr, Number, Truth, Coord, Named, Shifted, Around, Remap, Call, Paren, Neg, Not, Abs, Pair, Reduce, Scan, Flood, Define}
 use Rattle.zpl_binding.specs.Outcome.{ConfigType, BadConstant, Outcome, Gives, Fails, and_then, Computed, outcome_of}
 use Rattle.zpl_binding.specs.Settings.{value_in}

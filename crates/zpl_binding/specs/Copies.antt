@@ -1,6 +1,6 @@
 -- The copies of arrays from which reads that wrap round are made.
 use Rattle.std.specs.Prelude.{◌≡◌, ℕ, List, map, Contains}
-use Rattle.zpl_region.specs.declared.regions.Region.{Region}
+use Rattle.zpl_arrays.specs.of_zpl_region.declared.regions.Region.{Region}
 use Rattle.zpl_arrays.specs.Around.{copy_storage}
 use Rattle.zpl_tree.specs.Syntax.{Dir, Program}
 use Rattle.zpl_names.specs.Expansion.{expanded_copies}

@@ -5,7 +5,7 @@ use Rattle.std.specs.Str.{bytes_eq}
 use Rattle.std.specs.Str.Parse.{digits_value}
 use Rattle.std.specs.Char.{is_ascii_digit}
 use Rattle.zpl_tree.specs.Syntax.{Base, Integer, Boolean, Other}
-use Rattle.zpl_nums.specs.Integer.{least, greatest, truth}
+use Rattle.zpl_tree.specs.of_zpl_nums.Integer.{least, greatest, truth}
 use Rattle.zpl_names.specs.Kinds.{Kind, Config}
 use Rattle.zpl_names.specs.Scope.{Entry, kind_in}
 use Rattle.zpl_binding.specs.Outcome.{BindFault, UnknownConfig, ConfigType, TwiceSet}

@@ -1,9 +1,9 @@
 -- The storages of arrays.
 use Rattle.std.specs.Prelude.{ℕ, ◌==◌, if◌then◌else◌, List, [], ◌∷◌, ◌++◌, map, flat_map, filter, find, Option, Some, None}
 use Rattle.std.specs.Str.{bytes_eq}
-use Rattle.zpl_region.specs.declared.regions.Region.{Region}
-use Rattle.zpl_region.specs.Region.{outside_of}
-use Rattle.zpl_region.specs.Hull.{hull, hull_with}
+use Rattle.zpl_arrays.specs.of_zpl_region.declared.regions.Region.{Region}
+use Rattle.zpl_arrays.specs.of_zpl_region.Region.{outside_of}
+use Rattle.zpl_arrays.specs.of_zpl_region.Hull.{hull, hull_with}
 use Rattle.zpl_tree.specs.Syntax.{Name, Pre, NamedRegion, Inner, Rexpr, Bracket, NoBracket, Bracketed, NoPost, VarDef, Decl, Vars, Program}
 use Rattle.zpl_names.specs.Declared.{routines_of}
 use Rattle.zpl_names.specs.Sites.{Site, AtRegion, text_sites}

@@ -1,7 +1,7 @@
 -- Vectors: directions, and those that stand in the text where a direction may.
 use Rattle.std.specs.Prelude.{ℕ, zero, suc, Bool, ℤ, pos, neg_ℤ, if◌then◌else◌, List, [], ◌∷◌}
 use Rattle.std.specs.List.{list_all}
-use Rattle.zpl_region.specs.Progression.{is_between}
+use Rattle.zpl_arrays.specs.of_zpl_region.Progression.{is_between}
 use Rattle.zpl_tree.specs.Syntax.{Exprs, NoExpr, ThenExpr, Dir, NamedDir, Vector}
 use Rattle.zpl_binding.specs.Outcome.{DirectionLimit, Outcome, Gives, Fails, and_then, Computed, outcome_of}
 use Rattle.zpl_binding.specs.Constants.{value_of}

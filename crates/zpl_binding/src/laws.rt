@@ -1,6 +1,6 @@
 //! The laws of binding.
 ghost use Rattle.std.specs.Prelude.{◌≡◌, ℕ, List, [], flat_map, All, Contains};
-ghost use Rattle.zpl_region.specs.Hull.{IsBoxed};
+ghost use Rattle.zpl_arrays.specs.of_zpl_region.Hull.{IsBoxed};
 ghost use Rattle.zpl_tree.specs.Syntax.{Program};
 ghost use Rattle.zpl_names.specs.Expansion.{expanded_copies, Instance, instances_of, ShiftedRead};
 ghost use Rattle.zpl_binding.specs.Outcome.{Fails, RegionLimit};

@@ -12,3 +12,7 @@ pub use laws::{
     closed_lists_have_what_parameters_stand_for, copies_of_the_expanded_program_are_told,
     settings_of_other_names_change_nothing,
 };
+pub use zpl_arrays;
+pub use zpl_arrays::zpl_region;
+pub use zpl_names;
+pub use zpl_tree;

@@ -1,1 +1,2 @@
 pub mod Faults
+pub use Rattle.rank_types.specs as of_rank_types

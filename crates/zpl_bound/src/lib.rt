@@ -4,4 +4,5 @@
 mod binding;
 
 pub use binding::bind;
+pub use rank_types;
 pub use zpl_bind::{BindFault, Bound, Regions, Settings, Values, Vectors};

@@ -4,15 +4,15 @@ use Rattle.std.proofs.Common.{Some, None, refl, sym, ap, ◌∙◌, subst, arith
 use Rattle.std.specs.Prelude.{map}
 use Rattle.zpl_region.specs.Region.{padding}
 use Rattle.zpl_region.specs.Hull.{all_from}
-use Rattle.zpl_names.specs.Expansion.{source_size}
-use Rattle.zpl_names.specs.Reached.{longest_chain}
-use Rattle.zpl_names.proofs.ExamplesExpansion.{calls}
-use Rattle.zpl_binding.specs.Declarations.{known_of}
-use Rattle.grid_layout.specs.declared.boxes.ArrayBox.{ArrayBox}
-use Rattle.grid_layout.specs.Words.{words_of}
-use Rattle.grid_layout.specs.Layout.{Arrangement}
+use Rattle.zpl_meaning.specs.of_zpl_names.Expansion.{source_size}
+use Rattle.zpl_meaning.specs.of_zpl_names.Reached.{longest_chain}
+use Rattle.zpl_meaning.proofs.of_zpl_names.ExamplesExpansion.{calls}
+use Rattle.zpl_meaning.specs.of_zpl_binding.Declarations.{known_of}
+use Rattle.grid_meaning.specs.of_grid_layout.declared.boxes.ArrayBox.{ArrayBox}
+use Rattle.grid_meaning.specs.of_grid_layout.Words.{words_of}
+use Rattle.grid_meaning.specs.of_grid_layout.Layout.{Arrangement}
 use Rattle.grid_meaning.specs.Stored.{box_of, stored}
-use Rattle.node_form.specs.declared.tables.Tables.{Tables}
+use Rattle.grid_meaning.specs.of_node_form.declared.tables.Tables.{Tables}
 use Rattle.code_parts.specs.Counts.{code_size}
 use Rattle.zpl_claims.specs.Boxes.{boxes_of}
 use Rattle.zpl_claims.specs.Build.{Build, IsBuiltFor, no_options, plain_build}

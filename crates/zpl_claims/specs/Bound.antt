@@ -1,7 +1,7 @@
 -- The bound on the turns of code whose meaning ends.
 use Rattle.std.specs.Prelude.{◌≢◌, ℕ, ◌+◌, ◌*◌, ◌^◌, List, length, Option}
 use Rattle.zpl_nums.specs.declared.ends.End.TheVariants.{More}
-use Rattle.node_form.specs.declared.tables.Tables.{Tables}
+use Rattle.grid_meaning.specs.of_node_form.declared.tables.Tables.{Tables}
 use Rattle.zpl_meaning.specs.Program.{Meaning}
 use Rattle.grid_meaning.specs.Grid.{processors, after, IsOver}
 use Rattle.grid_meaning.specs.Order.{IsOrder, given}

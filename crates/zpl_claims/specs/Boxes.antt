@@ -7,17 +7,17 @@ use Rattle.std.specs.Int.{int_max}
 use Rattle.zpl_region.specs.declared.dims.Dim.{Dim}
 use Rattle.zpl_region.specs.declared.dims.Dim.TheVariants.{Range, Flood}
 use Rattle.zpl_region.specs.declared.regions.Region.{Region}
-use Rattle.zpl_arrays.specs.Around.{copy_shift}
-use Rattle.zpl_tree.specs.Syntax.{Dir, Program}
-use Rattle.zpl_names.specs.Expansion.{ExpandedArray, ShiftedRead, is_same_array}
-use Rattle.zpl_names.specs.Expansion.{expanded_arrays, expanded_copies, expanded_shifts}
-use Rattle.zpl_binding.specs.Outcome.{value_or}
-use Rattle.zpl_binding.specs.Vectors.{three_components, dir_of}
-use Rattle.zpl_binding.specs.Regions.{Known, no_region}
-use Rattle.zpl_binding.specs.Storages.{home_at, storage_at}
-use Rattle.zpl_binding.specs.Copies.{copy_of}
-use Rattle.grid_layout.specs.declared.boxes.ArrayBox.{ArrayBox}
-use Rattle.grid_layout.specs.Words.{words_of}
+use Rattle.zpl_meaning.specs.of_zpl_arrays.Around.{copy_shift}
+use Rattle.zpl_meaning.specs.of_zpl_tree.Syntax.{Dir, Program}
+use Rattle.zpl_meaning.specs.of_zpl_names.Expansion.{ExpandedArray, ShiftedRead, is_same_array}
+use Rattle.zpl_meaning.specs.of_zpl_names.Expansion.{expanded_arrays, expanded_copies, expanded_shifts}
+use Rattle.zpl_meaning.specs.of_zpl_binding.Outcome.{value_or}
+use Rattle.zpl_meaning.specs.of_zpl_binding.Vectors.{three_components, dir_of}
+use Rattle.zpl_meaning.specs.of_zpl_binding.Regions.{Known, no_region}
+use Rattle.zpl_meaning.specs.of_zpl_binding.Storages.{home_at, storage_at}
+use Rattle.zpl_meaning.specs.of_zpl_binding.Copies.{copy_of}
+use Rattle.grid_meaning.specs.of_grid_layout.declared.boxes.ArrayBox.{ArrayBox}
+use Rattle.grid_meaning.specs.of_grid_layout.Words.{words_of}
 
 -- ---- fringes
 -- In each dimension the components of vectors, and 0 where a storage has flood.

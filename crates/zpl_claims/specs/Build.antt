@@ -1,6 +1,6 @@
 -- What code is built for, and with which optimisations.
 use Rattle.std.specs.Prelude.{◌≡◌, ℕ, ◌≤◌, Bool, true, false, Option, Some, None, List, [], ◌∷◌, ⊤}
-use Rattle.zpl_binding.specs.Settings.{Setting}
+use Rattle.zpl_meaning.specs.of_zpl_binding.Settings.{Setting}
 use Rattle.zpl_claims.specs.declared.options.Options.{Options}
 use Rattle.grid_meaning.specs.Grid.{IsCapacity}
 

@@ -1,6 +1,6 @@
 -- What is claimed of the code that is made of a program.
-use Rattle.node_form.specs.declared.tables.Tables.{Tables}
-use Rattle.zpl_names.specs.Expansion.{shattered_loops}
+use Rattle.grid_meaning.specs.of_node_form.declared.tables.Tables.{Tables}
+use Rattle.zpl_meaning.specs.of_zpl_names.Expansion.{shattered_loops}
 use Rattle.zpl_claims.specs.Build.{OverAllLinks}
 use Rattle.zpl_claims.specs.Origin.{Origin}
 use Rattle.zpl_claims.specs.Good.{IsGood}

@@ -2,7 +2,7 @@
 use Rattle.std.specs.Prelude.{◌≡◌, ◌≢◌, ℕ, List, length, Option}
 use Rattle.zpl_lists.specs.Front.{IsFrontOf}
 use Rattle.zpl_nums.specs.declared.ends.End.TheVariants.{More}
-use Rattle.node_form.specs.declared.tables.Tables.{Tables}
+use Rattle.grid_meaning.specs.of_node_form.declared.tables.Tables.{Tables}
 use Rattle.zpl_meaning.specs.Program.{Meaning}
 use Rattle.grid_meaning.specs.Grid.{Grid, processors, after, IsOver, EndsAs, IsStuck, IsIdle}
 use Rattle.grid_meaning.specs.Grid.{HasEmptyLinks}

@@ -1,9 +1,9 @@
 -- Orders of turns that bring code, in step, to what its meaning prints within a bound.
 use Rattle.std.specs.Prelude.{◌≡◌, ◌≢◌, ℕ, ◌<◌, ◌≤◌, List, length, Option}
 use Rattle.zpl_nums.specs.declared.ends.End.TheVariants.{More}
-use Rattle.grid_links.specs.Laws.{Reaches}
-use Rattle.grid_links.specs.Run.{moves_of}
-use Rattle.node_form.specs.declared.tables.Tables.{Tables}
+use Rattle.grid_meaning.specs.of_grid_links.Laws.{Reaches}
+use Rattle.grid_meaning.specs.of_grid_links.Run.{moves_of}
+use Rattle.grid_meaning.specs.of_node_form.declared.tables.Tables.{Tables}
 use Rattle.zpl_meaning.specs.Program.{Meaning}
 use Rattle.grid_meaning.specs.Grid.{processors, system_over, after, IsOver}
 use Rattle.grid_meaning.specs.Order.{IsOrder}

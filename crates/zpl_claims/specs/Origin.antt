@@ -1,9 +1,9 @@
 -- What code is made of.
 use Rattle.std.specs.Prelude.{ℕ, List}
-use Rattle.zpl_tree.specs.Syntax.{Program}
-use Rattle.zpl_binding.specs.Declarations.{known_of}
+use Rattle.zpl_meaning.specs.of_zpl_tree.Syntax.{Program}
+use Rattle.zpl_meaning.specs.of_zpl_binding.Declarations.{known_of}
 use Rattle.zpl_meaning.specs.Program.{Meaning, mean_of, steps_of}
-use Rattle.grid_layout.specs.declared.boxes.ArrayBox.{ArrayBox}
+use Rattle.grid_meaning.specs.of_grid_layout.declared.boxes.ArrayBox.{ArrayBox}
 use Rattle.zpl_claims.specs.Build.{Build}
 use Rattle.zpl_claims.specs.Boxes.{boxes_of}
 

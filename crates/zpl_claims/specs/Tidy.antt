@@ -2,8 +2,8 @@
 -- source bounds, with no more instructions than its statements need; and free of what the
 -- optimisations that were asked for leave out.
 use Rattle.std.specs.Prelude.{◌≡◌, true, ◌+◌, ◌*◌, ◌≤◌}
-use Rattle.zpl_names.specs.Expansion.{source_size, other_size, plain_assignments}
-use Rattle.node_form.specs.declared.tables.Tables.{Tables}
+use Rattle.zpl_meaning.specs.of_zpl_names.Expansion.{source_size, other_size, plain_assignments}
+use Rattle.grid_meaning.specs.of_node_form.declared.tables.Tables.{Tables}
 use Rattle.grid_meaning.specs.Stored.{arrangement_of}
 use Rattle.code_parts.specs.Counts.{code_size, count_of, is_counted, is_vote, is_loop}
 use Rattle.code_parts.specs.Counts.{GoesByTrees}

@@ -6,4 +6,5 @@
 
 mod options;
 
+pub use grid_meaning::node_form;
 pub use options::Options;

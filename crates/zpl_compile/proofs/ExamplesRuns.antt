@@ -9,7 +9,7 @@ use Rattle.zpl_tree.specs.Syntax.{Name, NamedRegion, Number, Coord, Named, Shift
 use Rattle.zpl_names.specs.Reached.{longest_chain}
 use Rattle.row_runs.specs.Run.{Ends, Result}
 use Rattle.zpl_nums.specs.declared.ends.End.TheVariants.{Done}
-use Rattle.zpl_meaning.specs.Program.{Meaning, mean_of}
+use Rattle.zpl_claims.specs.of_zpl_meaning.Program.{Meaning, mean_of}
 use Rattle.zpl_claims.specs.declared.options.Options.{Options}
 use Rattle.zpl_claims.specs.Build.{Build, no_options, plain_build}
 use Rattle.plan_meaning.specs.Act.{plan_run}

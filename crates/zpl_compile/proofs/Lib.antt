@@ -1,2 +1,3 @@
 mod ExamplesPlan
 mod ExamplesRuns
+pub use Rattle.fuse_contract.proofs as of_fuse_contract

@@ -3,8 +3,8 @@ use Rattle.std.specs.Prelude.{Bool, true, false}
 use Rattle.zpl_tree.specs.Syntax.{Program}
 use Rattle.node_form.specs.declared.tables.Tables.{Tables}
 use Rattle.zpl_lowering.specs.Tables.{flat_tables}
-use Rattle.temp_norm.specs.Normalised.{normalised}
-use Rattle.bound_check.specs.Checked.{checked}
+use Rattle.fuse_contract.specs.of_temp_norm.Normalised.{normalised}
+use Rattle.fuse_contract.specs.of_bound_check.Checked.{checked}
 use Rattle.fuse_contract.specs.Fusing.{fused}
 use Rattle.fuse_contract.specs.Contracting.{contracted}
 use Rattle.comm_needs.specs.Needs.{planned}

@@ -4,3 +4,4 @@ pub mod Same
 pub mod Lexeme
 pub mod Offsets
 pub mod Texts
+pub use Rattle.zpl_tree.specs as of_zpl_tree

@@ -11,7 +11,7 @@ use Rattle.zpl_names.specs.Accepted.{IsFaultless}
 use Rattle.zpl_names.specs.Ranks.{dims_count}
 use Rattle.zpl_bind.specs.Few.{is_few, is_few_bracket, are_few_vars, is_few_decl}
 use Rattle.zpl_bind.proofs.FaultlessLemmas.{faultless-bindable}
-use Rattle.array_regions.specs.Fit.{IsFitInner}
+use Rattle.lower_statements.specs.of_array_regions.Fit.{IsFitInner}
 use Rattle.array_frames.specs.Heads.{IsFitDecl}
 use Rattle.array_frames.specs.Variables.{IsFitShape}
 

@@ -33,10 +33,10 @@ use Rattle.zpl_names.specs.Sites.{stmts_sites, under_prefix, under_prefixes, val
 use Rattle.zpl_names.specs.Sites.{Actual, text_sites, whole_rank}
 use Rattle.zpl_binding.proofs.OutcomeLemmas.{empty-left, empty-right, no_member}
 use Rattle.zpl_meaning.specs.Statement.{step_expr}
-use Rattle.array_regions.specs.Fit.{IsFitInner}
-use Rattle.array_settling.specs.Fit.{AreFit, IsFit, IsFitBracket}
-use Rattle.lower_points.specs.Fit.{AreFitArms, AreFitItems, AreFitPrefixes, AreFitStmts, IsFitElse}
-use Rattle.lower_points.specs.Fit.{IsFitForm, IsFitHead, IsFitStmt, actuals_in}
+use Rattle.lower_statements.specs.of_array_regions.Fit.{IsFitInner}
+use Rattle.lower_statements.specs.of_array_settling.Fit.{AreFit, IsFit, IsFitBracket}
+use Rattle.lower_statements.specs.of_lower_points.Fit.{AreFitArms, AreFitItems, AreFitPrefixes, AreFitStmts, IsFitElse}
+use Rattle.lower_statements.specs.of_lower_points.Fit.{IsFitForm, IsFitHead, IsFitStmt, actuals_in}
 
 -- no ranks clash there
 record AreClear (sites : List Site) : Type 0 where

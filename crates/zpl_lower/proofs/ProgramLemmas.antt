@@ -39,8 +39,8 @@ use Rattle.lower_draft.specs.Drafted.{Drafted, empty, finished, grown}
 use Rattle.lower_draft.specs.declared.calls.Call.{Call}
 use Rattle.lower_draft.proofs.GrowthLemmas.{finished_grown, rows_grown}
 use Rattle.lower_frames.specs.declared.openings.Opening.{Opening}
-use Rattle.lower_places.specs.Sound.{IsIndex}
-use Rattle.lower_points.specs.Fit.{IsFitStmt}
+use Rattle.lower_frames.specs.of_lower_places.Sound.{IsIndex}
+use Rattle.lower_statements.specs.of_lower_points.Fit.{IsFitStmt}
 use Rattle.zpl_lower.specs.declared.runs.Run.{Run}
 use Rattle.zpl_lower.specs.Programs.{AreOpened, entry_at, entry_lowered, frame_at, setup_at}
 use Rattle.zpl_lower.specs.Runs.{IsRunning}

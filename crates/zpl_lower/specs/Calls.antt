@@ -7,7 +7,7 @@ use Rattle.zpl_meaning.specs.Context.{Setup}
 use Rattle.zpl_lowering.specs.Program.{Framed, where_in}
 use Rattle.zpl_lowering.specs.Statement as statement
 use Rattle.zpl_lowering.specs.Where.{SlotCurrents, Where}
-use Rattle.lower_places.specs.View.{currents_of}
+use Rattle.lower_frames.specs.of_lower_places.View.{currents_of}
 use Rattle.lower_frames.specs.declared.givens.Given.{Given}
 use Rattle.lower_frames.specs.Frames.{given_of}
 use Rattle.zpl_lower.specs.declared.runs.Site.{Site}

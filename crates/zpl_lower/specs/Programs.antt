@@ -25,7 +25,7 @@ use Rattle.routine_walks.specs.Texts.{IsText, routine_of}
 use Rattle.routine_walks.specs.declared.texts.Text.{Text}
 use Rattle.array_frames.specs.Heads.{IsHead, names_in, names_of}
 use Rattle.array_places.specs.Sound.{IsRanked}
-use Rattle.lower_points.specs.Fit.{IsFitStmt}
+use Rattle.lower_statements.specs.of_lower_points.Fit.{IsFitStmt}
 use Rattle.lower_frames.specs.declared.openings.Opening.{Opening}
 use Rattle.zpl_lower.specs.declared.faults.LowerFault.{LowerFault}
 use Rattle.zpl_lower.specs.declared.faults.LowerFault.TheVariants.{NoMemory, TooManyNodes}

@@ -12,10 +12,10 @@ use Rattle.routine_walks.specs.Texts.{IsText, routine_of}
 use Rattle.array_frames.specs.Heads.{IsHead, names_in, names_of}
 use Rattle.array_places.specs.Sound.{IsRanked}
 use Rattle.array_places.specs.View.{setup_of}
-use Rattle.lower_places.specs.Sound.{IsIndex}
-use Rattle.lower_places.specs.View.{where_of}
-use Rattle.lower_places.specs.declared.places.Place.{Place}
-use Rattle.lower_points.specs.Fit.{IsFitStmt}
+use Rattle.lower_frames.specs.of_lower_places.Sound.{IsIndex}
+use Rattle.lower_frames.specs.of_lower_places.View.{where_of}
+use Rattle.lower_frames.specs.of_lower_places.declared.places.Place.{Place}
+use Rattle.lower_statements.specs.of_lower_points.Fit.{IsFitStmt}
 use Rattle.lower_statements.specs.Prefixes.{in_place}
 use Rattle.zpl_lower.specs.declared.runs.Run.{Run}
 

@@ -3,7 +3,7 @@ ghost use Rattle.std.specs.Prelude.{◌≡◌, ◌<◌, length, slice_index};
 
 use array_frames::Head;
 use array_places::Setup;
-use lower_places::{Index, Numbers, SlotCurrents};
+use lower_frames::lower_places::{Index, Numbers, SlotCurrents};
 use routine_walks::Text;
 
 /// What stays the same while the body of a procedure is lowered.

@@ -10,15 +10,15 @@ ghost use Rattle.zpl_meaning.specs.Statement.{arms_at};
 ghost use Rattle.zpl_lowering.specs.Statement as statement;
 ghost use Rattle.zpl_lowering.specs.Where.{reach_of};
 ghost use Rattle.array_places.specs.View.{setup_of};
-ghost use Rattle.array_settling.specs.Fit.{AreFit, IsFit};
+ghost use Rattle.lower_statements.specs.of_array_settling.Fit.{AreFit, IsFit};
 ghost use Rattle.lower_draft.specs.Drafted.{grown};
-ghost use Rattle.lower_places.specs.Sound.{IsPlace};
-ghost use Rattle.lower_places.specs.View.{where_of};
-ghost use Rattle.lower_points.specs.Fit.{AreFitArms, AreFitStmts, IsFitElse, IsFitForm};
-ghost use Rattle.lower_points.specs.Fit.{IsFitHead, IsFitStmt};
+ghost use Rattle.lower_frames.specs.of_lower_places.Sound.{IsPlace};
+ghost use Rattle.lower_frames.specs.of_lower_places.View.{where_of};
+ghost use Rattle.lower_statements.specs.of_lower_points.Fit.{AreFitArms, AreFitStmts, IsFitElse, IsFitForm};
+ghost use Rattle.lower_statements.specs.of_lower_points.Fit.{IsFitHead, IsFitStmt};
 ghost use Rattle.lower_statements.specs.Counters.{counter_of};
 ghost use Rattle.lower_statements.specs.Tests.{test_at};
-ghost use Rattle.lower_places.specs.View.{currents_of};
+ghost use Rattle.lower_frames.specs.of_lower_places.View.{currents_of};
 ghost use Rattle.lower_statements.specs.Prefixes.{in_place};
 ghost use Rattle.routine_walks.specs.Texts.{routine_of};
 ghost use Rattle.routine_walks.specs.declared.texts.Routine.{Routine as CodeRoutine};
@@ -31,9 +31,11 @@ use crate::calls::{push_actuals, target_of};
 use crate::runs::{Run, Site, reads_at};
 use array_places::{Environment, Things};
 use lower_draft::Draft;
+use lower_frames::lower_places::{Numbers, Place};
 use lower_frames::{Entry, Framed, Given, enter};
-use lower_places::{Numbers, Place};
-use lower_points::{lower_shattered, parts_of_fit_statements_are_fit, tests_rank};
+use lower_statements::lower_points::{
+    lower_shattered, parts_of_fit_statements_are_fit, tests_rank,
+};
 use lower_statements::{
     Counter, begin_count, behind_prefixes, done_words, enters_words, lower_borders, lower_return,
     lower_to, lower_write, open_test, push_step, set_counter, test_words,

@@ -3,23 +3,23 @@ use Rattle.std.proofs.Common.{◌≡◌, ℕ, ℤ, Bool, true, false, List, [], 
 use Rattle.std.specs.Prelude.{length, slice_get, take, drop}
 use Rattle.std.specs.Fmt.{digits}
 use Rattle.std.specs.Int.{int_wrap}
-use Rattle.zpl_nums.specs.declared.operators.Op.TheVariants as op
-use Rattle.zpl_nums.specs.declared.folds.Fold.TheVariants as fold
-use Rattle.zpl_nums.specs.declared.ends.Border.TheVariants as border
-use Rattle.zpl_nums.specs.declared.ends.TrapKind.TheVariants as trap
-use Rattle.zpl_region.specs.declared.dims.Dim.TheVariants as dim
-use Rattle.node_form.specs.declared.words.ExprOp.TheVariants as word
-use Rattle.node_form.specs.declared.instructions.RegionForm.TheVariants as form
-use Rattle.node_form.specs.declared.instructions.SameKind.TheVariants as same
-use Rattle.zpl_tree.specs.Syntax.{Name, NamedRegion, Ditto, Number, Truth, Coord, Named, Shifted, Around, Remap, Call, Paren, Neg, Not, Abs, Pair, Reduce, Scan, Flood, NoExpr, ThenExpr, NamedDir, Vector, Rexpr, Dims, NoBracket, Bracketed, NoPost, ThenPost, Blank, Star, One, Span, NoDim, ThenDim, Str, Value, Prefixed, NoStmt, ThenStmt, Assign, Invoke, Block, If, While, Repeat, For, Border, Write, Return, Tested, NoArm, ThenArm, NoElse, Else, Integer, Boolean, Config, Constant, Regions, Directions, Vars, Defined, Program}
-use Rattle.zpl_names.specs.Reached.{longest_chain}
-use Rattle.row_runs.specs.Code.{CodeRow, Straight, Jump, Unless}
-use Rattle.row_runs.specs.Structured.{flattened}
-use Rattle.flat_form.specs.Row as row
-use Rattle.node_form.specs.declared.instructions.Instr.TheVariants as instr
+use Rattle.zpl_meaning.specs.of_zpl_nums.declared.operators.Op.TheVariants as op
+use Rattle.zpl_meaning.specs.of_zpl_nums.declared.folds.Fold.TheVariants as fold
+use Rattle.zpl_meaning.specs.of_zpl_nums.declared.ends.Border.TheVariants as border
+use Rattle.zpl_meaning.specs.of_zpl_nums.declared.ends.TrapKind.TheVariants as trap
+use Rattle.zpl_meaning.specs.of_zpl_region.declared.dims.Dim.TheVariants as dim
+use Rattle.text_sharing.specs.of_node_form.declared.words.ExprOp.TheVariants as word
+use Rattle.text_sharing.specs.of_node_form.declared.instructions.RegionForm.TheVariants as form
+use Rattle.text_sharing.specs.of_node_form.declared.instructions.SameKind.TheVariants as same
+use Rattle.zpl_meaning.specs.of_zpl_tree.Syntax.{Name, NamedRegion, Ditto, Number, Truth, Coord, Named, Shifted, Around, Remap, Call, Paren, Neg, Not, Abs, Pair, Reduce, Scan, Flood, NoExpr, ThenExpr, NamedDir, Vector, Rexpr, Dims, NoBracket, Bracketed, NoPost, ThenPost, Blank, Star, One, Span, NoDim, ThenDim, Str, Value, Prefixed, NoStmt, ThenStmt, Assign, Invoke, Block, If, While, Repeat, For, Border, Write, Return, Tested, NoArm, ThenArm, NoElse, Else, Integer, Boolean, Config, Constant, Regions, Directions, Vars, Defined, Program}
+use Rattle.zpl_meaning.specs.of_zpl_names.Reached.{longest_chain}
+use Rattle.text_sharing.specs.of_row_runs.Code.{CodeRow, Straight, Jump, Unless}
+use Rattle.text_sharing.specs.of_row_runs.Structured.{flattened}
+use Rattle.text_sharing.specs.of_flat_form.Row as row
+use Rattle.text_sharing.specs.of_node_form.declared.instructions.Instr.TheVariants as instr
 use Rattle.zpl_lowering.specs.Tables.{flat_tables}
-use Rattle.row_runs.specs.Run.{Ends, Result}
-use Rattle.flat_form.specs.Act.{flat_run}
+use Rattle.text_sharing.specs.of_row_runs.Run.{Ends, Result}
+use Rattle.text_sharing.specs.of_flat_form.Act.{flat_run}
 use Rattle.zpl_meaning.specs.Program.{Meaning, mean_of}
 
 abbrev name : List ℕ → ℕ → Name

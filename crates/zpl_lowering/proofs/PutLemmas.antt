@@ -1,8 +1,8 @@
 -- Whether a group puts an array is told by its members, whatever mask is around them.
 use Rattle.std.proofs.Common.{◌≡◌, ℕ, List, [], ◌∷◌, ◌++◌, refl}
 use Rattle.std.specs.Prelude.{Option, Some, None}
-use Rattle.flat_form.specs.Row as row
-use Rattle.flat_form.specs.Row.{Member, Words}
+use Rattle.text_sharing.specs.of_flat_form.Row as row
+use Rattle.text_sharing.specs.of_flat_form.Row.{Member, Words}
 use Rattle.zpl_lowering.specs.Statement.{has_put, masked_members}
 
 closed_put : (members : List Member) → has_put (members ++ row.CloseIf ∷ []) ≡ has_put members

@@ -1,25 +1,25 @@
 -- The regions that stand in statements, as rows.
 use Rattle.std.specs.Prelude.{ℕ, zero, suc, ◌+◌, ◌-◌, Bool, true, false, ℤ, List, [], ◌∷◌, ◌++◌, length, Option, Some, None, option_map, option_and_then, get_or, position}
 use Rattle.std.specs.Str.{bytes_eq}
-use Rattle.zpl_nums.specs.Integer.{truth, negated, denied, absolute}
-use Rattle.zpl_nums.specs.Op.{applied}
-use Rattle.zpl_region.specs.declared.dims.Dim.{Dim}
-use Rattle.zpl_region.specs.declared.dims.Dim.TheVariants as dim
-use Rattle.zpl_region.specs.declared.regions.Region.{Region}
-use Rattle.zpl_region.specs.Hull.{all_from}
-use Rattle.zpl_tree.specs.Syntax.{Name, Pre, RegionBase, NamedRegion, Ditto, Expr, Number, Truth, Coord, Named, Shifted, Around, Remap, Call, Paren, Neg, Not, Abs, Pair, Reduce, Scan, Flood, NamedDir, Inner, Rexpr, Dims, Posts, NoPost, ThenPost, DimText, Blank, Star, One, Span, DimTexts, NoDim, ThenDim}
-use Rattle.zpl_names.specs.Ranks.{is_index}
-use Rattle.zpl_binding.specs.Outcome.{Outcome, value_or}
-use Rattle.zpl_binding.specs.Outcome as bound
-use Rattle.zpl_binding.specs.Regions.{Known, region_over, limited, behind, before, no_region, region_named}
+use Rattle.zpl_meaning.specs.of_zpl_nums.Integer.{truth, negated, denied, absolute}
+use Rattle.zpl_meaning.specs.of_zpl_nums.Op.{applied}
+use Rattle.zpl_meaning.specs.of_zpl_region.declared.dims.Dim.{Dim}
+use Rattle.zpl_meaning.specs.of_zpl_region.declared.dims.Dim.TheVariants as dim
+use Rattle.zpl_meaning.specs.of_zpl_region.declared.regions.Region.{Region}
+use Rattle.zpl_meaning.specs.of_zpl_region.Hull.{all_from}
+use Rattle.zpl_meaning.specs.of_zpl_tree.Syntax.{Name, Pre, RegionBase, NamedRegion, Ditto, Expr, Number, Truth, Coord, Named, Shifted, Around, Remap, Call, Paren, Neg, Not, Abs, Pair, Reduce, Scan, Flood, NamedDir, Inner, Rexpr, Dims, Posts, NoPost, ThenPost, DimText, Blank, Star, One, Span, DimTexts, NoDim, ThenDim}
+use Rattle.zpl_meaning.specs.of_zpl_names.Ranks.{is_index}
+use Rattle.zpl_meaning.specs.of_zpl_binding.Outcome.{Outcome, value_or}
+use Rattle.zpl_meaning.specs.of_zpl_binding.Outcome as bound
+use Rattle.zpl_meaning.specs.of_zpl_binding.Regions.{Known, region_over, limited, behind, before, no_region, region_named}
 use Rattle.zpl_meaning.specs.Store.{Thing, Scalar, ArrayAt, Fixed, Environment, thing_of}
 use Rattle.zpl_meaning.specs.Regions.{vector_in}
-use Rattle.node_form.specs.Expression.{Expression, Constant, words_of}
-use Rattle.node_form.specs.declared.instructions.RegionForm.{RegionForm}
-use Rattle.node_form.specs.declared.instructions.RegionForm.TheVariants as form
-use Rattle.node_form.specs.declared.instructions.Instr.TheVariants as instr
-use Rattle.flat_form.specs.Row as row
-use Rattle.flat_form.specs.Row.{Row, Part}
+use Rattle.text_sharing.specs.of_node_form.Expression.{Expression, Constant, words_of}
+use Rattle.text_sharing.specs.of_node_form.declared.instructions.RegionForm.{RegionForm}
+use Rattle.text_sharing.specs.of_node_form.declared.instructions.RegionForm.TheVariants as form
+use Rattle.text_sharing.specs.of_node_form.declared.instructions.Instr.TheVariants as instr
+use Rattle.text_sharing.specs.of_flat_form.Row as row
+use Rattle.text_sharing.specs.of_flat_form.Row.{Row, Part}
 use Rattle.zpl_lowering.specs.Where.{Slotted, Where, flood_of}
 use Rattle.zpl_lowering.specs.Words.{scalar_code}
 

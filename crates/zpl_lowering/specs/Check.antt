@@ -1,9 +1,9 @@
 -- Tests, and the rows of a flat program that laid-out code is.
 use Rattle.std.specs.Prelude.{ℕ}
-use Rattle.node_form.specs.declared.instructions.Instr.TheVariants as instr
-use Rattle.row_runs.specs.Code.{CodeRow, Straight, Jump, Unless}
-use Rattle.flat_form.specs.Row as row
-use Rattle.flat_form.specs.Row.{Row, Words}
+use Rattle.text_sharing.specs.of_node_form.declared.instructions.Instr.TheVariants as instr
+use Rattle.text_sharing.specs.of_row_runs.Code.{CodeRow, Straight, Jump, Unless}
+use Rattle.text_sharing.specs.of_flat_form.Row as row
+use Rattle.text_sharing.specs.of_flat_form.Row.{Row, Words}
 
 -- a test: its expression, and the line of a trap in it
 pub record Check : Type 0 where

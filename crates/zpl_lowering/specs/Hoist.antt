@@ -2,27 +2,27 @@
 -- temporaries, inner before outer and left before right. What is left of an expression has a value
 -- at each index.
 use Rattle.std.specs.Prelude.{ℕ, zero, suc, ◌+◌, ◌*◌, Bool, true, false, ℤ, pos, neg_ℤ, unsigned_abs, List, [], ◌∷◌, ◌++◌, map, flat_map, length, drop, take, replicate, Option, Some, None, slice_get}
-use Rattle.zpl_nums.specs.declared.operators.Op.{Op}
-use Rattle.zpl_nums.specs.declared.operators.Op.TheVariants as op
-use Rattle.zpl_nums.specs.declared.operators.UnaryOp.{UnaryOp}
-use Rattle.zpl_nums.specs.declared.operators.UnaryOp.TheVariants as unary
-use Rattle.zpl_nums.specs.declared.folds.Fold.{Fold}
-use Rattle.zpl_nums.specs.declared.folds.Fold.TheVariants as fold
-use Rattle.zpl_nums.specs.declared.ends.Border.TheVariants as border
-use Rattle.zpl_nums.specs.declared.ends.TrapKind.TheVariants as trap
-use Rattle.zpl_nums.specs.Fold.{unit_of}
-use Rattle.zpl_nums.specs.Integer.{is_true}
-use Rattle.zpl_region.specs.declared.dims.Dim.{Dim}
-use Rattle.zpl_region.specs.declared.dims.Dim.TheVariants as dim
-use Rattle.zpl_region.specs.declared.regions.Region.{Region}
+use Rattle.zpl_meaning.specs.of_zpl_nums.declared.operators.Op.{Op}
+use Rattle.zpl_meaning.specs.of_zpl_nums.declared.operators.Op.TheVariants as op
+use Rattle.zpl_meaning.specs.of_zpl_nums.declared.operators.UnaryOp.{UnaryOp}
+use Rattle.zpl_meaning.specs.of_zpl_nums.declared.operators.UnaryOp.TheVariants as unary
+use Rattle.zpl_meaning.specs.of_zpl_nums.declared.folds.Fold.{Fold}
+use Rattle.zpl_meaning.specs.of_zpl_nums.declared.folds.Fold.TheVariants as fold
+use Rattle.zpl_meaning.specs.of_zpl_nums.declared.ends.Border.TheVariants as border
+use Rattle.zpl_meaning.specs.of_zpl_nums.declared.ends.TrapKind.TheVariants as trap
+use Rattle.zpl_meaning.specs.of_zpl_nums.Fold.{unit_of}
+use Rattle.zpl_meaning.specs.of_zpl_nums.Integer.{is_true}
+use Rattle.zpl_meaning.specs.of_zpl_region.declared.dims.Dim.{Dim}
+use Rattle.zpl_meaning.specs.of_zpl_region.declared.dims.Dim.TheVariants as dim
+use Rattle.zpl_meaning.specs.of_zpl_region.declared.regions.Region.{Region}
 use Rattle.zpl_meaning.specs.Context.{Mask}
-use Rattle.node_form.specs.Expression.{Expression, Constant, Variable, Element, Neighbour, Coordinate, Operation, Negation, Denial, Absolute, words_of}
-use Rattle.node_form.specs.declared.instructions.RegionForm.TheVariants as form
-use Rattle.row_runs.specs.Structured as piece
-use Rattle.row_runs.specs.Structured.{Piece}
-use Rattle.node_form.specs.declared.instructions.Instr.TheVariants as instr
-use Rattle.flat_form.specs.Row as row
-use Rattle.flat_form.specs.Row.{Row, Member, Words}
+use Rattle.text_sharing.specs.of_node_form.Expression.{Expression, Constant, Variable, Element, Neighbour, Coordinate, Operation, Negation, Denial, Absolute, words_of}
+use Rattle.text_sharing.specs.of_node_form.declared.instructions.RegionForm.TheVariants as form
+use Rattle.text_sharing.specs.of_row_runs.Structured as piece
+use Rattle.text_sharing.specs.of_row_runs.Structured.{Piece}
+use Rattle.text_sharing.specs.of_node_form.declared.instructions.Instr.TheVariants as instr
+use Rattle.text_sharing.specs.of_flat_form.Row as row
+use Rattle.text_sharing.specs.of_flat_form.Row.{Row, Member, Words}
 use Rattle.zpl_lowering.specs.Check.{Check}
 use Rattle.zpl_lowering.specs.Where.{Stored, Numbers, Slotted}
 use Rattle.zpl_lowering.specs.Words.{variable_code}

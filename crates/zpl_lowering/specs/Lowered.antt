@@ -1,10 +1,10 @@
 -- Code, with what it has of its own; and the rows of the phases that are common to statements.
 use Rattle.std.specs.Prelude.{ℕ, zero, suc, ◌+◌, Bool, ℤ, pos, List, [], ◌∷◌, ◌++◌, length, Option, Some, None}
-use Rattle.zpl_region.specs.declared.regions.Region.{Region}
-use Rattle.node_form.specs.Expression.{Expression, words_of}
-use Rattle.row_runs.specs.Structured as piece
-use Rattle.row_runs.specs.Structured.{Piece}
-use Rattle.flat_form.specs.Row.{Row}
+use Rattle.zpl_meaning.specs.of_zpl_region.declared.regions.Region.{Region}
+use Rattle.text_sharing.specs.of_node_form.Expression.{Expression, words_of}
+use Rattle.text_sharing.specs.of_row_runs.Structured as piece
+use Rattle.text_sharing.specs.of_row_runs.Structured.{Piece}
+use Rattle.text_sharing.specs.of_flat_form.Row.{Row}
 use Rattle.zpl_lowering.specs.Check.{Check}
 use Rattle.zpl_lowering.specs.Where.{Where, Next}
 use Rattle.zpl_lowering.specs.Reference.{Reference, needs, all_conforming, all_referred}

@@ -1,27 +1,27 @@
 -- The lowered program: calls expanded, and the tables that code comes to.
 use Rattle.std.specs.Prelude.{ℕ, zero, suc, ◌+◌, ◌-◌, Bool, true, false, ℤ, pos, List, [], ◌∷◌, ◌++◌, map, flat_map, length, Option, Some, None}
-use Rattle.zpl_region.specs.declared.regions.Region.{Region}
-use Rattle.zpl_arrays.specs.Array.{Array}
-use Rattle.zpl_tree.specs.Syntax.{Name, Around, Bracket, NoBracket, Bracketed, VarDef, Program}
-use Rattle.zpl_names.specs.Declared.{Routine, routine_named, entry_of, scope_of}
-use Rattle.zpl_names.specs.Expansion.{FormalName, formal_names, expanded_arrays, expanded_copies}
-use Rattle.zpl_names.specs.Reached.{longest_chain}
-use Rattle.zpl_names.specs.Shapes.{unknown_shapes}
-use Rattle.zpl_names.specs.Sites.{Site, AtExpr, routine_sites}
-use Rattle.zpl_binding.specs.Settings.{Setting}
-use Rattle.zpl_binding.specs.Declarations.{known_of}
-use Rattle.zpl_binding.specs.Outcome.{Computed, Outcome, value_or}
-use Rattle.zpl_binding.specs.Regions.{Known, no_region}
-use Rattle.zpl_binding.specs.Storages.{Border as BorderBound, borders_of}
+use Rattle.zpl_meaning.specs.of_zpl_region.declared.regions.Region.{Region}
+use Rattle.zpl_meaning.specs.of_zpl_arrays.Array.{Array}
+use Rattle.zpl_meaning.specs.of_zpl_tree.Syntax.{Name, Around, Bracket, NoBracket, Bracketed, VarDef, Program}
+use Rattle.zpl_meaning.specs.of_zpl_names.Declared.{Routine, routine_named, entry_of, scope_of}
+use Rattle.zpl_meaning.specs.of_zpl_names.Expansion.{FormalName, formal_names, expanded_arrays, expanded_copies}
+use Rattle.zpl_meaning.specs.of_zpl_names.Reached.{longest_chain}
+use Rattle.zpl_meaning.specs.of_zpl_names.Shapes.{unknown_shapes}
+use Rattle.zpl_meaning.specs.of_zpl_names.Sites.{Site, AtExpr, routine_sites}
+use Rattle.zpl_meaning.specs.of_zpl_binding.Settings.{Setting}
+use Rattle.zpl_meaning.specs.of_zpl_binding.Declarations.{known_of}
+use Rattle.zpl_meaning.specs.of_zpl_binding.Outcome.{Computed, Outcome, value_or}
+use Rattle.zpl_meaning.specs.of_zpl_binding.Regions.{Known, no_region}
+use Rattle.zpl_meaning.specs.of_zpl_binding.Storages.{Border as BorderBound, borders_of}
 use Rattle.zpl_meaning.specs.Store.{Thing, Scalar, ArrayAt, Names}
 use Rattle.zpl_meaning.specs.Context.{Setup}
 use Rattle.zpl_meaning.specs.Program.{setup_of, first_frame}
 use Rattle.zpl_meaning.specs.Variables.{Frame, home_box, storage_box}
-use Rattle.node_form.specs.Expression.{Expression, Constant, Element, words_of}
-use Rattle.row_runs.specs.Structured as piece
-use Rattle.node_form.specs.declared.instructions.Instr.TheVariants as instr
-use Rattle.flat_form.specs.Row as row
-use Rattle.flat_form.specs.Row.{Row}
+use Rattle.text_sharing.specs.of_node_form.Expression.{Expression, Constant, Element, words_of}
+use Rattle.text_sharing.specs.of_row_runs.Structured as piece
+use Rattle.text_sharing.specs.of_node_form.declared.instructions.Instr.TheVariants as instr
+use Rattle.text_sharing.specs.of_flat_form.Row as row
+use Rattle.text_sharing.specs.of_flat_form.Row.{Row}
 use Rattle.zpl_lowering.specs.Where.{Stored, Numbers, no_slots, Where, Next, flood_of}
 use Rattle.zpl_lowering.specs.Lowered.{Lowered, rows_alone, behind, followed, both}
 use Rattle.zpl_lowering.specs.Statement.{Given, Valued, Copied, Referring, Calling, Lowering, lowered}

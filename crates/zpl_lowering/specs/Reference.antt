@@ -3,16 +3,16 @@
 use Rattle.std.specs.Prelude.{ℕ, Bool, true, false, not, ◌&&◌, ◌==◌, ℤ, pos, List, [], ◌∷◌, ◌++◌, map, filter, Option, Some, None, slice_get}
 use Rattle.std.specs.List.{list_all}
 use Rattle.std.specs.Ordering.{int_eq}
-use Rattle.zpl_region.specs.declared.dims.Dim.{Dim}
-use Rattle.zpl_region.specs.declared.dims.Dim.TheVariants as dim
-use Rattle.zpl_region.specs.declared.regions.Region.{Region}
-use Rattle.zpl_nums.specs.Integer.{is_true}
+use Rattle.zpl_meaning.specs.of_zpl_region.declared.dims.Dim.{Dim}
+use Rattle.zpl_meaning.specs.of_zpl_region.declared.dims.Dim.TheVariants as dim
+use Rattle.zpl_meaning.specs.of_zpl_region.declared.regions.Region.{Region}
+use Rattle.zpl_meaning.specs.of_zpl_nums.Integer.{is_true}
 use Rattle.zpl_meaning.specs.Context.{Mask}
-use Rattle.node_form.specs.Value.{unmoved}
-use Rattle.node_form.specs.declared.instructions.SameKind.TheVariants as same
-use Rattle.node_form.specs.declared.instructions.Instr.TheVariants as instr
-use Rattle.flat_form.specs.Row as row
-use Rattle.flat_form.specs.Row.{Row}
+use Rattle.text_sharing.specs.of_node_form.Value.{unmoved}
+use Rattle.text_sharing.specs.of_node_form.declared.instructions.SameKind.TheVariants as same
+use Rattle.text_sharing.specs.of_node_form.declared.instructions.Instr.TheVariants as instr
+use Rattle.text_sharing.specs.of_flat_form.Row as row
+use Rattle.text_sharing.specs.of_flat_form.Row.{Row}
 use Rattle.zpl_lowering.specs.Where.{Stored, Numbers, Slotted}
 use Rattle.zpl_lowering.specs.Slate.{Slate, Constant, Variable, Coordinate, Element, Wrapped, Unary, Binary, Folded, PartFolded, Scanned, Flooded, Remapped, Slates, NoSlate, ThenSlate}
 

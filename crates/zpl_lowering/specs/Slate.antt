@@ -2,19 +2,19 @@
 -- that stand in it become rows, in text order, a bracket before its operand.
 use Rattle.std.specs.Prelude.{ℕ, ◌+◌, ◌*◌, ◌^◌, ◌-◌, Bool, true, false, ℤ, pos, if◌then◌else◌, List, [], ◌∷◌, ◌++◌, length, filter, replicate, Option, Some, None}
 use Rattle.std.specs.Ordering.{int_eq}
-use Rattle.zpl_nums.specs.declared.operators.Op.{Op}
-use Rattle.zpl_nums.specs.declared.operators.UnaryOp.{UnaryOp}
-use Rattle.zpl_nums.specs.declared.operators.UnaryOp.TheVariants as unary
-use Rattle.zpl_nums.specs.declared.folds.Fold.{Fold}
-use Rattle.zpl_nums.specs.Integer.{truth, is_true}
-use Rattle.zpl_region.specs.declared.regions.Region.{Region}
-use Rattle.zpl_arrays.specs.Around.{copy_shift, copy_storage}
-use Rattle.zpl_tree.specs.Syntax.{Expr, Number, Truth, Coord, Named, Shifted, Around, Remap, Call, Paren, Neg, Not, Abs, Pair, Reduce, Scan, Flood, Exprs, NoExpr, ThenExpr, Inner, NoBracket, Bracketed}
-use Rattle.zpl_names.specs.Kinds.{Rank}
-use Rattle.zpl_names.specs.Ranks.{own_rank, operand_rank, inner_rank}
+use Rattle.zpl_meaning.specs.of_zpl_nums.declared.operators.Op.{Op}
+use Rattle.zpl_meaning.specs.of_zpl_nums.declared.operators.UnaryOp.{UnaryOp}
+use Rattle.zpl_meaning.specs.of_zpl_nums.declared.operators.UnaryOp.TheVariants as unary
+use Rattle.zpl_meaning.specs.of_zpl_nums.declared.folds.Fold.{Fold}
+use Rattle.zpl_meaning.specs.of_zpl_nums.Integer.{truth, is_true}
+use Rattle.zpl_meaning.specs.of_zpl_region.declared.regions.Region.{Region}
+use Rattle.zpl_meaning.specs.of_zpl_arrays.Around.{copy_shift, copy_storage}
+use Rattle.zpl_meaning.specs.of_zpl_tree.Syntax.{Expr, Number, Truth, Coord, Named, Shifted, Around, Remap, Call, Paren, Neg, Not, Abs, Pair, Reduce, Scan, Flood, Exprs, NoExpr, ThenExpr, Inner, NoBracket, Bracketed}
+use Rattle.zpl_meaning.specs.of_zpl_names.Kinds.{Rank}
+use Rattle.zpl_meaning.specs.of_zpl_names.Ranks.{own_rank, operand_rank, inner_rank}
 use Rattle.zpl_meaning.specs.Store.{Thing, Scalar, ArrayAt, Fixed, thing_of}
 use Rattle.zpl_meaning.specs.Regions.{vector_in}
-use Rattle.flat_form.specs.Row.{Row}
+use Rattle.text_sharing.specs.of_flat_form.Row.{Row}
 use Rattle.zpl_lowering.specs.Where.{Slotted, slotted_at, with_slotted, Where, Next}
 use Rattle.zpl_lowering.specs.Bracket.{Opened, bracket}
 

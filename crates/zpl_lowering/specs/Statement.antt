@@ -1,31 +1,31 @@
 -- The code of statements. It follows what they mean, form by form.
 use Rattle.std.specs.Prelude.{ℕ, zero, suc, ◌+◌, Bool, true, false, not, ℤ, pos, neg_ℤ, List, [], ◌∷◌, ◌++◌, length, Option, Some, None, slice_get, if◌then◌else◌}
-use Rattle.zpl_nums.specs.declared.operators.Op.{Op}
-use Rattle.zpl_nums.specs.declared.operators.Op.TheVariants as op
-use Rattle.zpl_nums.specs.declared.ends.Border.{Border as BorderKind}
-use Rattle.zpl_nums.specs.declared.ends.Border.TheVariants as border
-use Rattle.zpl_region.specs.declared.regions.Region.{Region}
-use Rattle.zpl_text.specs.Escapes.{unescaped}
-use Rattle.zpl_tree.specs.Syntax.{Name, Pre, NamedRegion, Ditto, Expr, Named, Call, Exprs, NoExpr, ThenExpr, NamedDir, Inner, Rexpr, Dims, Posts, NoPost, ThenPost, Prefix, ForHead, Item, Str, Value, Base, Boolean, Stmt, Prefixed, Stmts, NoStmt, ThenStmt, Form, Assign, Invoke, Block, If, While, Repeat, For, Border, Write, Return, Arm, Tested, Arms, NoArm, ThenArm, Otherwise, NoElse, Else}
-use Rattle.zpl_names.specs.Kinds.{Rank, Formal, ScalarFormal, ArrayFormal}
-use Rattle.zpl_names.specs.Scope.{kind_of}
-use Rattle.zpl_names.specs.Ranks.{inner_rank, mask_rank}
-use Rattle.zpl_names.specs.Shapes.{prefix_rank}
-use Rattle.zpl_names.specs.Sites.{Role, Limit, Result, Test, Printed, Actual, Assigned, is_shattered, tests_rank}
-use Rattle.zpl_names.specs.Types.{type_of}
-use Rattle.zpl_binding.specs.Regions.{Known}
+use Rattle.zpl_meaning.specs.of_zpl_nums.declared.operators.Op.{Op}
+use Rattle.zpl_meaning.specs.of_zpl_nums.declared.operators.Op.TheVariants as op
+use Rattle.zpl_meaning.specs.of_zpl_nums.declared.ends.Border.{Border as BorderKind}
+use Rattle.zpl_meaning.specs.of_zpl_nums.declared.ends.Border.TheVariants as border
+use Rattle.zpl_meaning.specs.of_zpl_region.declared.regions.Region.{Region}
+use Rattle.zpl_meaning.specs.of_zpl_text.Escapes.{unescaped}
+use Rattle.zpl_meaning.specs.of_zpl_tree.Syntax.{Name, Pre, NamedRegion, Ditto, Expr, Named, Call, Exprs, NoExpr, ThenExpr, NamedDir, Inner, Rexpr, Dims, Posts, NoPost, ThenPost, Prefix, ForHead, Item, Str, Value, Base, Boolean, Stmt, Prefixed, Stmts, NoStmt, ThenStmt, Form, Assign, Invoke, Block, If, While, Repeat, For, Border, Write, Return, Arm, Tested, Arms, NoArm, ThenArm, Otherwise, NoElse, Else}
+use Rattle.zpl_meaning.specs.of_zpl_names.Kinds.{Rank, Formal, ScalarFormal, ArrayFormal}
+use Rattle.zpl_meaning.specs.of_zpl_names.Scope.{kind_of}
+use Rattle.zpl_meaning.specs.of_zpl_names.Ranks.{inner_rank, mask_rank}
+use Rattle.zpl_meaning.specs.of_zpl_names.Shapes.{prefix_rank}
+use Rattle.zpl_meaning.specs.of_zpl_names.Sites.{Role, Limit, Result, Test, Printed, Actual, Assigned, is_shattered, tests_rank}
+use Rattle.zpl_meaning.specs.of_zpl_names.Types.{type_of}
+use Rattle.zpl_meaning.specs.of_zpl_binding.Regions.{Known}
 use Rattle.zpl_meaning.specs.Store.{Thing, Scalar, ArrayAt, Fixed, Environment, thing_of}
 use Rattle.zpl_meaning.specs.Regions.{vector_in, mask_in}
 use Rattle.zpl_meaning.specs.Calls.{formals_in, actual_thing}
 use Rattle.zpl_meaning.specs.Points.{assigned_expr}
 use Rattle.zpl_meaning.specs.Statement.{arms_at, step_expr}
-use Rattle.node_form.specs.Expression.{Expression, Constant, Variable, Element, Operation, words_of}
-use Rattle.node_form.specs.Value.{unmoved}
-use Rattle.node_form.specs.declared.instructions.RegionForm.TheVariants as form
-use Rattle.row_runs.specs.Structured as piece
-use Rattle.node_form.specs.declared.instructions.Instr.TheVariants as instr
-use Rattle.flat_form.specs.Row as row
-use Rattle.flat_form.specs.Row.{Row, Member, Words}
+use Rattle.text_sharing.specs.of_node_form.Expression.{Expression, Constant, Variable, Element, Operation, words_of}
+use Rattle.text_sharing.specs.of_node_form.Value.{unmoved}
+use Rattle.text_sharing.specs.of_node_form.declared.instructions.RegionForm.TheVariants as form
+use Rattle.text_sharing.specs.of_row_runs.Structured as piece
+use Rattle.text_sharing.specs.of_node_form.declared.instructions.Instr.TheVariants as instr
+use Rattle.text_sharing.specs.of_flat_form.Row as row
+use Rattle.text_sharing.specs.of_flat_form.Row.{Row, Member, Words}
 use Rattle.zpl_lowering.specs.Check.{Check}
 use Rattle.zpl_lowering.specs.Where.{Stored, Numbers, Slotted, SlotCurrents, slotted_at, with_slotted, SlotEdge, Where, Next, reach_of, rank_in, rank_for, line_of}
 use Rattle.zpl_lowering.specs.Bracket.{Opened, bracket, computed, region_slot}

@@ -1,19 +1,19 @@
 -- The tables of a lowered program.
 use Rattle.std.specs.Prelude.{ℕ, zero, suc, ◌-◌, Bool, true, false, ℤ, pos, neg_ℤ, List, [], ◌∷◌, ◌++◌, map, length, filter, ◌==◌}
 use Rattle.std.specs.Int.{int_max}
-use Rattle.zpl_region.specs.declared.dims.Dim.{Dim}
-use Rattle.zpl_region.specs.declared.dims.Dim.TheVariants as dim
-use Rattle.zpl_region.specs.declared.regions.Region.{Region}
-use Rattle.zpl_tree.specs.Syntax.{Program}
-use Rattle.zpl_binding.specs.Settings.{Setting}
-use Rattle.node_form.specs.declared.arrays.ArrayDim.{ArrayDim}
-use Rattle.node_form.specs.declared.arrays.ArrayDim.TheVariants as array
-use Rattle.node_form.specs.declared.arrays.ArrayRow.{ArrayRow}
-use Rattle.node_form.specs.declared.instructions.Instr.TheVariants as instr
-use Rattle.node_form.specs.declared.tables.Tables.{Tables}
-use Rattle.row_runs.specs.Structured.{flattened}
-use Rattle.flat_form.specs.Row as row
-use Rattle.flat_form.specs.Row.{Row, with_rows}
+use Rattle.zpl_meaning.specs.of_zpl_region.declared.dims.Dim.{Dim}
+use Rattle.zpl_meaning.specs.of_zpl_region.declared.dims.Dim.TheVariants as dim
+use Rattle.zpl_meaning.specs.of_zpl_region.declared.regions.Region.{Region}
+use Rattle.zpl_meaning.specs.of_zpl_tree.Syntax.{Program}
+use Rattle.zpl_meaning.specs.of_zpl_binding.Settings.{Setting}
+use Rattle.text_sharing.specs.of_node_form.declared.arrays.ArrayDim.{ArrayDim}
+use Rattle.text_sharing.specs.of_node_form.declared.arrays.ArrayDim.TheVariants as array
+use Rattle.text_sharing.specs.of_node_form.declared.arrays.ArrayRow.{ArrayRow}
+use Rattle.text_sharing.specs.of_node_form.declared.instructions.Instr.TheVariants as instr
+use Rattle.text_sharing.specs.of_node_form.declared.tables.Tables.{Tables}
+use Rattle.text_sharing.specs.of_row_runs.Structured.{flattened}
+use Rattle.text_sharing.specs.of_flat_form.Row as row
+use Rattle.text_sharing.specs.of_flat_form.Row.{Row, with_rows}
 use Rattle.text_sharing.specs.Shared.{texts_shared}
 use Rattle.zpl_lowering.specs.Check.{flat_row}
 use Rattle.zpl_lowering.specs.Hoist.{Shifted}

@@ -1,15 +1,15 @@
 -- Where a statement is lowered: a place of the meaning that has slots in the place of regions, and
 -- the numbers of the tables in the place of what the store has.
 use Rattle.std.specs.Prelude.{ℕ, zero, suc, Bool, true, false, ℤ, List, [], ◌∷◌, map, take, length, Option, Some, None}
-use Rattle.zpl_region.specs.declared.dims.Dim.{Dim}
-use Rattle.zpl_region.specs.declared.dims.Dim.TheVariants as dim
-use Rattle.zpl_region.specs.declared.regions.Region.{Region}
-use Rattle.zpl_names.specs.Kinds.{Rank}
-use Rattle.zpl_names.specs.Scope.{Scope}
-use Rattle.zpl_names.specs.Shapes.{unknown_shapes}
-use Rattle.zpl_names.specs.Sites.{Reach, in_body, Role, handed, whole_rank}
-use Rattle.zpl_tree.specs.Syntax.{Expr}
-use Rattle.zpl_text.specs.Lines.{line_at}
+use Rattle.zpl_meaning.specs.of_zpl_region.declared.dims.Dim.{Dim}
+use Rattle.zpl_meaning.specs.of_zpl_region.declared.dims.Dim.TheVariants as dim
+use Rattle.zpl_meaning.specs.of_zpl_region.declared.regions.Region.{Region}
+use Rattle.zpl_meaning.specs.of_zpl_names.Kinds.{Rank}
+use Rattle.zpl_meaning.specs.of_zpl_names.Scope.{Scope}
+use Rattle.zpl_meaning.specs.of_zpl_names.Shapes.{unknown_shapes}
+use Rattle.zpl_meaning.specs.of_zpl_names.Sites.{Reach, in_body, Role, handed, whole_rank}
+use Rattle.zpl_meaning.specs.of_zpl_tree.Syntax.{Expr}
+use Rattle.zpl_meaning.specs.of_zpl_text.Lines.{line_at}
 use Rattle.zpl_meaning.specs.Store.{Environment}
 use Rattle.zpl_meaning.specs.Context.{Mask, Setup}
 

@@ -1,9 +1,9 @@
 -- Expressions of scalars, and names in expressions.
 use Rattle.std.specs.Prelude.{ℕ, ℤ, pos, List, Option, Some, None, slice_get}
-use Rattle.zpl_nums.specs.Integer.{truth}
-use Rattle.zpl_tree.specs.Syntax.{Expr, Number, Truth, Coord, Named, Shifted, Around, Remap, Call, Paren, Neg, Not, Abs, Pair, Reduce, Scan, Flood}
+use Rattle.zpl_meaning.specs.of_zpl_nums.Integer.{truth}
+use Rattle.zpl_meaning.specs.of_zpl_tree.Syntax.{Expr, Number, Truth, Coord, Named, Shifted, Around, Remap, Call, Paren, Neg, Not, Abs, Pair, Reduce, Scan, Flood}
 use Rattle.zpl_meaning.specs.Store.{Thing, Scalar, ArrayAt, Fixed, thing_of}
-use Rattle.node_form.specs.Expression.{Expression, Constant, Variable, Operation, Negation, Denial, Absolute}
+use Rattle.text_sharing.specs.of_node_form.Expression.{Expression, Constant, Variable, Operation, Negation, Denial, Absolute}
 use Rattle.zpl_lowering.specs.Where.{Numbers, Where}
 
 -- one that has no number, as none of an accepted program, counts as 0

@@ -6,28 +6,28 @@ use Rattle.std.specs.Prelude.{find, filter_map}
 use Rattle.std.specs.List.{list_all, cons_option}
 use Rattle.std.specs.Str.{bytes_eq}
 use Rattle.std.proofs.Math.Path.{fun_ext}
-use Rattle.zpl_nums.specs.declared.operators.Op.{Op}
-use Rattle.zpl_tree.specs.Syntax.{Name, Expr, Number, Truth, Coord, Named, Shifted, Around, Remap}
-use Rattle.zpl_tree.specs.Syntax.{Call, Paren, Neg, Not, Abs, Pair, Reduce, Scan, Flood, Exprs}
-use Rattle.zpl_tree.specs.Syntax.{Prefix, Program, Stmt, Prefixed, Stmts, NoStmt, ThenStmt, Form}
-use Rattle.zpl_tree.specs.Syntax.{Assign, Invoke, Block, If, While, Repeat, For, Border, Write}
-use Rattle.zpl_tree.specs.Syntax.{Return, Arm, Tested, Arms, NoArm, ThenArm, Otherwise, NoElse, Else}
-use Rattle.zpl_tree.specs.Syntax.{Base, Decl, Config, Constant, Regions, Directions, Vars, Defined}
-use Rattle.zpl_names.specs.Scope.{Entry, kind_of, is_procedure}
-use Rattle.zpl_names.specs.Shapes.{unknown_shapes}
-use Rattle.zpl_names.specs.Declared.{Routine, routine_of, routines_behind, routines_of}
-use Rattle.zpl_names.specs.Declared.{routine_named, entry_of, with_decl, with_procedure, scope_of}
-use Rattle.zpl_names.specs.Sites.{Reach, in_body, under_prefixes, inside, Limit, Test as TestRole}
-use Rattle.zpl_names.specs.Sites.{Site, AtWhole, AtExpr, AtCall, AtNamed, AtDir, AtRegion}
-use Rattle.zpl_names.specs.Sites.{AtMask, AtStmt, AtBase, AtPosts, AtProcedure, whole_sites}
-use Rattle.zpl_names.specs.Sites.{prefixes_sites, step_sites, test_rank, arms_rank, stmt_sites}
-use Rattle.zpl_names.specs.Sites.{stmts_sites, form_sites, arms_sites, arm_sites, otherwise_sites}
-use Rattle.zpl_names.specs.Sites.{body_sites, outermost_sites, routine_sites, each_sites, decl_sites}
-use Rattle.zpl_names.specs.Sites.{head_sites, text_sites, CallSite, call_of}
-use Rattle.zpl_names.specs.Faults.{at_if}
-use Rattle.zpl_names.specs.Reached.{longest_chain}
-use Rattle.zpl_names.specs.Expansion.{is_shallow}
-use Rattle.zpl_names.specs.Accepted.{HasNoFault}
+use Rattle.zpl_binding.specs.of_zpl_nums.declared.operators.Op.{Op}
+use Rattle.zpl_binding.specs.of_zpl_tree.Syntax.{Name, Expr, Number, Truth, Coord, Named, Shifted, Around, Remap}
+use Rattle.zpl_binding.specs.of_zpl_tree.Syntax.{Call, Paren, Neg, Not, Abs, Pair, Reduce, Scan, Flood, Exprs}
+use Rattle.zpl_binding.specs.of_zpl_tree.Syntax.{Prefix, Program, Stmt, Prefixed, Stmts, NoStmt, ThenStmt, Form}
+use Rattle.zpl_binding.specs.of_zpl_tree.Syntax.{Assign, Invoke, Block, If, While, Repeat, For, Border, Write}
+use Rattle.zpl_binding.specs.of_zpl_tree.Syntax.{Return, Arm, Tested, Arms, NoArm, ThenArm, Otherwise, NoElse, Else}
+use Rattle.zpl_binding.specs.of_zpl_tree.Syntax.{Base, Decl, Config, Constant, Regions, Directions, Vars, Defined}
+use Rattle.zpl_binding.specs.of_zpl_names.Scope.{Entry, kind_of, is_procedure}
+use Rattle.zpl_binding.specs.of_zpl_names.Shapes.{unknown_shapes}
+use Rattle.zpl_binding.specs.of_zpl_names.Declared.{Routine, routine_of, routines_behind, routines_of}
+use Rattle.zpl_binding.specs.of_zpl_names.Declared.{routine_named, entry_of, with_decl, with_procedure, scope_of}
+use Rattle.zpl_binding.specs.of_zpl_names.Sites.{Reach, in_body, under_prefixes, inside, Limit, Test as TestRole}
+use Rattle.zpl_binding.specs.of_zpl_names.Sites.{Site, AtWhole, AtExpr, AtCall, AtNamed, AtDir, AtRegion}
+use Rattle.zpl_binding.specs.of_zpl_names.Sites.{AtMask, AtStmt, AtBase, AtPosts, AtProcedure, whole_sites}
+use Rattle.zpl_binding.specs.of_zpl_names.Sites.{prefixes_sites, step_sites, test_rank, arms_rank, stmt_sites}
+use Rattle.zpl_binding.specs.of_zpl_names.Sites.{stmts_sites, form_sites, arms_sites, arm_sites, otherwise_sites}
+use Rattle.zpl_binding.specs.of_zpl_names.Sites.{body_sites, outermost_sites, routine_sites, each_sites, decl_sites}
+use Rattle.zpl_binding.specs.of_zpl_names.Sites.{head_sites, text_sites, CallSite, call_of}
+use Rattle.zpl_binding.specs.of_zpl_names.Faults.{at_if}
+use Rattle.zpl_binding.specs.of_zpl_names.Reached.{longest_chain}
+use Rattle.zpl_binding.specs.of_zpl_names.Expansion.{is_shallow}
+use Rattle.zpl_binding.specs.of_zpl_names.Accepted.{HasNoFault}
 use Rattle.zpl_binding.specs.Settings.{Setting}
 use Rattle.zpl_binding.specs.Declarations.{known_of}
 use Rattle.zpl_binding.specs.Storages.{borders_of}

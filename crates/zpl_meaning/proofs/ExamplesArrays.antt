@@ -2,17 +2,17 @@
 use Rattle.std.proofs.Common.{◌≡◌, ℕ, true, false, List, [], ◌∷◌, Some, None, pos, codes, refl}
 use Rattle.std.specs.Fmt.{digits}
 use Rattle.std.specs.Int.{int_wrap}
-use Rattle.zpl_nums.specs.declared.operators.Op.TheVariants as op
-use Rattle.zpl_nums.specs.declared.ends.Border.TheVariants as border
-use Rattle.zpl_nums.specs.declared.ends.End.TheVariants.{Done, Trap}
-use Rattle.zpl_nums.specs.declared.ends.TrapKind.TheVariants.{DivideByZero, OutsideStorage, RegionMismatch}
-use Rattle.zpl_tree.specs.Syntax.{Name, Number, Coord, Named, Shifted, Neg, Pair, NoExpr}
-use Rattle.zpl_tree.specs.Syntax.{ThenExpr, NamedDir, Vector, NamedRegion, Ditto, Rexpr, Dims, NoBracket}
-use Rattle.zpl_tree.specs.Syntax.{Bracketed, NoPost, ThenPost, Blank, One, Span, NoDim, ThenDim}
-use Rattle.zpl_tree.specs.Syntax.{Str, Value, Prefixed, NoStmt, ThenStmt, Assign, Invoke, Block}
-use Rattle.zpl_tree.specs.Syntax.{Border, Write, Integer, Boolean, Regions, Directions, Vars, Defined}
-use Rattle.zpl_tree.specs.Syntax.{Program}
-use Rattle.zpl_names.specs.Reached.{longest_chain}
+use Rattle.zpl_binding.specs.of_zpl_nums.declared.operators.Op.TheVariants as op
+use Rattle.zpl_binding.specs.of_zpl_nums.declared.ends.Border.TheVariants as border
+use Rattle.zpl_binding.specs.of_zpl_nums.declared.ends.End.TheVariants.{Done, Trap}
+use Rattle.zpl_binding.specs.of_zpl_nums.declared.ends.TrapKind.TheVariants.{DivideByZero, OutsideStorage, RegionMismatch}
+use Rattle.zpl_binding.specs.of_zpl_tree.Syntax.{Name, Number, Coord, Named, Shifted, Neg, Pair, NoExpr}
+use Rattle.zpl_binding.specs.of_zpl_tree.Syntax.{ThenExpr, NamedDir, Vector, NamedRegion, Ditto, Rexpr, Dims, NoBracket}
+use Rattle.zpl_binding.specs.of_zpl_tree.Syntax.{Bracketed, NoPost, ThenPost, Blank, One, Span, NoDim, ThenDim}
+use Rattle.zpl_binding.specs.of_zpl_tree.Syntax.{Str, Value, Prefixed, NoStmt, ThenStmt, Assign, Invoke, Block}
+use Rattle.zpl_binding.specs.of_zpl_tree.Syntax.{Border, Write, Integer, Boolean, Regions, Directions, Vars, Defined}
+use Rattle.zpl_binding.specs.of_zpl_tree.Syntax.{Program}
+use Rattle.zpl_binding.specs.of_zpl_names.Reached.{longest_chain}
 use Rattle.zpl_meaning.specs.Program.{mean_of}
 
 abbrev name : List ℕ → ℕ → Name

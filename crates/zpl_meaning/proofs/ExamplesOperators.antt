@@ -2,17 +2,17 @@
 use Rattle.std.proofs.Common.{◌≡◌, ℕ, true, false, List, [], ◌∷◌, Some, None, pos, codes, refl}
 use Rattle.std.specs.Fmt.{digits}
 use Rattle.std.specs.Int.{int_wrap}
-use Rattle.zpl_nums.specs.declared.operators.Op.TheVariants as op
-use Rattle.zpl_nums.specs.declared.folds.Fold.TheVariants as fold
-use Rattle.zpl_nums.specs.declared.ends.End.TheVariants.{Done, Trap}
-use Rattle.zpl_nums.specs.declared.ends.TrapKind.TheVariants.{DivideByZero, OutsideStorage, RegionMismatch}
-use Rattle.zpl_tree.specs.Syntax.{Name, Number, Coord, Named, Around, Remap, Paren, Neg}
-use Rattle.zpl_tree.specs.Syntax.{Pair, Reduce, Scan, Flood, NoExpr, ThenExpr, NamedDir, Vector}
-use Rattle.zpl_tree.specs.Syntax.{NamedRegion, Rexpr, Dims, NoBracket, Bracketed, NoPost, ThenPost, Blank}
-use Rattle.zpl_tree.specs.Syntax.{Star, One, Span, NoDim, ThenDim, Value, Prefixed, NoStmt}
-use Rattle.zpl_tree.specs.Syntax.{ThenStmt, Assign, Block, For, Write, Integer, Boolean, Config}
-use Rattle.zpl_tree.specs.Syntax.{Regions, Directions, Vars, Defined, Program}
-use Rattle.zpl_names.specs.Reached.{longest_chain}
+use Rattle.zpl_binding.specs.of_zpl_nums.declared.operators.Op.TheVariants as op
+use Rattle.zpl_binding.specs.of_zpl_nums.declared.folds.Fold.TheVariants as fold
+use Rattle.zpl_binding.specs.of_zpl_nums.declared.ends.End.TheVariants.{Done, Trap}
+use Rattle.zpl_binding.specs.of_zpl_nums.declared.ends.TrapKind.TheVariants.{DivideByZero, OutsideStorage, RegionMismatch}
+use Rattle.zpl_binding.specs.of_zpl_tree.Syntax.{Name, Number, Coord, Named, Around, Remap, Paren, Neg}
+use Rattle.zpl_binding.specs.of_zpl_tree.Syntax.{Pair, Reduce, Scan, Flood, NoExpr, ThenExpr, NamedDir, Vector}
+use Rattle.zpl_binding.specs.of_zpl_tree.Syntax.{NamedRegion, Rexpr, Dims, NoBracket, Bracketed, NoPost, ThenPost, Blank}
+use Rattle.zpl_binding.specs.of_zpl_tree.Syntax.{Star, One, Span, NoDim, ThenDim, Value, Prefixed, NoStmt}
+use Rattle.zpl_binding.specs.of_zpl_tree.Syntax.{ThenStmt, Assign, Block, For, Write, Integer, Boolean, Config}
+use Rattle.zpl_binding.specs.of_zpl_tree.Syntax.{Regions, Directions, Vars, Defined, Program}
+use Rattle.zpl_binding.specs.of_zpl_names.Reached.{longest_chain}
 use Rattle.zpl_meaning.specs.Program.{mean_of}
 
 abbrev name : List ℕ → ℕ → Name

@@ -2,18 +2,18 @@
 use Rattle.std.proofs.Common.{◌≡◌, ℕ, true, false, List, [], ◌∷◌, Some, None, pos, codes, refl}
 use Rattle.std.specs.Fmt.{digits}
 use Rattle.std.specs.Int.{int_wrap}
-use Rattle.zpl_nums.specs.declared.operators.Op.TheVariants as op
-use Rattle.zpl_nums.specs.declared.folds.Fold.TheVariants as fold
-use Rattle.zpl_nums.specs.declared.ends.End.TheVariants.{Done, Trap}
-use Rattle.zpl_nums.specs.declared.ends.TrapKind.TheVariants.{DivideByZero, OutsideStorage, RegionMismatch}
-use Rattle.zpl_tree.specs.Syntax.{Name, Number, Coord, Named, Shifted, Paren, Neg, Pair}
-use Rattle.zpl_tree.specs.Syntax.{Reduce, Scan, Flood, NoExpr, ThenExpr, NamedDir, Vector, NamedRegion}
-use Rattle.zpl_tree.specs.Syntax.{Rexpr, Dims, NoBracket, Bracketed, NoPost, ThenPost, One, Span}
-use Rattle.zpl_tree.specs.Syntax.{NoDim, ThenDim, Str, Value, Prefixed, NoStmt, ThenStmt, Assign}
-use Rattle.zpl_tree.specs.Syntax.{Invoke, Block, If, While, For, Write, Tested, NoArm}
-use Rattle.zpl_tree.specs.Syntax.{ThenArm, Else, Integer, Boolean, Regions, Directions, Vars, Defined}
-use Rattle.zpl_tree.specs.Syntax.{Program}
-use Rattle.zpl_names.specs.Reached.{longest_chain}
+use Rattle.zpl_binding.specs.of_zpl_nums.declared.operators.Op.TheVariants as op
+use Rattle.zpl_binding.specs.of_zpl_nums.declared.folds.Fold.TheVariants as fold
+use Rattle.zpl_binding.specs.of_zpl_nums.declared.ends.End.TheVariants.{Done, Trap}
+use Rattle.zpl_binding.specs.of_zpl_nums.declared.ends.TrapKind.TheVariants.{DivideByZero, OutsideStorage, RegionMismatch}
+use Rattle.zpl_binding.specs.of_zpl_tree.Syntax.{Name, Number, Coord, Named, Shifted, Paren, Neg, Pair}
+use Rattle.zpl_binding.specs.of_zpl_tree.Syntax.{Reduce, Scan, Flood, NoExpr, ThenExpr, NamedDir, Vector, NamedRegion}
+use Rattle.zpl_binding.specs.of_zpl_tree.Syntax.{Rexpr, Dims, NoBracket, Bracketed, NoPost, ThenPost, One, Span}
+use Rattle.zpl_binding.specs.of_zpl_tree.Syntax.{NoDim, ThenDim, Str, Value, Prefixed, NoStmt, ThenStmt, Assign}
+use Rattle.zpl_binding.specs.of_zpl_tree.Syntax.{Invoke, Block, If, While, For, Write, Tested, NoArm}
+use Rattle.zpl_binding.specs.of_zpl_tree.Syntax.{ThenArm, Else, Integer, Boolean, Regions, Directions, Vars, Defined}
+use Rattle.zpl_binding.specs.of_zpl_tree.Syntax.{Program}
+use Rattle.zpl_binding.specs.of_zpl_names.Reached.{longest_chain}
 use Rattle.zpl_meaning.specs.Program.{mean_of}
 
 abbrev name : List ℕ → ℕ → Name

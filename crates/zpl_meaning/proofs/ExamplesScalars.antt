@@ -2,17 +2,17 @@
 use Rattle.std.proofs.Common.{◌≡◌, ℕ, true, false, List, [], ◌∷◌, Some, None, pos, codes, refl}
 use Rattle.std.specs.Fmt.{digits}
 use Rattle.std.specs.Int.{int_wrap}
-use Rattle.zpl_nums.specs.declared.operators.Op.TheVariants as op
-use Rattle.zpl_nums.specs.declared.folds.Fold.TheVariants as fold
-use Rattle.zpl_nums.specs.declared.ends.End.TheVariants.{Done, Trap, More}
-use Rattle.zpl_nums.specs.declared.ends.TrapKind.TheVariants.{DivideByZero, RegionLimit}
-use Rattle.zpl_tree.specs.Syntax.{Name, Number, Named, Call, Paren, Neg, Pair, Reduce}
-use Rattle.zpl_tree.specs.Syntax.{NoExpr, ThenExpr, Dims, NoBracket, Bracketed, Span, NoDim, ThenDim}
-use Rattle.zpl_tree.specs.Syntax.{Str, Value, Prefixed, NoStmt, ThenStmt, Assign, Invoke, Block}
-use Rattle.zpl_tree.specs.Syntax.{If, While, Repeat, For, Write, Return, Tested, NoArm}
-use Rattle.zpl_tree.specs.Syntax.{ThenArm, NoElse, Integer, Boolean, Config, Constant, Vars, Defined}
-use Rattle.zpl_tree.specs.Syntax.{Program}
-use Rattle.zpl_names.specs.Reached.{longest_chain}
+use Rattle.zpl_binding.specs.of_zpl_nums.declared.operators.Op.TheVariants as op
+use Rattle.zpl_binding.specs.of_zpl_nums.declared.folds.Fold.TheVariants as fold
+use Rattle.zpl_binding.specs.of_zpl_nums.declared.ends.End.TheVariants.{Done, Trap, More}
+use Rattle.zpl_binding.specs.of_zpl_nums.declared.ends.TrapKind.TheVariants.{DivideByZero, RegionLimit}
+use Rattle.zpl_binding.specs.of_zpl_tree.Syntax.{Name, Number, Named, Call, Paren, Neg, Pair, Reduce}
+use Rattle.zpl_binding.specs.of_zpl_tree.Syntax.{NoExpr, ThenExpr, Dims, NoBracket, Bracketed, Span, NoDim, ThenDim}
+use Rattle.zpl_binding.specs.of_zpl_tree.Syntax.{Str, Value, Prefixed, NoStmt, ThenStmt, Assign, Invoke, Block}
+use Rattle.zpl_binding.specs.of_zpl_tree.Syntax.{If, While, Repeat, For, Write, Return, Tested, NoArm}
+use Rattle.zpl_binding.specs.of_zpl_tree.Syntax.{ThenArm, NoElse, Integer, Boolean, Config, Constant, Vars, Defined}
+use Rattle.zpl_binding.specs.of_zpl_tree.Syntax.{Program}
+use Rattle.zpl_binding.specs.of_zpl_names.Reached.{longest_chain}
 use Rattle.zpl_meaning.specs.Program.{mean_of, steps_of}
 
 abbrev name : List ℕ → ℕ → Name

@@ -2,17 +2,17 @@
 use Rattle.std.proofs.Common.{◌≡◌, ℕ, true, false, List, [], ◌∷◌, Some, None, pos, codes, refl}
 use Rattle.std.specs.Fmt.{digits}
 use Rattle.std.specs.Int.{int_wrap}
-use Rattle.zpl_nums.specs.declared.operators.Op.TheVariants as op
-use Rattle.zpl_nums.specs.declared.folds.Fold.TheVariants as fold
-use Rattle.zpl_nums.specs.declared.ends.End.TheVariants.{Done, Trap, More}
-use Rattle.zpl_nums.specs.declared.ends.TrapKind.TheVariants.{DivideByZero}
-use Rattle.zpl_tree.specs.Syntax.{Name, Number, Truth, Coord, Named, Shifted, Paren, Neg}
-use Rattle.zpl_tree.specs.Syntax.{Pair, Reduce, NoExpr, ThenExpr, NamedDir, NamedRegion, Rexpr, Dims}
-use Rattle.zpl_tree.specs.Syntax.{NoBracket, Bracketed, NoPost, Span, NoDim, ThenDim, Str, Value}
-use Rattle.zpl_tree.specs.Syntax.{Prefixed, NoStmt, ThenStmt, Assign, Block, If, While, Repeat}
-use Rattle.zpl_tree.specs.Syntax.{Write, Tested, NoArm, ThenArm, NoElse, Else, Integer, Boolean}
-use Rattle.zpl_tree.specs.Syntax.{Config, Regions, Directions, Vars, Defined, Program}
-use Rattle.zpl_names.specs.Reached.{longest_chain}
+use Rattle.zpl_binding.specs.of_zpl_nums.declared.operators.Op.TheVariants as op
+use Rattle.zpl_binding.specs.of_zpl_nums.declared.folds.Fold.TheVariants as fold
+use Rattle.zpl_binding.specs.of_zpl_nums.declared.ends.End.TheVariants.{Done, Trap, More}
+use Rattle.zpl_binding.specs.of_zpl_nums.declared.ends.TrapKind.TheVariants.{DivideByZero}
+use Rattle.zpl_binding.specs.of_zpl_tree.Syntax.{Name, Number, Truth, Coord, Named, Shifted, Paren, Neg}
+use Rattle.zpl_binding.specs.of_zpl_tree.Syntax.{Pair, Reduce, NoExpr, ThenExpr, NamedDir, NamedRegion, Rexpr, Dims}
+use Rattle.zpl_binding.specs.of_zpl_tree.Syntax.{NoBracket, Bracketed, NoPost, Span, NoDim, ThenDim, Str, Value}
+use Rattle.zpl_binding.specs.of_zpl_tree.Syntax.{Prefixed, NoStmt, ThenStmt, Assign, Block, If, While, Repeat}
+use Rattle.zpl_binding.specs.of_zpl_tree.Syntax.{Write, Tested, NoArm, ThenArm, NoElse, Else, Integer, Boolean}
+use Rattle.zpl_binding.specs.of_zpl_tree.Syntax.{Config, Regions, Directions, Vars, Defined, Program}
+use Rattle.zpl_binding.specs.of_zpl_names.Reached.{longest_chain}
 use Rattle.zpl_meaning.specs.Program.{mean_of, steps_of}
 
 abbrev name : List ℕ → ℕ → Name

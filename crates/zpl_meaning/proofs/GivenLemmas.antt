@@ -3,10 +3,10 @@ use Rattle.std.proofs.Common.{◌≡◌, ℕ, ℤ, Bool, true, false, cond, List
 use Rattle.std.proofs.Common.{Some, Contains, refl, subst, inl, inr}
 use Rattle.std.specs.List.{AllByRecursion, find}
 use Rattle.std.specs.Str.{bytes_eq}
-use Rattle.zpl_region.specs.declared.regions.Region.{Region}
-use Rattle.zpl_region.specs.Hull.{hull}
-use Rattle.zpl_tree.specs.Syntax.{Exprs, Program}
-use Rattle.zpl_names.proofs.ListLemmas.{Among, among_from_Contains}
+use Rattle.zpl_binding.specs.of_zpl_region.declared.regions.Region.{Region}
+use Rattle.zpl_binding.specs.of_zpl_region.Hull.{hull}
+use Rattle.zpl_binding.specs.of_zpl_tree.Syntax.{Exprs, Program}
+use Rattle.zpl_binding.proofs.of_zpl_names.ListLemmas.{Among, among_from_Contains}
 use Rattle.zpl_binding.specs.Outcome.{Outcome, Gives, Fails, and_then, outcome_map, Computed}
 use Rattle.zpl_binding.specs.Outcome.{outcome_or, outcome_of}
 use Rattle.zpl_binding.specs.Settings.{Setting}

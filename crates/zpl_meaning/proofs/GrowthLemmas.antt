@@ -4,19 +4,19 @@ use Rattle.std.proofs.Common.{List, [], ◌∷◌, ◌++◌, Option, Some, None,
 use Rattle.std.proofs.Common.{subst, inl, inr, arith, append_assoc}
 use Rattle.std.proofs.lemmas.List.{append-nil}
 use Rattle.zpl_lists.specs.Front.{IsFrontOf}
-use Rattle.zpl_nums.specs.declared.ends.End.{End}
-use Rattle.zpl_nums.specs.declared.ends.End.TheVariants.{Done, Trap, More}
-use Rattle.zpl_nums.specs.Integer.{is_true}
-use Rattle.zpl_nums.specs.declared.operators.Op.{Op}
-use Rattle.zpl_tree.specs.Syntax.{Name, Expr, Number, Truth, Coord, Named, Shifted, Around, Remap}
-use Rattle.zpl_tree.specs.Syntax.{Call, Paren, Neg, Not, Abs, Pair, Reduce, Scan, Flood, Exprs}
-use Rattle.zpl_tree.specs.Syntax.{Prefix, Program, Stmt, Prefixed, Stmts, NoStmt, ThenStmt, Form}
-use Rattle.zpl_tree.specs.Syntax.{Assign, Invoke, Block, If, While, Repeat, For, Border, Write}
-use Rattle.zpl_tree.specs.Syntax.{Return, Arm, Tested, Arms, NoArm, ThenArm, Otherwise, NoElse, Else}
-use Rattle.zpl_names.specs.Kinds.{Rank}
-use Rattle.zpl_names.specs.Sites.{tests_rank}
-use Rattle.zpl_names.specs.Declared.{Routine, routine_named}
-use Rattle.zpl_names.specs.Reached.{longest_chain}
+use Rattle.zpl_binding.specs.of_zpl_nums.declared.ends.End.{End}
+use Rattle.zpl_binding.specs.of_zpl_nums.declared.ends.End.TheVariants.{Done, Trap, More}
+use Rattle.zpl_binding.specs.of_zpl_nums.Integer.{is_true}
+use Rattle.zpl_binding.specs.of_zpl_nums.declared.operators.Op.{Op}
+use Rattle.zpl_binding.specs.of_zpl_tree.Syntax.{Name, Expr, Number, Truth, Coord, Named, Shifted, Around, Remap}
+use Rattle.zpl_binding.specs.of_zpl_tree.Syntax.{Call, Paren, Neg, Not, Abs, Pair, Reduce, Scan, Flood, Exprs}
+use Rattle.zpl_binding.specs.of_zpl_tree.Syntax.{Prefix, Program, Stmt, Prefixed, Stmts, NoStmt, ThenStmt, Form}
+use Rattle.zpl_binding.specs.of_zpl_tree.Syntax.{Assign, Invoke, Block, If, While, Repeat, For, Border, Write}
+use Rattle.zpl_binding.specs.of_zpl_tree.Syntax.{Return, Arm, Tested, Arms, NoArm, ThenArm, Otherwise, NoElse, Else}
+use Rattle.zpl_binding.specs.of_zpl_names.Kinds.{Rank}
+use Rattle.zpl_binding.specs.of_zpl_names.Sites.{tests_rank}
+use Rattle.zpl_binding.specs.of_zpl_names.Declared.{Routine, routine_named}
+use Rattle.zpl_binding.specs.of_zpl_names.Reached.{longest_chain}
 use Rattle.zpl_binding.specs.Settings.{Setting}
 use Rattle.zpl_binding.specs.Declarations.{known_of}
 use Rattle.zpl_binding.specs.Regions.{Known}
@@ -31,7 +31,7 @@ use Rattle.zpl_meaning.specs.Outcome.{then_do, with_value, choose, Test, tested,
 use Rattle.zpl_meaning.specs.Outcome.{repeat_turns, Count, is_past, next_value, for_turns}
 use Rattle.zpl_meaning.specs.Points.{Point, point_test, point_stmt, point_stmts, point_form}
 use Rattle.zpl_meaning.specs.Points.{point_arms, point_arm, point_otherwise, worse, worst}
-use Rattle.zpl_names.specs.Counts.{form_nodes}
+use Rattle.zpl_binding.specs.of_zpl_names.Counts.{form_nodes}
 use Rattle.zpl_meaning.specs.Points.{joined, kept_tuples, run_at, runs_of, all_runs, at_tuple}
 use Rattle.zpl_meaning.specs.Points.{parts_in, shattered_at, shattered}
 use Rattle.zpl_meaning.specs.Variables.{Frame, with_new_scalar}

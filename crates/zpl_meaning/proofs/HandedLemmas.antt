@@ -1,8 +1,8 @@
 -- A call has as many values as expressions for them, and hands on what comes from them.
 use Rattle.std.proofs.Common.{◌≡◌, ℕ, suc, Bool, true, false, ◌&&◌, ℤ, List, [], ◌∷◌, length}
 use Rattle.std.proofs.Common.{refl, subst, arith}
-use Rattle.zpl_nums.specs.declared.ends.TrapKind.{TrapKind}
-use Rattle.zpl_tree.specs.Syntax.{Name, Exprs}
+use Rattle.zpl_binding.specs.of_zpl_nums.declared.ends.TrapKind.{TrapKind}
+use Rattle.zpl_binding.specs.of_zpl_tree.Syntax.{Name, Exprs}
 use Rattle.zpl_meaning.specs.Computed.{Computed, Gives, Traps, computed_then, both_then, provided}
 use Rattle.zpl_meaning.specs.Store.{Store}
 use Rattle.zpl_meaning.specs.Context.{Place}

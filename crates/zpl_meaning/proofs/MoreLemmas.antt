@@ -5,21 +5,21 @@ use Rattle.std.proofs.Common.{◌<◌, ◌⊎◌, inl, inr, arith}
 use Rattle.std.specs.Prelude.{◌↔◌, find, All, slice_index_or}
 use Rattle.std.specs.Str.{bytes_eq}
 use Rattle.std.proofs.lemmas.List.Elements.{All-head, All-tail}
-use Rattle.zpl_nums.specs.Integer.{is_true}
-use Rattle.zpl_nums.specs.declared.operators.Op.{Op}
-use Rattle.zpl_nums.specs.declared.ends.End.{End}
-use Rattle.zpl_nums.specs.declared.ends.End.TheVariants.{Done, Trap, More}
-use Rattle.zpl_nums.specs.declared.ends.Border.{Border as BorderKind}
-use Rattle.zpl_tree.specs.Syntax.{Name, Expr, Call, Prefix, Program, Stmt, Prefixed, Stmts, NoStmt}
-use Rattle.zpl_tree.specs.Syntax.{ThenStmt, Form, Assign, Invoke, Block, If, While, Repeat, For}
-use Rattle.zpl_tree.specs.Syntax.{Border, Write, Return, Arm, Tested, Arms, NoArm, ThenArm}
-use Rattle.zpl_tree.specs.Syntax.{Otherwise, NoElse, Else}
-use Rattle.zpl_tree.specs.Syntax.{Number, Truth, Coord, Named, Shifted, Around, Remap, Paren, Neg}
-use Rattle.zpl_tree.specs.Syntax.{Not, Abs, Pair, Reduce, Scan, Flood}
-use Rattle.zpl_names.specs.Kinds.{Rank}
-use Rattle.zpl_names.specs.Sites.{Role, Assigned, tests_rank}
-use Rattle.zpl_names.specs.Declared.{Routine, routines_of, routine_named}
-use Rattle.zpl_names.specs.Reached.{longest_chain}
+use Rattle.zpl_binding.specs.of_zpl_nums.Integer.{is_true}
+use Rattle.zpl_binding.specs.of_zpl_nums.declared.operators.Op.{Op}
+use Rattle.zpl_binding.specs.of_zpl_nums.declared.ends.End.{End}
+use Rattle.zpl_binding.specs.of_zpl_nums.declared.ends.End.TheVariants.{Done, Trap, More}
+use Rattle.zpl_binding.specs.of_zpl_nums.declared.ends.Border.{Border as BorderKind}
+use Rattle.zpl_binding.specs.of_zpl_tree.Syntax.{Name, Expr, Call, Prefix, Program, Stmt, Prefixed, Stmts, NoStmt}
+use Rattle.zpl_binding.specs.of_zpl_tree.Syntax.{ThenStmt, Form, Assign, Invoke, Block, If, While, Repeat, For}
+use Rattle.zpl_binding.specs.of_zpl_tree.Syntax.{Border, Write, Return, Arm, Tested, Arms, NoArm, ThenArm}
+use Rattle.zpl_binding.specs.of_zpl_tree.Syntax.{Otherwise, NoElse, Else}
+use Rattle.zpl_binding.specs.of_zpl_tree.Syntax.{Number, Truth, Coord, Named, Shifted, Around, Remap, Paren, Neg}
+use Rattle.zpl_binding.specs.of_zpl_tree.Syntax.{Not, Abs, Pair, Reduce, Scan, Flood}
+use Rattle.zpl_binding.specs.of_zpl_names.Kinds.{Rank}
+use Rattle.zpl_binding.specs.of_zpl_names.Sites.{Role, Assigned, tests_rank}
+use Rattle.zpl_binding.specs.of_zpl_names.Declared.{Routine, routines_of, routine_named}
+use Rattle.zpl_binding.specs.of_zpl_names.Reached.{longest_chain}
 use Rattle.zpl_binding.specs.Settings.{Setting}
 use Rattle.zpl_binding.specs.Declarations.{known_of}
 use Rattle.zpl_binding.specs.Storages.{borders_of}

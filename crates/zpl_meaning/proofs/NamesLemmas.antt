@@ -5,26 +5,26 @@ use Rattle.std.proofs.Common.{subst, true≢false, append_assoc, append-nil, inl
 use Rattle.std.specs.List.{AllByRecursion, find, flat_map}
 use Rattle.std.specs.Option.{option_or}
 use Rattle.std.specs.Str.{bytes_eq}
-use Rattle.zpl_tree.specs.Syntax.{Name, Expr, Exprs, NoExpr, ThenExpr, NamedRegion, Ditto, Inner}
-use Rattle.zpl_tree.specs.Syntax.{Rexpr, Dims, Bracket, NoBracket, Bracketed, DimTexts, NoDim}
-use Rattle.zpl_tree.specs.Syntax.{ThenDim, Base, Integer, Define, RegionDef, DirDef, VarDef, Param}
-use Rattle.zpl_tree.specs.Syntax.{Decl, Config, Constant, Regions, Directions, Vars, Defined}
-use Rattle.zpl_tree.specs.Syntax as plain
-use Rattle.zpl_tree.specs.Grammar.{HasDims, IsInner, IsBracket, IsRegion, IsVar, IsParam, IsDecl}
-use Rattle.zpl_tree.specs.Grammar.{IsProcedure}
-use Rattle.zpl_names.specs.Kinds as kind
-use Rattle.zpl_names.specs.Kinds.{Shape, Rank, Kind, Formal, ScalarFormal, ArrayFormal}
-use Rattle.zpl_names.specs.Scope.{Entry, Scope, kind_in, kind_of, in_reach}
-use Rattle.zpl_names.specs.Ranks.{IsRank, HasRank, IsKnownKind, inner_rank, is_index, region_shape}
-use Rattle.zpl_names.specs.Shapes.{Current, current_at, no_shapes, shape_of_current, dim_shape}
-use Rattle.zpl_names.specs.Shapes.{with_dim, dims_shape, inner_shape, declared_shape, variable_kind}
-use Rattle.zpl_names.specs.Declared.{entry_for, declaring, own_names, head_scope, own_entries}
-use Rattle.zpl_names.specs.Declared.{formal_of, formals_of}
-use Rattle.zpl_names.specs.Declared.{procedure_entry, with_define, with_region, with_direction}
-use Rattle.zpl_names.specs.Declared.{with_variables as with_global_variables, with_procedure}
-use Rattle.zpl_names.specs.Declared.{with_each, with_decl, Routine, routines_behind}
-use Rattle.zpl_names.specs.Expansion.{FormalName, formal_names}
-use Rattle.zpl_names.proofs.ListLemmas.{Among}
+use Rattle.zpl_binding.specs.of_zpl_tree.Syntax.{Name, Expr, Exprs, NoExpr, ThenExpr, NamedRegion, Ditto, Inner}
+use Rattle.zpl_binding.specs.of_zpl_tree.Syntax.{Rexpr, Dims, Bracket, NoBracket, Bracketed, DimTexts, NoDim}
+use Rattle.zpl_binding.specs.of_zpl_tree.Syntax.{ThenDim, Base, Integer, Define, RegionDef, DirDef, VarDef, Param}
+use Rattle.zpl_binding.specs.of_zpl_tree.Syntax.{Decl, Config, Constant, Regions, Directions, Vars, Defined}
+use Rattle.zpl_binding.specs.of_zpl_tree.Syntax as plain
+use Rattle.zpl_binding.specs.of_zpl_tree.Grammar.{HasDims, IsInner, IsBracket, IsRegion, IsVar, IsParam, IsDecl}
+use Rattle.zpl_binding.specs.of_zpl_tree.Grammar.{IsProcedure}
+use Rattle.zpl_binding.specs.of_zpl_names.Kinds as kind
+use Rattle.zpl_binding.specs.of_zpl_names.Kinds.{Shape, Rank, Kind, Formal, ScalarFormal, ArrayFormal}
+use Rattle.zpl_binding.specs.of_zpl_names.Scope.{Entry, Scope, kind_in, kind_of, in_reach}
+use Rattle.zpl_binding.specs.of_zpl_names.Ranks.{IsRank, HasRank, IsKnownKind, inner_rank, is_index, region_shape}
+use Rattle.zpl_binding.specs.of_zpl_names.Shapes.{Current, current_at, no_shapes, shape_of_current, dim_shape}
+use Rattle.zpl_binding.specs.of_zpl_names.Shapes.{with_dim, dims_shape, inner_shape, declared_shape, variable_kind}
+use Rattle.zpl_binding.specs.of_zpl_names.Declared.{entry_for, declaring, own_names, head_scope, own_entries}
+use Rattle.zpl_binding.specs.of_zpl_names.Declared.{formal_of, formals_of}
+use Rattle.zpl_binding.specs.of_zpl_names.Declared.{procedure_entry, with_define, with_region, with_direction}
+use Rattle.zpl_binding.specs.of_zpl_names.Declared.{with_variables as with_global_variables, with_procedure}
+use Rattle.zpl_binding.specs.of_zpl_names.Declared.{with_each, with_decl, Routine, routines_behind}
+use Rattle.zpl_binding.specs.of_zpl_names.Expansion.{FormalName, formal_names}
+use Rattle.zpl_binding.proofs.of_zpl_names.ListLemmas.{Among}
 use Rattle.zpl_binding.specs.Regions.{Known}
 use Rattle.zpl_binding.specs.Storages.{Border}
 use Rattle.zpl_meaning.specs.Store.{Thing, Fixed, Names}

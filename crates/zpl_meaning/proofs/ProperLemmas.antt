@@ -3,32 +3,32 @@ use Rattle.std.proofs.Common.{◌≡◌, ℕ, zero, suc, Bool, true, false, cond
 use Rattle.std.proofs.Common.{◌∷◌, length, Option, Some, None, option_map, IsSome, refl, sym, ap}
 use Rattle.std.proofs.Common.{◌∙◌, ◌⊎◌, inl, inr, nat_le}
 use Rattle.std.proofs.Common.{subst, arith, true≢false, eqb-true}
-use Rattle.zpl_region.specs.declared.regions.Region.{Region}
-use Rattle.zpl_tree.specs.Syntax.{Name, Expr, Number, Truth, Coord, Named, Shifted, Around, Remap}
-use Rattle.zpl_tree.specs.Syntax.{Call, Paren, Neg, Not, Abs, Pair, Reduce, Scan, Flood, Exprs}
-use Rattle.zpl_tree.specs.Syntax.{NoExpr, ThenExpr, Inner, Rexpr, Dims, NoBracket, Bracketed, Posts}
-use Rattle.zpl_tree.specs.Syntax.{NamedRegion, Ditto, Blank, Star, One, Span, DimTexts}
-use Rattle.zpl_tree.specs.Syntax.{NoDim, ThenDim, Base, Pre}
-use Rattle.zpl_tree.specs.Grammar.{IsExpr, AreExprs, IsInner, AreDims, HasDims, expr_level}
-use Rattle.zpl_tree.specs.Grammar.{unary_level, left_level, right_level}
-use Rattle.zpl_names.specs.Kinds as kind
-use Rattle.zpl_names.specs.Kinds.{Rank, Signature, Kind}
-use Rattle.zpl_names.specs.Scope.{Scope, kind_of, is_value, is_array, is_region}
-use Rattle.zpl_names.specs.Ranks.{IsRank, HasRanks, first_rank, both_ranks, known_rank, ranks_clash}
-use Rattle.zpl_names.specs.Ranks.{is_zero, is_above_zero, dims_count, at_most_three, value_rank}
-use Rattle.zpl_names.specs.Ranks.{array_rank, region_shape, inner_rank, is_index, own_rank, own_ranks}
-use Rattle.zpl_names.specs.Ranks.{is_open, placed_rank, rank_of, operand_rank}
-use Rattle.zpl_names.specs.Types.{has_parallel}
-use Rattle.zpl_names.specs.Declared.{IsProcedureOf, Routine, routine_named}
-use Rattle.zpl_names.specs.Shapes.{Current, Absent, Unknown, Over as Shaped, Shapes}
-use Rattle.zpl_names.specs.Shapes.{current_of, with_current, current_over, inner_shape}
-use Rattle.zpl_names.specs.Sites.{Reach, over_source, Bound, Site, AtWhole, AtExpr}
-use Rattle.zpl_names.specs.Sites.{expr_sites, exprs_sites, region_sites, dims_sites, dim_sites}
-use Rattle.zpl_names.specs.Sites.{index_sites, posts_sites, whole_sites}
-use Rattle.zpl_names.specs.Faults.{unless_taken, is_absent, lacks_region, index_clashes}
-use Rattle.zpl_names.specs.Faults.{blanks}
-use Rattle.zpl_names.specs.Accepted.{HasNoFault, HasNoFaultUnder, HasKnownRank}
-use Rattle.zpl_names.proofs.NameLemmas.{no_place, empty_parts}
+use Rattle.zpl_binding.specs.of_zpl_region.declared.regions.Region.{Region}
+use Rattle.zpl_binding.specs.of_zpl_tree.Syntax.{Name, Expr, Number, Truth, Coord, Named, Shifted, Around, Remap}
+use Rattle.zpl_binding.specs.of_zpl_tree.Syntax.{Call, Paren, Neg, Not, Abs, Pair, Reduce, Scan, Flood, Exprs}
+use Rattle.zpl_binding.specs.of_zpl_tree.Syntax.{NoExpr, ThenExpr, Inner, Rexpr, Dims, NoBracket, Bracketed, Posts}
+use Rattle.zpl_binding.specs.of_zpl_tree.Syntax.{NamedRegion, Ditto, Blank, Star, One, Span, DimTexts}
+use Rattle.zpl_binding.specs.of_zpl_tree.Syntax.{NoDim, ThenDim, Base, Pre}
+use Rattle.zpl_binding.specs.of_zpl_tree.Grammar.{IsExpr, AreExprs, IsInner, AreDims, HasDims, expr_level}
+use Rattle.zpl_binding.specs.of_zpl_tree.Grammar.{unary_level, left_level, right_level}
+use Rattle.zpl_binding.specs.of_zpl_names.Kinds as kind
+use Rattle.zpl_binding.specs.of_zpl_names.Kinds.{Rank, Signature, Kind}
+use Rattle.zpl_binding.specs.of_zpl_names.Scope.{Scope, kind_of, is_value, is_array, is_region}
+use Rattle.zpl_binding.specs.of_zpl_names.Ranks.{IsRank, HasRanks, first_rank, both_ranks, known_rank, ranks_clash}
+use Rattle.zpl_binding.specs.of_zpl_names.Ranks.{is_zero, is_above_zero, dims_count, at_most_three, value_rank}
+use Rattle.zpl_binding.specs.of_zpl_names.Ranks.{array_rank, region_shape, inner_rank, is_index, own_rank, own_ranks}
+use Rattle.zpl_binding.specs.of_zpl_names.Ranks.{is_open, placed_rank, rank_of, operand_rank}
+use Rattle.zpl_binding.specs.of_zpl_names.Types.{has_parallel}
+use Rattle.zpl_binding.specs.of_zpl_names.Declared.{IsProcedureOf, Routine, routine_named}
+use Rattle.zpl_binding.specs.of_zpl_names.Shapes.{Current, Absent, Unknown, Over as Shaped, Shapes}
+use Rattle.zpl_binding.specs.of_zpl_names.Shapes.{current_of, with_current, current_over, inner_shape}
+use Rattle.zpl_binding.specs.of_zpl_names.Sites.{Reach, over_source, Bound, Site, AtWhole, AtExpr}
+use Rattle.zpl_binding.specs.of_zpl_names.Sites.{expr_sites, exprs_sites, region_sites, dims_sites, dim_sites}
+use Rattle.zpl_binding.specs.of_zpl_names.Sites.{index_sites, posts_sites, whole_sites}
+use Rattle.zpl_binding.specs.of_zpl_names.Faults.{unless_taken, is_absent, lacks_region, index_clashes}
+use Rattle.zpl_binding.specs.of_zpl_names.Faults.{blanks}
+use Rattle.zpl_binding.specs.of_zpl_names.Accepted.{HasNoFault, HasNoFaultUnder, HasKnownRank}
+use Rattle.zpl_binding.proofs.of_zpl_names.NameLemmas.{no_place, empty_parts}
 use Rattle.zpl_meaning.specs.Store.{Thing, Scalar, ArrayAt, Fixed, thing_of}
 use Rattle.zpl_meaning.specs.Context.{Over, Currents, with_over, Place}
 use Rattle.zpl_meaning.specs.Regions.{under_source}

@@ -1,14 +1,14 @@
 -- Of numbers, scalars and operators, a statement's values are those that they have by themselves.
 use Rattle.std.proofs.Common.{◌≡◌, true, ◌&&◌, ℤ, List, [], ◌∷◌, Option, Some, None, refl, ap, ◌∙◌}
-use Rattle.zpl_nums.specs.declared.operators.Op.{Op}
-use Rattle.zpl_nums.specs.declared.operators.UnaryOp.{UnaryOp}
-use Rattle.zpl_nums.specs.declared.operators.UnaryOp.TheVariants as unary
-use Rattle.zpl_nums.specs.declared.ends.TrapKind.TheVariants.{OutsideStorage, RegionMismatch}
-use Rattle.zpl_nums.specs.Op.{applied}
-use Rattle.zpl_nums.specs.UnaryOp.{applied_unary}
-use Rattle.zpl_tree.specs.Syntax.{Expr, Number, Truth, Named, Paren, Neg, Not, Abs, Pair}
-use Rattle.zpl_names.specs.Kinds.{Rank}
-use Rattle.zpl_names.specs.Sites.{Role}
+use Rattle.zpl_binding.specs.of_zpl_nums.declared.operators.Op.{Op}
+use Rattle.zpl_binding.specs.of_zpl_nums.declared.operators.UnaryOp.{UnaryOp}
+use Rattle.zpl_binding.specs.of_zpl_nums.declared.operators.UnaryOp.TheVariants as unary
+use Rattle.zpl_binding.specs.of_zpl_nums.declared.ends.TrapKind.TheVariants.{OutsideStorage, RegionMismatch}
+use Rattle.zpl_binding.specs.of_zpl_nums.Op.{applied}
+use Rattle.zpl_binding.specs.of_zpl_nums.UnaryOp.{applied_unary}
+use Rattle.zpl_binding.specs.of_zpl_tree.Syntax.{Expr, Number, Truth, Named, Paren, Neg, Not, Abs, Pair}
+use Rattle.zpl_binding.specs.of_zpl_names.Kinds.{Rank}
+use Rattle.zpl_binding.specs.of_zpl_names.Sites.{Role}
 use Rattle.zpl_meaning.specs.Computed.{Computed, Gives, Traps, computed_then, both_then, provided}
 use Rattle.zpl_meaning.specs.Computed.{given}
 use Rattle.zpl_meaning.specs.Store.{Thing, Scalar, ArrayAt, Fixed, Environment, Store, thing_of}

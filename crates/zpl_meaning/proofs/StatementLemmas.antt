@@ -5,41 +5,41 @@ use Rattle.std.proofs.Common.{option_map, option_to_list, is_none, IsSome, refl,
 use Rattle.std.proofs.Common.{true≢false, eqb-true}
 use Rattle.std.specs.Prelude.{◌==◌}
 use Rattle.std.specs.List.{AllByRecursion, flat_map, list_any}
-use Rattle.zpl_nums.specs.declared.operators.Op.{Op}
-use Rattle.zpl_region.specs.declared.regions.Region.{Region}
-use Rattle.zpl_tree.specs.Syntax.{Name, Expr, Number, Truth, Coord, Named, Shifted, Around, Remap}
-use Rattle.zpl_tree.specs.Syntax.{Call, Paren, Neg, Not, Abs, Pair, Reduce, Scan, Flood, Exprs}
-use Rattle.zpl_tree.specs.Syntax.{NoExpr, ThenExpr, Inner, Rexpr, Dims, NoBracket}
-use Rattle.zpl_tree.specs.Syntax.{Bracketed, NoPost, ThenPost, Mask, Prefix, Item}
-use Rattle.zpl_tree.specs.Syntax.{Str, Value, Stmt, Prefixed, Stmts, NoStmt, ThenStmt, Form, Assign}
-use Rattle.zpl_tree.specs.Syntax.{Invoke, Block, If, While, Repeat, For, Border, Write, Return, Arm}
-use Rattle.zpl_tree.specs.Syntax.{Tested, Arms, NoArm, ThenArm, Otherwise, NoElse, Else, Base}
-use Rattle.zpl_tree.specs.Grammar.{IsExpr, AreExprs, IsPrefix, IsStep, IsItem}
-use Rattle.zpl_tree.specs.Grammar.{IsForm, AreArms, expr_level}
-use Rattle.zpl_names.specs.Kinds as kind
-use Rattle.zpl_names.specs.Kinds.{Shape, Rank, Formal, ScalarFormal, ArrayFormal, Signature}
-use Rattle.zpl_names.specs.Kinds.{Kind}
-use Rattle.zpl_names.specs.Scope.{kind_of, is_value, is_array, is_scalar, is_fixed, is_procedure}
-use Rattle.zpl_names.specs.Ranks.{IsRank, first_rank, both_ranks, ranks_clash}
-use Rattle.zpl_names.specs.Ranks.{is_above_zero, value_rank, array_rank, own_rank, is_open}
-use Rattle.zpl_names.specs.Ranks.{placed_rank, rank_of, mask_rank}
-use Rattle.zpl_names.specs.Types.{is_elementwise}
-use Rattle.zpl_names.specs.Shapes.{Shapes, prefix_rank, shapes_under}
-use Rattle.zpl_names.specs.Sites.{Reach, under_prefixes, inside, Limit, Result, Test as TestRole}
-use Rattle.zpl_names.specs.Sites.{Printed, Actual, Assigned, target_rank, whole_rank, CallRole}
-use Rattle.zpl_names.specs.Sites.{AsStatement, AsValue, Elsewhere, AtWhole, AtCall}
-use Rattle.zpl_names.specs.Sites.{AtNamed, AtMask, AtStmt, expr_sites, actuals_sites, region_sites}
-use Rattle.zpl_names.specs.Sites.{whole_sites, prefix_sites, prefixes_sites, call_place, value_sites}
-use Rattle.zpl_names.specs.Sites.{item_sites, step_sites, test_rank, arms_rank}
-use Rattle.zpl_names.specs.Sites.{is_shattered, stmt_sites, stmts_sites, form_sites, arms_sites}
-use Rattle.zpl_names.specs.Sites.{arm_sites, otherwise_sites}
-use Rattle.zpl_names.specs.Faults.{at_if, unless_taken, lacks_region, item_rank, is_border_region}
-use Rattle.zpl_names.specs.Faults.{ends_in_border, cannot_hold, is_other_target, fixed_actual}
-use Rattle.zpl_names.specs.Faults.{fixed_actuals, formals_in, fits as actual_fits, all_fit}
-use Rattle.zpl_names.specs.Faults.{fits_reference, fits_array}
-use Rattle.zpl_names.specs.Faults.{broken_arms, broken_form, broken_test, has_prefix}
-use Rattle.zpl_names.specs.Sites.{under_prefix as reach_under}
-use Rattle.zpl_names.proofs.NameLemmas.{no_place, empty_parts}
+use Rattle.zpl_binding.specs.of_zpl_nums.declared.operators.Op.{Op}
+use Rattle.zpl_binding.specs.of_zpl_region.declared.regions.Region.{Region}
+use Rattle.zpl_binding.specs.of_zpl_tree.Syntax.{Name, Expr, Number, Truth, Coord, Named, Shifted, Around, Remap}
+use Rattle.zpl_binding.specs.of_zpl_tree.Syntax.{Call, Paren, Neg, Not, Abs, Pair, Reduce, Scan, Flood, Exprs}
+use Rattle.zpl_binding.specs.of_zpl_tree.Syntax.{NoExpr, ThenExpr, Inner, Rexpr, Dims, NoBracket}
+use Rattle.zpl_binding.specs.of_zpl_tree.Syntax.{Bracketed, NoPost, ThenPost, Mask, Prefix, Item}
+use Rattle.zpl_binding.specs.of_zpl_tree.Syntax.{Str, Value, Stmt, Prefixed, Stmts, NoStmt, ThenStmt, Form, Assign}
+use Rattle.zpl_binding.specs.of_zpl_tree.Syntax.{Invoke, Block, If, While, Repeat, For, Border, Write, Return, Arm}
+use Rattle.zpl_binding.specs.of_zpl_tree.Syntax.{Tested, Arms, NoArm, ThenArm, Otherwise, NoElse, Else, Base}
+use Rattle.zpl_binding.specs.of_zpl_tree.Grammar.{IsExpr, AreExprs, IsPrefix, IsStep, IsItem}
+use Rattle.zpl_binding.specs.of_zpl_tree.Grammar.{IsForm, AreArms, expr_level}
+use Rattle.zpl_binding.specs.of_zpl_names.Kinds as kind
+use Rattle.zpl_binding.specs.of_zpl_names.Kinds.{Shape, Rank, Formal, ScalarFormal, ArrayFormal, Signature}
+use Rattle.zpl_binding.specs.of_zpl_names.Kinds.{Kind}
+use Rattle.zpl_binding.specs.of_zpl_names.Scope.{kind_of, is_value, is_array, is_scalar, is_fixed, is_procedure}
+use Rattle.zpl_binding.specs.of_zpl_names.Ranks.{IsRank, first_rank, both_ranks, ranks_clash}
+use Rattle.zpl_binding.specs.of_zpl_names.Ranks.{is_above_zero, value_rank, array_rank, own_rank, is_open}
+use Rattle.zpl_binding.specs.of_zpl_names.Ranks.{placed_rank, rank_of, mask_rank}
+use Rattle.zpl_binding.specs.of_zpl_names.Types.{is_elementwise}
+use Rattle.zpl_binding.specs.of_zpl_names.Shapes.{Shapes, prefix_rank, shapes_under}
+use Rattle.zpl_binding.specs.of_zpl_names.Sites.{Reach, under_prefixes, inside, Limit, Result, Test as TestRole}
+use Rattle.zpl_binding.specs.of_zpl_names.Sites.{Printed, Actual, Assigned, target_rank, whole_rank, CallRole}
+use Rattle.zpl_binding.specs.of_zpl_names.Sites.{AsStatement, AsValue, Elsewhere, AtWhole, AtCall}
+use Rattle.zpl_binding.specs.of_zpl_names.Sites.{AtNamed, AtMask, AtStmt, expr_sites, actuals_sites, region_sites}
+use Rattle.zpl_binding.specs.of_zpl_names.Sites.{whole_sites, prefix_sites, prefixes_sites, call_place, value_sites}
+use Rattle.zpl_binding.specs.of_zpl_names.Sites.{item_sites, step_sites, test_rank, arms_rank}
+use Rattle.zpl_binding.specs.of_zpl_names.Sites.{is_shattered, stmt_sites, stmts_sites, form_sites, arms_sites}
+use Rattle.zpl_binding.specs.of_zpl_names.Sites.{arm_sites, otherwise_sites}
+use Rattle.zpl_binding.specs.of_zpl_names.Faults.{at_if, unless_taken, lacks_region, item_rank, is_border_region}
+use Rattle.zpl_binding.specs.of_zpl_names.Faults.{ends_in_border, cannot_hold, is_other_target, fixed_actual}
+use Rattle.zpl_binding.specs.of_zpl_names.Faults.{fixed_actuals, formals_in, fits as actual_fits, all_fit}
+use Rattle.zpl_binding.specs.of_zpl_names.Faults.{fits_reference, fits_array}
+use Rattle.zpl_binding.specs.of_zpl_names.Faults.{broken_arms, broken_form, broken_test, has_prefix}
+use Rattle.zpl_binding.specs.of_zpl_names.Sites.{under_prefix as reach_under}
+use Rattle.zpl_binding.proofs.of_zpl_names.NameLemmas.{no_place, empty_parts}
 use Rattle.zpl_binding.specs.Regions.{Known}
 use Rattle.zpl_meaning.specs.Store.{Thing, Scalar, ArrayAt, Fixed, thing_of}
 use Rattle.zpl_meaning.specs.Context.{Over, Currents, Place}

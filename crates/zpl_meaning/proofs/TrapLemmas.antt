@@ -1,19 +1,19 @@
 -- A statement that traps writes and prints nothing of itself, and the trap has its line.
 use Rattle.std.proofs.Common.{◌≡◌, ℕ, zero, suc, Bool, true, false, ℤ, List, [], ◌∷◌, Option, Some}
 use Rattle.std.proofs.Common.{None, refl, sym, subst, ap}
-use Rattle.zpl_nums.specs.Integer.{is_true}
-use Rattle.zpl_nums.specs.declared.operators.Op.{Op}
-use Rattle.zpl_nums.specs.declared.ends.End.{End}
-use Rattle.zpl_nums.specs.declared.ends.End.TheVariants.{Done, Trap, More}
-use Rattle.zpl_nums.specs.declared.ends.Border.{Border as BorderKind}
-use Rattle.zpl_nums.specs.declared.ends.TrapKind.{TrapKind}
-use Rattle.zpl_tree.specs.Syntax.{Name, Expr, Number, Truth, Coord, Named, Shifted, Around, Remap}
-use Rattle.zpl_tree.specs.Syntax.{Call, Paren, Neg, Not, Abs, Pair, Reduce, Scan, Flood}
-use Rattle.zpl_tree.specs.Syntax.{Stmt, Prefixed, Stmts, NoStmt, ThenStmt, Form}
-use Rattle.zpl_tree.specs.Syntax.{Assign, Invoke, Block, If, While, Repeat, For, Border, Write}
-use Rattle.zpl_tree.specs.Syntax.{Return, Arm, Tested, Arms, NoArm, ThenArm, Otherwise, NoElse, Else}
-use Rattle.zpl_names.specs.Kinds.{Rank}
-use Rattle.zpl_names.specs.Sites.{Role, Assigned, tests_rank}
+use Rattle.zpl_binding.specs.of_zpl_nums.Integer.{is_true}
+use Rattle.zpl_binding.specs.of_zpl_nums.declared.operators.Op.{Op}
+use Rattle.zpl_binding.specs.of_zpl_nums.declared.ends.End.{End}
+use Rattle.zpl_binding.specs.of_zpl_nums.declared.ends.End.TheVariants.{Done, Trap, More}
+use Rattle.zpl_binding.specs.of_zpl_nums.declared.ends.Border.{Border as BorderKind}
+use Rattle.zpl_binding.specs.of_zpl_nums.declared.ends.TrapKind.{TrapKind}
+use Rattle.zpl_binding.specs.of_zpl_tree.Syntax.{Name, Expr, Number, Truth, Coord, Named, Shifted, Around, Remap}
+use Rattle.zpl_binding.specs.of_zpl_tree.Syntax.{Call, Paren, Neg, Not, Abs, Pair, Reduce, Scan, Flood}
+use Rattle.zpl_binding.specs.of_zpl_tree.Syntax.{Stmt, Prefixed, Stmts, NoStmt, ThenStmt, Form}
+use Rattle.zpl_binding.specs.of_zpl_tree.Syntax.{Assign, Invoke, Block, If, While, Repeat, For, Border, Write}
+use Rattle.zpl_binding.specs.of_zpl_tree.Syntax.{Return, Arm, Tested, Arms, NoArm, ThenArm, Otherwise, NoElse, Else}
+use Rattle.zpl_binding.specs.of_zpl_names.Kinds.{Rank}
+use Rattle.zpl_binding.specs.of_zpl_names.Sites.{Role, Assigned, tests_rank}
 use Rattle.zpl_meaning.specs.Computed.{Computed, Gives, Traps}
 use Rattle.zpl_meaning.specs.Store.{Thing, Scalar, ArrayAt, Fixed, Store, thing_of}
 use Rattle.zpl_meaning.specs.Context.{Over, Edge, Place, over_at, reach_of}

@@ -7,36 +7,36 @@ use Rattle.std.specs.List.{AllByRecursion, flat_map, cons_option}
 use Rattle.std.specs.Option.{option_or}
 use Rattle.std.specs.Str.{bytes_eq}
 use Rattle.std.proofs.lemmas.List.Elements.{recursion_from_All}
-use Rattle.zpl_tree.specs.Syntax.{Name, Expr, Call, Exprs, NoExpr, ThenExpr, Prefix, Program, Stmt}
-use Rattle.zpl_tree.specs.Syntax.{Prefixed, Stmts, NoStmt, ThenStmt, Form, Assign, Invoke, Block}
-use Rattle.zpl_tree.specs.Syntax.{If, While, Repeat, For, Border, Write, Return, Arm, Tested, Arms}
-use Rattle.zpl_tree.specs.Syntax.{NoArm, ThenArm, Otherwise, NoElse, Else, Bracket, NoBracket}
-use Rattle.zpl_tree.specs.Syntax.{Bracketed, Base, Param, VarDef}
-use Rattle.zpl_tree.specs.Syntax as plain
-use Rattle.zpl_tree.specs.Grammar.{IsStmt, AreStmts, IsForm, AreArms, IsOtherwise, IsBody}
-use Rattle.zpl_tree.specs.Grammar.{IsProgram}
-use Rattle.zpl_names.specs.Kinds as kind
-use Rattle.zpl_names.specs.Kinds.{Rank, Kind, Formal, ScalarFormal, ArrayFormal, Signature}
-use Rattle.zpl_names.specs.Scope.{Entry, Scope, kind_in, kind_of, is_procedure}
-use Rattle.zpl_names.specs.Ranks.{HasRanks, HasRank, IsKnownKind, AreKnown, first_rank}
-use Rattle.zpl_names.specs.Shapes.{Shapes, no_shapes, variable_kind}
-use Rattle.zpl_names.specs.Declared.{entry_for, head_scope, own_entries, signature_of, globals_of}
-use Rattle.zpl_names.specs.Declared.{Routine, IsProcedureOf, routines_of, routine_named, entry_of}
-use Rattle.zpl_names.specs.Declared.{scope_of, formals_of}
-use Rattle.zpl_names.specs.Sites.{Reach, in_body, under_prefixes, inside, Limit, Test as TestRole}
-use Rattle.zpl_names.specs.Sites.{Site, AtCall, AtStmt, CallRole, prefixes_sites}
-use Rattle.zpl_names.specs.Sites.{AsStatement, whole_sites, step_sites, test_rank, arms_rank}
-use Rattle.zpl_names.specs.Sites.{stmt_sites, stmts_sites, form_sites, arms_sites, arm_sites}
-use Rattle.zpl_names.specs.Sites.{otherwise_sites, body_sites, outermost_sites, routine_sites}
-use Rattle.zpl_names.specs.Sites.{CallSite, call_of, call_place}
-use Rattle.zpl_names.specs.Reached.{IsReached, Entered, Called as CalledFrom, sites_of, sites_at}
-use Rattle.zpl_names.specs.Reached.{calls_of, calls_at}
-use Rattle.zpl_names.specs.Accepted.{IsFaultless, HasNoFault, HasNoFaultUnder, HasKnownRank}
-use Rattle.zpl_names.specs.Accepted.{NoEntry, is_entry, no_entry}
-use Rattle.zpl_names.specs.Faults.{ends_in_border}
-use Rattle.zpl_names.proofs.ListLemmas.{Among, among_from_Contains, Contains-from_among}
-use Rattle.zpl_names.proofs.NameLemmas.{no_place}
-use Rattle.zpl_names.proofs.FaultlessLemmas.{split}
+use Rattle.zpl_binding.specs.of_zpl_tree.Syntax.{Name, Expr, Call, Exprs, NoExpr, ThenExpr, Prefix, Program, Stmt}
+use Rattle.zpl_binding.specs.of_zpl_tree.Syntax.{Prefixed, Stmts, NoStmt, ThenStmt, Form, Assign, Invoke, Block}
+use Rattle.zpl_binding.specs.of_zpl_tree.Syntax.{If, While, Repeat, For, Border, Write, Return, Arm, Tested, Arms}
+use Rattle.zpl_binding.specs.of_zpl_tree.Syntax.{NoArm, ThenArm, Otherwise, NoElse, Else, Bracket, NoBracket}
+use Rattle.zpl_binding.specs.of_zpl_tree.Syntax.{Bracketed, Base, Param, VarDef}
+use Rattle.zpl_binding.specs.of_zpl_tree.Syntax as plain
+use Rattle.zpl_binding.specs.of_zpl_tree.Grammar.{IsStmt, AreStmts, IsForm, AreArms, IsOtherwise, IsBody}
+use Rattle.zpl_binding.specs.of_zpl_tree.Grammar.{IsProgram}
+use Rattle.zpl_binding.specs.of_zpl_names.Kinds as kind
+use Rattle.zpl_binding.specs.of_zpl_names.Kinds.{Rank, Kind, Formal, ScalarFormal, ArrayFormal, Signature}
+use Rattle.zpl_binding.specs.of_zpl_names.Scope.{Entry, Scope, kind_in, kind_of, is_procedure}
+use Rattle.zpl_binding.specs.of_zpl_names.Ranks.{HasRanks, HasRank, IsKnownKind, AreKnown, first_rank}
+use Rattle.zpl_binding.specs.of_zpl_names.Shapes.{Shapes, no_shapes, variable_kind}
+use Rattle.zpl_binding.specs.of_zpl_names.Declared.{entry_for, head_scope, own_entries, signature_of, globals_of}
+use Rattle.zpl_binding.specs.of_zpl_names.Declared.{Routine, IsProcedureOf, routines_of, routine_named, entry_of}
+use Rattle.zpl_binding.specs.of_zpl_names.Declared.{scope_of, formals_of}
+use Rattle.zpl_binding.specs.of_zpl_names.Sites.{Reach, in_body, under_prefixes, inside, Limit, Test as TestRole}
+use Rattle.zpl_binding.specs.of_zpl_names.Sites.{Site, AtCall, AtStmt, CallRole, prefixes_sites}
+use Rattle.zpl_binding.specs.of_zpl_names.Sites.{AsStatement, whole_sites, step_sites, test_rank, arms_rank}
+use Rattle.zpl_binding.specs.of_zpl_names.Sites.{stmt_sites, stmts_sites, form_sites, arms_sites, arm_sites}
+use Rattle.zpl_binding.specs.of_zpl_names.Sites.{otherwise_sites, body_sites, outermost_sites, routine_sites}
+use Rattle.zpl_binding.specs.of_zpl_names.Sites.{CallSite, call_of, call_place}
+use Rattle.zpl_binding.specs.of_zpl_names.Reached.{IsReached, Entered, Called as CalledFrom, sites_of, sites_at}
+use Rattle.zpl_binding.specs.of_zpl_names.Reached.{calls_of, calls_at}
+use Rattle.zpl_binding.specs.of_zpl_names.Accepted.{IsFaultless, HasNoFault, HasNoFaultUnder, HasKnownRank}
+use Rattle.zpl_binding.specs.of_zpl_names.Accepted.{NoEntry, is_entry, no_entry}
+use Rattle.zpl_binding.specs.of_zpl_names.Faults.{ends_in_border}
+use Rattle.zpl_binding.proofs.of_zpl_names.ListLemmas.{Among, among_from_Contains, Contains-from_among}
+use Rattle.zpl_binding.proofs.of_zpl_names.NameLemmas.{no_place}
+use Rattle.zpl_binding.proofs.of_zpl_names.FaultlessLemmas.{split}
 use Rattle.zpl_binding.specs.Settings.{Setting}
 use Rattle.zpl_meaning.specs.Store.{Thing, Scalar, ArrayAt, Fixed, Names, Store, thing_of}
 use Rattle.zpl_meaning.specs.Context.{Setup, Place}

@@ -1,13 +1,13 @@
 -- What a call hands to a procedure, and what the procedure makes of it.
 use Rattle.std.specs.Prelude.{ℕ, true, false, ℤ, pos, List, [], ◌∷◌, ◌++◌, Option, Some, None}
-use Rattle.zpl_region.specs.declared.regions.Region.{Region}
-use Rattle.zpl_arrays.specs.Array.{Array}
-use Rattle.zpl_tree.specs.Syntax.{Name, Expr, Named, Exprs, NoExpr, ThenExpr}
-use Rattle.zpl_names.specs.Kinds.{Formal, ScalarFormal, ArrayFormal, Kind, Procedure}
-use Rattle.zpl_names.specs.Scope.{kind_of}
-use Rattle.zpl_names.specs.Declared.{Routine, scope_of}
-use Rattle.zpl_names.specs.Expansion.{FormalName, formal_names}
-use Rattle.zpl_names.specs.Sites.{Actual}
+use Rattle.zpl_binding.specs.of_zpl_region.declared.regions.Region.{Region}
+use Rattle.zpl_binding.specs.of_zpl_arrays.Array.{Array}
+use Rattle.zpl_binding.specs.of_zpl_tree.Syntax.{Name, Expr, Named, Exprs, NoExpr, ThenExpr}
+use Rattle.zpl_binding.specs.of_zpl_names.Kinds.{Formal, ScalarFormal, ArrayFormal, Kind, Procedure}
+use Rattle.zpl_binding.specs.of_zpl_names.Scope.{kind_of}
+use Rattle.zpl_binding.specs.of_zpl_names.Declared.{Routine, scope_of}
+use Rattle.zpl_binding.specs.of_zpl_names.Expansion.{FormalName, formal_names}
+use Rattle.zpl_binding.specs.of_zpl_names.Sites.{Actual}
 use Rattle.zpl_meaning.specs.Computed.{Computed, Gives, computed_then}
 use Rattle.zpl_meaning.specs.Store.{Thing, ArrayAt, Environment, Store, thing_of, array_at}
 use Rattle.zpl_meaning.specs.Context.{Currents, Setup, Place}

@@ -1,9 +1,9 @@
 -- The second and the third phase of a statement: whether its regions conform, and whether its
 -- references lie in the storages of their arrays.
 use Rattle.std.specs.Prelude.{ℕ, Bool, true, ◌&&◌, [], Option, Some, None}
-use Rattle.zpl_region.specs.declared.regions.Region.{Region}
-use Rattle.zpl_arrays.specs.Conformity.{reduction_conforms, flood_conforms}
-use Rattle.zpl_arrays.specs.Reference.{lies_in, is_reference}
+use Rattle.zpl_binding.specs.of_zpl_region.declared.regions.Region.{Region}
+use Rattle.zpl_binding.specs.of_zpl_arrays.Conformity.{reduction_conforms, flood_conforms}
+use Rattle.zpl_binding.specs.of_zpl_arrays.Reference.{lies_in, is_reference}
 use Rattle.zpl_meaning.specs.Store.{Store, array_at}
 use Rattle.zpl_meaning.specs.Context.{Mask, Over}
 use Rattle.zpl_meaning.specs.Term.{Term, Constant, Variable, Coordinate, Element, Wrapped, Unary}

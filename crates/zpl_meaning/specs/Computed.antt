@@ -1,7 +1,7 @@
 -- What a computation gives: a value, or the trap that ends the program.
 use Rattle.std.specs.Prelude.{Bool, true, false, ℤ, Option, Some, None}
-use Rattle.zpl_nums.specs.declared.ends.TrapKind.{TrapKind}
-use Rattle.zpl_nums.specs.declared.ends.TrapKind.TheVariants.{DivideByZero}
+use Rattle.zpl_binding.specs.of_zpl_nums.declared.ends.TrapKind.{TrapKind}
+use Rattle.zpl_binding.specs.of_zpl_nums.declared.ends.TrapKind.TheVariants.{DivideByZero}
 
 pub data Computed (A : Type 0) : Type 0 where
   Gives : (value : A) → Computed A

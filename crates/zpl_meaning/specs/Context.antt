@@ -1,13 +1,13 @@
 -- What is in reach of a statement: names, and the current region of each rank.
 use Rattle.std.specs.Prelude.{ℕ, zero, suc, Bool, true, false, not, ℤ, List, Option, Some, None}
-use Rattle.zpl_nums.specs.Integer.{is_true}
-use Rattle.zpl_region.specs.declared.regions.Region.{Region}
-use Rattle.zpl_arrays.specs.Array.{element}
-use Rattle.zpl_tree.specs.Syntax.{Expr, Program}
-use Rattle.zpl_names.specs.Kinds.{Rank}
-use Rattle.zpl_names.specs.Scope.{Scope}
-use Rattle.zpl_names.specs.Shapes.{unknown_shapes}
-use Rattle.zpl_names.specs.Sites.{Reach, in_body, Role, whole_rank}
+use Rattle.zpl_binding.specs.of_zpl_nums.Integer.{is_true}
+use Rattle.zpl_binding.specs.of_zpl_region.declared.regions.Region.{Region}
+use Rattle.zpl_binding.specs.of_zpl_arrays.Array.{element}
+use Rattle.zpl_binding.specs.of_zpl_tree.Syntax.{Expr, Program}
+use Rattle.zpl_binding.specs.of_zpl_names.Kinds.{Rank}
+use Rattle.zpl_binding.specs.of_zpl_names.Scope.{Scope}
+use Rattle.zpl_binding.specs.of_zpl_names.Shapes.{unknown_shapes}
+use Rattle.zpl_binding.specs.of_zpl_names.Sites.{Reach, in_body, Role, whole_rank}
 use Rattle.zpl_binding.specs.Regions.{Known, no_region}
 use Rattle.zpl_binding.specs.Storages.{Border}
 use Rattle.zpl_meaning.specs.Store.{Names, Environment, Store, array_at}

@@ -1,6 +1,6 @@
 -- What calls do beyond the longest chain.
 use Rattle.std.specs.Prelude.{ℕ, List}
-use Rattle.zpl_tree.specs.Syntax.{Program}
+use Rattle.zpl_binding.specs.of_zpl_tree.Syntax.{Program}
 use Rattle.zpl_binding.specs.Settings.{Setting}
 use Rattle.zpl_binding.specs.Declarations.{known_of}
 use Rattle.zpl_binding.specs.Storages.{borders_of}

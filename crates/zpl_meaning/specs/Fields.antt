@@ -5,17 +5,17 @@
 use Rattle.std.specs.Prelude.{ℕ, Bool, true, false, ℤ, pos, unsigned_abs, List, [], ◌∷◌, map, Option}
 use Rattle.std.specs.Prelude.{Some, None, slice_index_or, ◌-◌}
 use Rattle.std.specs.List.{list_all}
-use Rattle.zpl_nums.specs.declared.folds.Fold.{Fold}
-use Rattle.zpl_nums.specs.declared.ends.TrapKind.TheVariants.{OutsideStorage}
-use Rattle.zpl_nums.specs.Op.{applied}
-use Rattle.zpl_nums.specs.UnaryOp.{applied_unary}
-use Rattle.zpl_region.specs.declared.regions.Region.{Region}
-use Rattle.zpl_region.specs.Region.{members, tuple_moved}
-use Rattle.zpl_arrays.specs.Array.{Array, element, has_place}
-use Rattle.zpl_arrays.specs.Around.{around_source}
-use Rattle.zpl_arrays.specs.Flood.{flood_source}
-use Rattle.zpl_arrays.specs.Fold.{reduced, partly_reduced}
-use Rattle.zpl_arrays.specs.Scan.{scanned, scanned_along}
+use Rattle.zpl_binding.specs.of_zpl_nums.declared.folds.Fold.{Fold}
+use Rattle.zpl_binding.specs.of_zpl_nums.declared.ends.TrapKind.TheVariants.{OutsideStorage}
+use Rattle.zpl_binding.specs.of_zpl_nums.Op.{applied}
+use Rattle.zpl_binding.specs.of_zpl_nums.UnaryOp.{applied_unary}
+use Rattle.zpl_binding.specs.of_zpl_region.declared.regions.Region.{Region}
+use Rattle.zpl_binding.specs.of_zpl_region.Region.{members, tuple_moved}
+use Rattle.zpl_binding.specs.of_zpl_arrays.Array.{Array, element, has_place}
+use Rattle.zpl_binding.specs.of_zpl_arrays.Around.{around_source}
+use Rattle.zpl_binding.specs.of_zpl_arrays.Flood.{flood_source}
+use Rattle.zpl_binding.specs.of_zpl_arrays.Fold.{reduced, partly_reduced}
+use Rattle.zpl_binding.specs.of_zpl_arrays.Scan.{scanned, scanned_along}
 use Rattle.zpl_binding.specs.Vectors.{three_components}
 use Rattle.zpl_meaning.specs.Computed.{Computed, Gives, computed_then, both_then, provided, given}
 use Rattle.zpl_meaning.specs.Store.{Store, scalar_at, array_at}

@@ -22,3 +22,10 @@ pub mod Value
 pub mod Variables
 pub mod Visited
 pub mod Wanting
+pub use Rattle.zpl_binding.specs.of_zpl_arrays as of_zpl_arrays
+pub use Rattle.zpl_binding.specs as of_zpl_binding
+pub use Rattle.zpl_binding.specs.of_zpl_names as of_zpl_names
+pub use Rattle.zpl_binding.specs.of_zpl_nums as of_zpl_nums
+pub use Rattle.zpl_binding.specs.of_zpl_region as of_zpl_region
+pub use Rattle.zpl_text.specs as of_zpl_text
+pub use Rattle.zpl_binding.specs.of_zpl_tree as of_zpl_tree

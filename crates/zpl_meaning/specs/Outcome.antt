@@ -1,9 +1,9 @@
 -- What a statement does, and how outcomes are joined.
 use Rattle.std.specs.Prelude.{ℕ, zero, suc, ◌+◌, Bool, true, false, ℤ, ◌+ℤ◌, ◌-ℤ◌, int_lt}
 use Rattle.std.specs.Prelude.{if◌then◌else◌, List, [], ◌++◌}
-use Rattle.zpl_nums.specs.declared.ends.End.{End}
-use Rattle.zpl_nums.specs.declared.ends.End.TheVariants.{Done, Trap, More}
-use Rattle.zpl_nums.specs.Integer.{is_true}
+use Rattle.zpl_binding.specs.of_zpl_nums.declared.ends.End.{End}
+use Rattle.zpl_binding.specs.of_zpl_nums.declared.ends.End.TheVariants.{Done, Trap, More}
+use Rattle.zpl_binding.specs.of_zpl_nums.Integer.{is_true}
 use Rattle.zpl_meaning.specs.Store.{Store}
 use Rattle.zpl_meaning.specs.Computed.{Computed, Gives, Traps}
 

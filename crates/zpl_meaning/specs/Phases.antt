@@ -1,8 +1,8 @@
 -- The phases of a statement, one after the other: the first that fails gives the trap.
 use Rattle.std.specs.Prelude.{Bool, true, ◌&&◌, ℤ, pos, List, [], ◌∷◌}
-use Rattle.zpl_nums.specs.declared.ends.TrapKind.TheVariants.{OutsideStorage, RegionMismatch}
-use Rattle.zpl_tree.specs.Syntax.{Expr}
-use Rattle.zpl_names.specs.Sites.{Role}
+use Rattle.zpl_binding.specs.of_zpl_nums.declared.ends.TrapKind.TheVariants.{OutsideStorage, RegionMismatch}
+use Rattle.zpl_binding.specs.of_zpl_tree.Syntax.{Expr}
+use Rattle.zpl_binding.specs.of_zpl_names.Sites.{Role}
 use Rattle.zpl_meaning.specs.Computed.{Computed, Gives, computed_then, both_then, provided}
 use Rattle.zpl_meaning.specs.Store.{Store}
 use Rattle.zpl_meaning.specs.Context.{Place, rank_in}

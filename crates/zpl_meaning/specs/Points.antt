@@ -3,19 +3,19 @@
 -- itself, on its own values.
 use Rattle.std.specs.Prelude.{ℕ, Bool, true, false, ◌&&◌, ℤ, List, [], ◌∷◌, ◌++◌, map, filter}
 use Rattle.std.specs.Prelude.{Option, Some, None}
-use Rattle.zpl_nums.specs.declared.operators.Op.{Op}
-use Rattle.zpl_nums.specs.declared.ends.End.{End}
-use Rattle.zpl_nums.specs.declared.ends.End.TheVariants.{Done, Trap, More}
-use Rattle.zpl_region.specs.declared.regions.Region.{Region}
-use Rattle.zpl_region.specs.Region.{members}
-use Rattle.zpl_region.specs.Hull.{all_from}
-use Rattle.zpl_arrays.specs.Array.{Array, element, has_place, updated}
-use Rattle.zpl_tree.specs.Syntax.{Name, Expr, Named, Pair, Stmt, Prefixed, Stmts, NoStmt, ThenStmt}
-use Rattle.zpl_tree.specs.Syntax.{Form, Assign, Invoke, Block, If, While, Repeat, For, Border, Write}
-use Rattle.zpl_tree.specs.Syntax.{Return, Arm, Tested, Arms, NoArm, ThenArm, Otherwise, NoElse, Else}
-use Rattle.zpl_names.specs.Kinds.{Rank}
-use Rattle.zpl_names.specs.Sites.{tests_rank}
-use Rattle.zpl_names.specs.Counts.{form_nodes}
+use Rattle.zpl_binding.specs.of_zpl_nums.declared.operators.Op.{Op}
+use Rattle.zpl_binding.specs.of_zpl_nums.declared.ends.End.{End}
+use Rattle.zpl_binding.specs.of_zpl_nums.declared.ends.End.TheVariants.{Done, Trap, More}
+use Rattle.zpl_binding.specs.of_zpl_region.declared.regions.Region.{Region}
+use Rattle.zpl_binding.specs.of_zpl_region.Region.{members}
+use Rattle.zpl_binding.specs.of_zpl_region.Hull.{all_from}
+use Rattle.zpl_binding.specs.of_zpl_arrays.Array.{Array, element, has_place, updated}
+use Rattle.zpl_binding.specs.of_zpl_tree.Syntax.{Name, Expr, Named, Pair, Stmt, Prefixed, Stmts, NoStmt, ThenStmt}
+use Rattle.zpl_binding.specs.of_zpl_tree.Syntax.{Form, Assign, Invoke, Block, If, While, Repeat, For, Border, Write}
+use Rattle.zpl_binding.specs.of_zpl_tree.Syntax.{Return, Arm, Tested, Arms, NoArm, ThenArm, Otherwise, NoElse, Else}
+use Rattle.zpl_binding.specs.of_zpl_names.Kinds.{Rank}
+use Rattle.zpl_binding.specs.of_zpl_names.Sites.{tests_rank}
+use Rattle.zpl_binding.specs.of_zpl_names.Counts.{form_nodes}
 use Rattle.zpl_meaning.specs.Computed.{Computed, computed_then}
 use Rattle.zpl_meaning.specs.Store.{Thing, ArrayAt, Store, thing_of, array_at, with_array}
 use Rattle.zpl_meaning.specs.Context.{Over, over_at, Place, reach_of}

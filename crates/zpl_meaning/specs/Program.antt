@@ -1,9 +1,9 @@
 -- The meaning of a program under settings: what its entry procedure prints, and how it ends.
 use Rattle.std.specs.Prelude.{ℕ, zero, suc, List, [], Option, Some, None}
-use Rattle.zpl_nums.specs.declared.ends.End.{End}
-use Rattle.zpl_tree.specs.Syntax.{Program}
-use Rattle.zpl_names.specs.Declared.{Routine, routine_named}
-use Rattle.zpl_names.specs.Reached.{longest_chain}
+use Rattle.zpl_binding.specs.of_zpl_nums.declared.ends.End.{End}
+use Rattle.zpl_binding.specs.of_zpl_tree.Syntax.{Program}
+use Rattle.zpl_binding.specs.of_zpl_names.Declared.{Routine, routine_named}
+use Rattle.zpl_binding.specs.of_zpl_names.Reached.{longest_chain}
 use Rattle.zpl_binding.specs.Settings.{Setting}
 use Rattle.zpl_binding.specs.Declarations.{known_of}
 use Rattle.zpl_binding.specs.Regions.{Known}

@@ -3,23 +3,23 @@
 -- form stands where it has a meaning, and each procedure that is called is there.
 use Rattle.std.specs.Prelude.{◌≡◌, zero, suc, Bool, true, false, List, [], ◌∷◌, Option, Some, None}
 use Rattle.std.specs.Prelude.{IsSome}
-use Rattle.zpl_nums.specs.declared.operators.Op.{Op}
-use Rattle.zpl_region.specs.declared.regions.Region.{Region}
-use Rattle.zpl_tree.specs.Syntax.{Name, Expr, Number, Truth, Coord, Named, Shifted, Around, Remap}
-use Rattle.zpl_tree.specs.Syntax.{Call, Paren, Neg, Not, Abs, Pair, Reduce, Scan, Flood, Exprs}
-use Rattle.zpl_tree.specs.Syntax.{NoExpr, ThenExpr, Inner, Rexpr, Dims, NoBracket, Bracketed}
-use Rattle.zpl_tree.specs.Syntax.{NamedRegion, Ditto, DimText, Blank, Star, One, Span, DimTexts}
-use Rattle.zpl_tree.specs.Syntax.{NoDim, ThenDim, Mask as MaskText, Prefix, Item, Str, Value, Stmt}
-use Rattle.zpl_tree.specs.Syntax.{Prefixed, Stmts, NoStmt, ThenStmt, Form, Assign, Invoke, Block}
-use Rattle.zpl_tree.specs.Syntax.{If, While, Repeat, For, Border, Write, Return, Arm, Tested, Arms}
-use Rattle.zpl_tree.specs.Syntax.{NoArm, ThenArm, Otherwise, NoElse, Else}
-use Rattle.zpl_names.specs.Kinds.{Rank, Formal, ScalarFormal, ArrayFormal, Signature, Procedure}
-use Rattle.zpl_names.specs.Scope.{kind_of}
-use Rattle.zpl_names.specs.Ranks.{own_rank, operand_rank, inner_rank, is_index, mask_rank}
-use Rattle.zpl_names.specs.Shapes.{prefix_rank}
-use Rattle.zpl_names.specs.Declared.{routine_named}
-use Rattle.zpl_names.specs.Sites.{Role, Limit, Result, Test, Printed, Actual, Assigned, handed}
-use Rattle.zpl_names.specs.Sites.{tests_rank, is_shattered}
+use Rattle.zpl_binding.specs.of_zpl_nums.declared.operators.Op.{Op}
+use Rattle.zpl_binding.specs.of_zpl_region.declared.regions.Region.{Region}
+use Rattle.zpl_binding.specs.of_zpl_tree.Syntax.{Name, Expr, Number, Truth, Coord, Named, Shifted, Around, Remap}
+use Rattle.zpl_binding.specs.of_zpl_tree.Syntax.{Call, Paren, Neg, Not, Abs, Pair, Reduce, Scan, Flood, Exprs}
+use Rattle.zpl_binding.specs.of_zpl_tree.Syntax.{NoExpr, ThenExpr, Inner, Rexpr, Dims, NoBracket, Bracketed}
+use Rattle.zpl_binding.specs.of_zpl_tree.Syntax.{NamedRegion, Ditto, DimText, Blank, Star, One, Span, DimTexts}
+use Rattle.zpl_binding.specs.of_zpl_tree.Syntax.{NoDim, ThenDim, Mask as MaskText, Prefix, Item, Str, Value, Stmt}
+use Rattle.zpl_binding.specs.of_zpl_tree.Syntax.{Prefixed, Stmts, NoStmt, ThenStmt, Form, Assign, Invoke, Block}
+use Rattle.zpl_binding.specs.of_zpl_tree.Syntax.{If, While, Repeat, For, Border, Write, Return, Arm, Tested, Arms}
+use Rattle.zpl_binding.specs.of_zpl_tree.Syntax.{NoArm, ThenArm, Otherwise, NoElse, Else}
+use Rattle.zpl_binding.specs.of_zpl_names.Kinds.{Rank, Formal, ScalarFormal, ArrayFormal, Signature, Procedure}
+use Rattle.zpl_binding.specs.of_zpl_names.Scope.{kind_of}
+use Rattle.zpl_binding.specs.of_zpl_names.Ranks.{own_rank, operand_rank, inner_rank, is_index, mask_rank}
+use Rattle.zpl_binding.specs.of_zpl_names.Shapes.{prefix_rank}
+use Rattle.zpl_binding.specs.of_zpl_names.Declared.{routine_named}
+use Rattle.zpl_binding.specs.of_zpl_names.Sites.{Role, Limit, Result, Test, Printed, Actual, Assigned, handed}
+use Rattle.zpl_binding.specs.of_zpl_names.Sites.{tests_rank, is_shattered}
 use Rattle.zpl_meaning.specs.Store.{Thing, Scalar, ArrayAt, Fixed, Environment, thing_of}
 use Rattle.zpl_meaning.specs.Context.{Over, Currents, Place, reach_of, rank_in}
 use Rattle.zpl_meaning.specs.Regions.{under_prefix, under_source}

@@ -3,18 +3,18 @@
 -- too.
 use Rattle.std.specs.Prelude.{ℕ, suc, Bool, true, false, ℤ, List, [], ◌∷◌, Option, Some}
 use Rattle.std.specs.Prelude.{None}
-use Rattle.zpl_nums.specs.declared.ends.TrapKind.TheVariants as trap
-use Rattle.zpl_region.specs.declared.dims.Dim.{Dim}
-use Rattle.zpl_region.specs.declared.dims.Dim.TheVariants as dim
-use Rattle.zpl_region.specs.declared.regions.Region.{Region}
-use Rattle.zpl_region.specs.Region.{dim_at}
-use Rattle.zpl_region.specs.Hull.{all_from}
-use Rattle.zpl_tree.specs.Syntax.{Name, Pre, RegionBase, NamedRegion, Ditto, Named, Dir, NamedDir}
-use Rattle.zpl_tree.specs.Syntax.{Inner, Rexpr, Dims, Posts, NoPost, DimText, Blank, Star, One, Span}
-use Rattle.zpl_tree.specs.Syntax.{DimTexts, NoDim, ThenDim, Mask as MaskText, Prefix}
-use Rattle.zpl_names.specs.Kinds.{Rank}
-use Rattle.zpl_names.specs.Ranks.{inner_rank, is_index, mask_rank}
-use Rattle.zpl_names.specs.Shapes.{prefix_rank}
+use Rattle.zpl_binding.specs.of_zpl_nums.declared.ends.TrapKind.TheVariants as trap
+use Rattle.zpl_binding.specs.of_zpl_region.declared.dims.Dim.{Dim}
+use Rattle.zpl_binding.specs.of_zpl_region.declared.dims.Dim.TheVariants as dim
+use Rattle.zpl_binding.specs.of_zpl_region.declared.regions.Region.{Region}
+use Rattle.zpl_binding.specs.of_zpl_region.Region.{dim_at}
+use Rattle.zpl_binding.specs.of_zpl_region.Hull.{all_from}
+use Rattle.zpl_binding.specs.of_zpl_tree.Syntax.{Name, Pre, RegionBase, NamedRegion, Ditto, Named, Dir, NamedDir}
+use Rattle.zpl_binding.specs.of_zpl_tree.Syntax.{Inner, Rexpr, Dims, Posts, NoPost, DimText, Blank, Star, One, Span}
+use Rattle.zpl_binding.specs.of_zpl_tree.Syntax.{DimTexts, NoDim, ThenDim, Mask as MaskText, Prefix}
+use Rattle.zpl_binding.specs.of_zpl_names.Kinds.{Rank}
+use Rattle.zpl_binding.specs.of_zpl_names.Ranks.{inner_rank, is_index, mask_rank}
+use Rattle.zpl_binding.specs.of_zpl_names.Shapes.{prefix_rank}
 use Rattle.zpl_binding.specs.Outcome.{BindFault, BadConstant, Outcome, value_or}
 use Rattle.zpl_binding.specs.Outcome as bound
 use Rattle.zpl_binding.specs.Vectors.{three_components, dir_of}

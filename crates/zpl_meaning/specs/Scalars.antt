@@ -1,8 +1,8 @@
 -- Expressions of numbers, truth values, names of scalars and operators on them: those that have a
 -- value by themselves.
 use Rattle.std.specs.Prelude.{ℤ, List, [], ◌∷◌, Option, Some, None}
-use Rattle.zpl_tree.specs.Syntax.{Expr, Number, Truth, Coord, Named, Shifted, Around, Remap, Call}
-use Rattle.zpl_tree.specs.Syntax.{Paren, Neg, Not, Abs, Pair, Reduce, Scan, Flood}
+use Rattle.zpl_binding.specs.of_zpl_tree.Syntax.{Expr, Number, Truth, Coord, Named, Shifted, Around, Remap, Call}
+use Rattle.zpl_binding.specs.of_zpl_tree.Syntax.{Paren, Neg, Not, Abs, Pair, Reduce, Scan, Flood}
 use Rattle.zpl_meaning.specs.Computed.{Computed, Gives, both_then}
 use Rattle.zpl_meaning.specs.Store.{Thing, Scalar, ArrayAt, Fixed, Environment, Store, thing_of}
 use Rattle.zpl_meaning.specs.Value.{value_of}

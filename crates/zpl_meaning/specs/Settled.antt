@@ -1,14 +1,14 @@
 -- The first phase of a statement: the regions that stand in it are computed, in text order, a
 -- bracket before its operand. What is left is a term.
 use Rattle.std.specs.Prelude.{pos, ℤ, List, [], ◌∷◌, Option, Some, None}
-use Rattle.zpl_nums.specs.declared.operators.UnaryOp.TheVariants as unary
-use Rattle.zpl_nums.specs.Integer.{truth}
-use Rattle.zpl_region.specs.declared.regions.Region.{Region}
-use Rattle.zpl_tree.specs.Syntax.{Expr, Number, Truth, Coord, Named, Shifted, Around, Remap, Call}
-use Rattle.zpl_tree.specs.Syntax.{Paren, Neg, Not, Abs, Pair, Reduce, Scan, Flood, Exprs, NoExpr}
-use Rattle.zpl_tree.specs.Syntax.{ThenExpr, Inner, NoBracket, Bracketed}
-use Rattle.zpl_names.specs.Kinds.{Rank}
-use Rattle.zpl_names.specs.Ranks.{own_rank, operand_rank, inner_rank}
+use Rattle.zpl_binding.specs.of_zpl_nums.declared.operators.UnaryOp.TheVariants as unary
+use Rattle.zpl_binding.specs.of_zpl_nums.Integer.{truth}
+use Rattle.zpl_binding.specs.of_zpl_region.declared.regions.Region.{Region}
+use Rattle.zpl_binding.specs.of_zpl_tree.Syntax.{Expr, Number, Truth, Coord, Named, Shifted, Around, Remap, Call}
+use Rattle.zpl_binding.specs.of_zpl_tree.Syntax.{Paren, Neg, Not, Abs, Pair, Reduce, Scan, Flood, Exprs, NoExpr}
+use Rattle.zpl_binding.specs.of_zpl_tree.Syntax.{ThenExpr, Inner, NoBracket, Bracketed}
+use Rattle.zpl_binding.specs.of_zpl_names.Kinds.{Rank}
+use Rattle.zpl_binding.specs.of_zpl_names.Ranks.{own_rank, operand_rank, inner_rank}
 use Rattle.zpl_meaning.specs.Computed.{Computed, Gives, computed_then, both_then}
 use Rattle.zpl_meaning.specs.Store.{Thing, Scalar, ArrayAt, Fixed, Store, thing_of}
 use Rattle.zpl_meaning.specs.Context.{Over, over_at, Place}

@@ -1,8 +1,8 @@
 -- Statements that are one statement, with no other in it: they go through their phases once.
 use Rattle.std.specs.Prelude.{◌≡◌, ℕ, true, List, [], ◌∷◌, Option, None}
-use Rattle.zpl_nums.specs.declared.operators.Op.{Op}
-use Rattle.zpl_tree.specs.Syntax.{Name, Expr, Call, Form, Assign, Invoke, Block, If, While, Repeat}
-use Rattle.zpl_tree.specs.Syntax.{For, Border, Write, Return}
+use Rattle.zpl_binding.specs.of_zpl_nums.declared.operators.Op.{Op}
+use Rattle.zpl_binding.specs.of_zpl_tree.Syntax.{Name, Expr, Call, Form, Assign, Invoke, Block, If, While, Repeat}
+use Rattle.zpl_binding.specs.of_zpl_tree.Syntax.{For, Border, Write, Return}
 use Rattle.zpl_meaning.specs.Store.{Store}
 use Rattle.zpl_meaning.specs.Outcome.{Outcome}
 use Rattle.zpl_meaning.specs.Statement.{Context, is_split}

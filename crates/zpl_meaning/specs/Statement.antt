@@ -1,23 +1,23 @@
 -- What statements do, with a bound on the turns of each loop that is entered.
 use Rattle.std.specs.Prelude.{ℕ, ◌+◌, Bool, ◌&&◌, ℤ, pos, int_lt, if◌then◌else◌, List, []}
 use Rattle.std.specs.Prelude.{◌∷◌, length, Option, Some, None}
-use Rattle.zpl_nums.specs.declared.operators.Op.{Op}
-use Rattle.zpl_nums.specs.declared.ends.Border.{Border as BorderKind}
-use Rattle.zpl_nums.specs.declared.ends.TrapKind.TheVariants.{OutsideStorage, RegionMismatch}
-use Rattle.zpl_region.specs.declared.regions.Region.{Region}
-use Rattle.zpl_region.specs.Region.{outside_of}
-use Rattle.zpl_region.specs.Tests.{is_member}
-use Rattle.zpl_arrays.specs.Array.{Array, array_of, element}
-use Rattle.zpl_arrays.specs.Reference.{lies_in}
-use Rattle.zpl_arrays.specs.Border.{border_conforms, border_source, border_sources}
+use Rattle.zpl_binding.specs.of_zpl_nums.declared.operators.Op.{Op}
+use Rattle.zpl_binding.specs.of_zpl_nums.declared.ends.Border.{Border as BorderKind}
+use Rattle.zpl_binding.specs.of_zpl_nums.declared.ends.TrapKind.TheVariants.{OutsideStorage, RegionMismatch}
+use Rattle.zpl_binding.specs.of_zpl_region.declared.regions.Region.{Region}
+use Rattle.zpl_binding.specs.of_zpl_region.Region.{outside_of}
+use Rattle.zpl_binding.specs.of_zpl_region.Tests.{is_member}
+use Rattle.zpl_binding.specs.of_zpl_arrays.Array.{Array, array_of, element}
+use Rattle.zpl_binding.specs.of_zpl_arrays.Reference.{lies_in}
+use Rattle.zpl_binding.specs.of_zpl_arrays.Border.{border_conforms, border_source, border_sources}
 use Rattle.zpl_text.specs.Lines.{line_at}
-use Rattle.zpl_tree.specs.Syntax.{Name, Expr, Number, Call, Exprs, ForHead, Stmt, Prefixed, Stmts}
-use Rattle.zpl_tree.specs.Syntax.{NoStmt, ThenStmt, Form, Assign, Invoke, Block, If, While, Repeat}
-use Rattle.zpl_tree.specs.Syntax.{For, Border, Write, Return, Arm, Tested, Arms, NoArm, ThenArm}
-use Rattle.zpl_tree.specs.Syntax.{Otherwise, NoElse, Else, Prefix}
-use Rattle.zpl_names.specs.Sites.{Role, Limit, Result, Test as TestRole, Assigned, handed}
-use Rattle.zpl_names.specs.Sites.{is_shattered}
-use Rattle.zpl_names.specs.Counts.{expr_nodes, inner_nodes, own_nodes}
+use Rattle.zpl_binding.specs.of_zpl_tree.Syntax.{Name, Expr, Number, Call, Exprs, ForHead, Stmt, Prefixed, Stmts}
+use Rattle.zpl_binding.specs.of_zpl_tree.Syntax.{NoStmt, ThenStmt, Form, Assign, Invoke, Block, If, While, Repeat}
+use Rattle.zpl_binding.specs.of_zpl_tree.Syntax.{For, Border, Write, Return, Arm, Tested, Arms, NoArm, ThenArm}
+use Rattle.zpl_binding.specs.of_zpl_tree.Syntax.{Otherwise, NoElse, Else, Prefix}
+use Rattle.zpl_binding.specs.of_zpl_names.Sites.{Role, Limit, Result, Test as TestRole, Assigned, handed}
+use Rattle.zpl_binding.specs.of_zpl_names.Sites.{is_shattered}
+use Rattle.zpl_binding.specs.of_zpl_names.Counts.{expr_nodes, inner_nodes, own_nodes}
 use Rattle.zpl_meaning.specs.Computed.{Computed, Gives, computed_then, provided}
 use Rattle.zpl_meaning.specs.Store.{Thing, Scalar, ArrayAt, Store, thing_of, scalar_at, with_scalar}
 use Rattle.zpl_meaning.specs.Store.{array_at, with_array, cut_back}

@@ -3,8 +3,8 @@ use Rattle.std.specs.Prelude.{ℕ, ℤ, pos, List, [], Option, find, take, lengt
 use Rattle.std.specs.Prelude.{slice_set}
 use Rattle.std.specs.Option.{option_map}
 use Rattle.std.specs.Str.{bytes_eq}
-use Rattle.zpl_region.specs.declared.regions.Region.{Region}
-use Rattle.zpl_arrays.specs.Array.{Array}
+use Rattle.zpl_binding.specs.of_zpl_region.declared.regions.Region.{Region}
+use Rattle.zpl_binding.specs.of_zpl_arrays.Array.{Array}
 use Rattle.zpl_binding.specs.Regions.{no_region}
 
 -- What a name stands for: a scalar variable or an array, each by its place in the store, or the

@@ -1,9 +1,9 @@
 -- Expressions whose regions have been computed, and whose names are places of the store.
 use Rattle.std.specs.Prelude.{ℕ, ℤ, List, Option}
-use Rattle.zpl_nums.specs.declared.operators.Op.{Op}
-use Rattle.zpl_nums.specs.declared.operators.UnaryOp.{UnaryOp}
-use Rattle.zpl_nums.specs.declared.folds.Fold.{Fold}
-use Rattle.zpl_region.specs.declared.regions.Region.{Region}
+use Rattle.zpl_binding.specs.of_zpl_nums.declared.operators.Op.{Op}
+use Rattle.zpl_binding.specs.of_zpl_nums.declared.operators.UnaryOp.{UnaryOp}
+use Rattle.zpl_binding.specs.of_zpl_nums.declared.folds.Fold.{Fold}
+use Rattle.zpl_binding.specs.of_zpl_region.declared.regions.Region.{Region}
 use Rattle.zpl_meaning.specs.Context.{Over}
 
 mutual

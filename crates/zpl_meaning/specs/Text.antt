@@ -2,12 +2,12 @@
 use Rattle.std.specs.Prelude.{ℕ, suc, Bool, true, if◌then◌else◌, ℤ, List, [], ◌∷◌}
 use Rattle.std.specs.Prelude.{◌++◌, Option, Some}
 use Rattle.zpl_text.specs.Escapes.{unescaped}
-use Rattle.zpl_arrays.specs.Array.{element}
-use Rattle.zpl_arrays.specs.ArrayText.{number_text, truth_text, array_text}
-use Rattle.zpl_tree.specs.Syntax.{Expr, Item, Str, Value, Base, Boolean}
-use Rattle.zpl_names.specs.Kinds.{Rank}
-use Rattle.zpl_names.specs.Sites.{Printed}
-use Rattle.zpl_names.specs.Types.{type_of}
+use Rattle.zpl_binding.specs.of_zpl_arrays.Array.{element}
+use Rattle.zpl_binding.specs.of_zpl_arrays.ArrayText.{number_text, truth_text, array_text}
+use Rattle.zpl_binding.specs.of_zpl_tree.Syntax.{Expr, Item, Str, Value, Base, Boolean}
+use Rattle.zpl_binding.specs.of_zpl_names.Kinds.{Rank}
+use Rattle.zpl_binding.specs.of_zpl_names.Sites.{Printed}
+use Rattle.zpl_binding.specs.of_zpl_names.Types.{type_of}
 use Rattle.zpl_meaning.specs.Computed.{Computed, Gives, computed_then, both_then}
 use Rattle.zpl_meaning.specs.Store.{Store}
 use Rattle.zpl_meaning.specs.Context.{over_at, Place, rank_in}

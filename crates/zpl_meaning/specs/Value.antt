@@ -1,9 +1,9 @@
 -- The value of an expression of rank 0 without operators over regions: a bound of a region is one.
 use Rattle.std.specs.Prelude.{ℤ, pos, Option, Some, None}
-use Rattle.zpl_nums.specs.Integer.{truth, negated, absolute, denied}
-use Rattle.zpl_nums.specs.Op.{applied}
-use Rattle.zpl_tree.specs.Syntax.{Expr, Number, Truth, Coord, Named, Shifted, Around, Remap, Call}
-use Rattle.zpl_tree.specs.Syntax.{Paren, Neg, Not, Abs, Pair, Reduce, Scan, Flood}
+use Rattle.zpl_binding.specs.of_zpl_nums.Integer.{truth, negated, absolute, denied}
+use Rattle.zpl_binding.specs.of_zpl_nums.Op.{applied}
+use Rattle.zpl_binding.specs.of_zpl_tree.Syntax.{Expr, Number, Truth, Coord, Named, Shifted, Around, Remap, Call}
+use Rattle.zpl_binding.specs.of_zpl_tree.Syntax.{Paren, Neg, Not, Abs, Pair, Reduce, Scan, Flood}
 use Rattle.zpl_meaning.specs.Computed.{Computed, Gives, computed_then, both_then, given}
 use Rattle.zpl_meaning.specs.Store.{Thing, Scalar, ArrayAt, Fixed, Environment, Store, thing_of}
 use Rattle.zpl_meaning.specs.Store.{scalar_at}

@@ -1,9 +1,9 @@
 -- Variables that are declared: each has the next place in the store.
 use Rattle.std.specs.Prelude.{ℤ, pos, List, [], ◌∷◌, ◌++◌, length}
-use Rattle.zpl_region.specs.declared.regions.Region.{Region}
-use Rattle.zpl_arrays.specs.Array.{Array, array_of}
-use Rattle.zpl_tree.specs.Syntax.{Name, Inner, Bracket, NoBracket, Bracketed, Define, VarDef, Decl}
-use Rattle.zpl_tree.specs.Syntax.{Config, Constant, Regions, Directions, Vars, Defined}
+use Rattle.zpl_binding.specs.of_zpl_region.declared.regions.Region.{Region}
+use Rattle.zpl_binding.specs.of_zpl_arrays.Array.{Array, array_of}
+use Rattle.zpl_binding.specs.of_zpl_tree.Syntax.{Name, Inner, Bracket, NoBracket, Bracketed, Define, VarDef, Decl}
+use Rattle.zpl_binding.specs.of_zpl_tree.Syntax.{Config, Constant, Regions, Directions, Vars, Defined}
 use Rattle.zpl_binding.specs.Outcome.{value_or, outcome_of}
 use Rattle.zpl_binding.specs.Regions.{Known, no_region}
 use Rattle.zpl_binding.specs.Storages.{Border, home_of, storage_of}

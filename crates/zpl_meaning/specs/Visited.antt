@@ -1,12 +1,12 @@
 -- The places at which the statements of a program are run, whatever values variables have.
 use Rattle.std.specs.Prelude.{◌≡◌, ℕ, ℤ, List, [], ◌∷◌, ◌++◌, length, Some, None, Contains}
-use Rattle.zpl_tree.specs.Syntax.{Name, Call, Exprs, Prefix, Program, Stmt, Prefixed, Stmts}
-use Rattle.zpl_tree.specs.Syntax.{NoStmt, ThenStmt, Form, Assign, Invoke, Block, If, While, Repeat}
-use Rattle.zpl_tree.specs.Syntax.{For, Border, Write, Return, Tested, Arms, NoArm, ThenArm}
-use Rattle.zpl_tree.specs.Syntax.{Otherwise, NoElse, Else}
-use Rattle.zpl_names.specs.Kinds.{Formal}
-use Rattle.zpl_names.specs.Scope.{kind_of}
-use Rattle.zpl_names.specs.Declared.{Routine, routine_named, entry_of}
+use Rattle.zpl_binding.specs.of_zpl_tree.Syntax.{Name, Call, Exprs, Prefix, Program, Stmt, Prefixed, Stmts}
+use Rattle.zpl_binding.specs.of_zpl_tree.Syntax.{NoStmt, ThenStmt, Form, Assign, Invoke, Block, If, While, Repeat}
+use Rattle.zpl_binding.specs.of_zpl_tree.Syntax.{For, Border, Write, Return, Tested, Arms, NoArm, ThenArm}
+use Rattle.zpl_binding.specs.of_zpl_tree.Syntax.{Otherwise, NoElse, Else}
+use Rattle.zpl_binding.specs.of_zpl_names.Kinds.{Formal}
+use Rattle.zpl_binding.specs.of_zpl_names.Scope.{kind_of}
+use Rattle.zpl_binding.specs.of_zpl_names.Declared.{Routine, routine_named, entry_of}
 use Rattle.zpl_binding.specs.Settings.{Setting}
 use Rattle.zpl_binding.specs.Declarations.{known_of}
 use Rattle.zpl_binding.specs.Storages.{borders_of}

@@ -1,11 +1,11 @@
 -- When a loop wants a turn more than it may make; and statements that have no loop.
 use Rattle.std.specs.Prelude.{◌≡◌, ◌≢◌, ℕ, zero, suc, Bool, true, false, ℤ, List, All, Contains}
-use Rattle.zpl_nums.specs.declared.ends.End.TheVariants.{Done, More}
-use Rattle.zpl_nums.specs.Integer.{is_true}
-use Rattle.zpl_tree.specs.Syntax.{Stmt, Prefixed, Stmts, NoStmt, ThenStmt, Form, Assign, Invoke}
-use Rattle.zpl_tree.specs.Syntax.{Block, If, While, Repeat, For, Border, Write, Return, Arm, Tested}
-use Rattle.zpl_tree.specs.Syntax.{Arms, NoArm, ThenArm, Otherwise, NoElse, Else, Program}
-use Rattle.zpl_names.specs.Declared.{routines_of}
+use Rattle.zpl_binding.specs.of_zpl_nums.declared.ends.End.TheVariants.{Done, More}
+use Rattle.zpl_binding.specs.of_zpl_nums.Integer.{is_true}
+use Rattle.zpl_binding.specs.of_zpl_tree.Syntax.{Stmt, Prefixed, Stmts, NoStmt, ThenStmt, Form, Assign, Invoke}
+use Rattle.zpl_binding.specs.of_zpl_tree.Syntax.{Block, If, While, Repeat, For, Border, Write, Return, Arm, Tested}
+use Rattle.zpl_binding.specs.of_zpl_tree.Syntax.{Arms, NoArm, ThenArm, Otherwise, NoElse, Else, Program}
+use Rattle.zpl_binding.specs.of_zpl_names.Declared.{routines_of}
 use Rattle.zpl_meaning.specs.Computed.{Gives}
 use Rattle.zpl_meaning.specs.Store.{Store}
 use Rattle.zpl_meaning.specs.Outcome.{Outcome, Test, Count, is_past, next_value}

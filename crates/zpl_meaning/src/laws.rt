@@ -1,15 +1,15 @@
 //! The laws of the meaning.
 ghost use Rattle.std.specs.Prelude.{◌≡◌, ◌≢◌, ◌≤◌, ◌↔◌, ◌+◌, ◌∷◌, ℕ, ℤ, List, None, Contains};
 ghost use Rattle.zpl_lists.specs.Front.{IsFrontOf};
-ghost use Rattle.zpl_nums.specs.declared.ends.End.TheVariants.{More, Trap};
-ghost use Rattle.zpl_nums.specs.declared.ends.TrapKind.{TrapKind};
-ghost use Rattle.zpl_tree.specs.Syntax.{Assign, Call, Expr, Exprs, For, ForHead, Form, Invoke};
-ghost use Rattle.zpl_tree.specs.Syntax.{Name, Prefix, Prefixed, Program, Stmt, Stmts};
-ghost use Rattle.zpl_names.specs.Counts.{expr_nodes};
-ghost use Rattle.zpl_names.specs.Reached.{longest_chain};
-ghost use Rattle.zpl_names.specs.Accepted.{IsFaultless};
+ghost use Rattle.zpl_binding.specs.of_zpl_nums.declared.ends.End.TheVariants.{More, Trap};
+ghost use Rattle.zpl_binding.specs.of_zpl_nums.declared.ends.TrapKind.{TrapKind};
+ghost use Rattle.zpl_binding.specs.of_zpl_tree.Syntax.{Assign, Call, Expr, Exprs, For, ForHead, Form, Invoke};
+ghost use Rattle.zpl_binding.specs.of_zpl_tree.Syntax.{Name, Prefix, Prefixed, Program, Stmt, Stmts};
+ghost use Rattle.zpl_binding.specs.of_zpl_names.Counts.{expr_nodes};
+ghost use Rattle.zpl_binding.specs.of_zpl_names.Reached.{longest_chain};
+ghost use Rattle.zpl_binding.specs.of_zpl_names.Accepted.{IsFaultless};
 ghost use Rattle.zpl_binding.specs.Settings.{Setting};
-ghost use Rattle.zpl_names.specs.Sites.{Role};
+ghost use Rattle.zpl_binding.specs.of_zpl_names.Sites.{Role};
 ghost use Rattle.zpl_meaning.specs.Store.{Store};
 ghost use Rattle.zpl_meaning.specs.Context.{Place, Setup};
 ghost use Rattle.zpl_meaning.specs.Value.{value_of};
@@ -31,18 +31,18 @@ ghost use Rattle.zpl_meaning.specs.Wanting.{WhileWants};
 ghost use Rattle.zpl_meaning.specs.Program.{mean_of, outcome_of, steps_of};
 ghost use Rattle.zpl_meaning.specs.Depth.{outcome_down};
 ghost use Rattle.zpl_meaning.specs.Given.{IsGiven};
-ghost use Rattle.zpl_region.specs.declared.regions.Region.{Region};
+ghost use Rattle.zpl_binding.specs.of_zpl_region.declared.regions.Region.{Region};
 ghost use Rattle.zpl_binding.specs.Outcome.{outcome_of as value_named};
 ghost use Rattle.zpl_binding.specs.Vectors.{vector_of};
 ghost use Rattle.zpl_binding.specs.Declarations.{known_of};
 ghost use Rattle.zpl_binding.specs.Storages.{arrays_of, borders_of, home_of, Shaped, storage_of};
 ghost use Rattle.zpl_binding.specs.Bound.{IsAcceptedWith, vectors_in};
-ghost use Rattle.zpl_tree.specs.Grammar.{IsProgram};
+ghost use Rattle.zpl_binding.specs.of_zpl_tree.Grammar.{IsProgram};
 ghost use Rattle.zpl_meaning.specs.Proper.{IsProperStmt};
 ghost use Rattle.zpl_meaning.specs.Visited.{first_setup, IsVisited, IsVisitedCall};
 
 use zpl_binding::accepted_settings_bind;
-use zpl_names::{
+use zpl_binding::zpl_names::{
     declared_ranks_are_at_most_three, faultless_programs_are_shallow,
     faultless_programs_have_faultless_sites, faultless_programs_leave_nothing_open,
     procedures_are_there, ranks_are_at_most_three,

@@ -13,3 +13,5 @@ pub use laws::{
     scalars_have_their_values, traps_leave_nothing_behind, visited_statements_make_visited_calls,
     what_is_computed_has_a_value,
 };
+pub use zpl_binding;
+pub use zpl_binding::{zpl_arrays, zpl_names, zpl_region, zpl_tree};

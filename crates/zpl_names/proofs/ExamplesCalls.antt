@@ -1,8 +1,8 @@
 -- Calls, results and the entry procedure.
 use Rattle.std.proofs.Common.{◌≡◌, true, false, [], ◌∷◌, Some, None, pos, codes, refl}
-use Rattle.zpl_nums.specs.declared.operators.Op.TheVariants as op
-use Rattle.zpl_nums.specs.declared.folds.Fold.TheVariants as fold
-use Rattle.zpl_nums.specs.declared.ends.Border.TheVariants as ends
+use Rattle.zpl_tree.specs.of_zpl_nums.declared.operators.Op.TheVariants as op
+use Rattle.zpl_tree.specs.of_zpl_nums.declared.folds.Fold.TheVariants as fold
+use Rattle.zpl_tree.specs.of_zpl_nums.declared.ends.Border.TheVariants as ends
 use Rattle.zpl_tree.specs.Syntax.{Number, Truth, Coord, Named, Shifted, Call, Neg, Pair, Reduce, NoExpr, ThenExpr, Vector, NamedRegion, Rexpr, Dims, NoBracket, Bracketed, NoPost, Span, NoDim, ThenDim, Value, Prefixed, NoStmt, ThenStmt, Assign, Invoke, Block, If, For, Border, Write, Return, Tested, NoArm, ThenArm, NoElse, Integer, Boolean, Constant, Vars, Defined}
 use Rattle.zpl_names.specs.Accepted.{UnknownName, NotAssignable, Arguments, Recursion, ReturnPlace, CallPlace, NoEntry, RankUnknown}
 use Rattle.zpl_names.proofs.Trees.{name, faults_of, statements, declared}

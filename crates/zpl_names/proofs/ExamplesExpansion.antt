@@ -1,10 +1,10 @@
 -- The expanded program.
 use Rattle.std.proofs.Common.{◌≡◌, true, false, [], ◌∷◌, Some, None, pos, codes, refl}
-use Rattle.zpl_nums.specs.declared.operators.Op.TheVariants as op
-use Rattle.zpl_nums.specs.declared.folds.Fold.TheVariants as fold
+use Rattle.zpl_tree.specs.of_zpl_nums.declared.operators.Op.TheVariants as op
+use Rattle.zpl_tree.specs.of_zpl_nums.declared.folds.Fold.TheVariants as fold
 use Rattle.zpl_tree.specs.Syntax.{Number, Named, Shifted, Around, Pair, Reduce, NoExpr, ThenExpr, NamedDir, NamedRegion, Rexpr, Dims, NoBracket, Bracketed, NoPost, Span, NoDim, ThenDim, Prefixed, NoStmt, ThenStmt, Assign, Invoke, Block, If, While, Repeat, Tested, NoArm, ThenArm, NoElse, Integer, Boolean, Regions, Directions, Vars, Defined, Program}
 use Rattle.zpl_names.specs.Expansion.{expanded_statements, expanded_nodes, expanded_tokens, called_names, expanded_arrays, expanded_shifts, expanded_copies, plain_tokens, source_size, other_size, shattered_loops}
-use Rattle.zpl_nums.specs.declared.ends.Border.TheVariants as edge
+use Rattle.zpl_tree.specs.of_zpl_nums.declared.ends.Border.TheVariants as edge
 use Rattle.zpl_tree.specs.Syntax.{Border, One, Paren, Vector}
 use Rattle.zpl_names.specs.Counts.{stmt_count, stmt_nodes}
 use Rattle.zpl_names.specs.Reached.{longest_chain}

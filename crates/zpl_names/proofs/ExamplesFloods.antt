@@ -1,8 +1,8 @@
 -- Flood dimensions.
 use Rattle.std.proofs.Common.{◌≡◌, true, false, [], ◌∷◌, Some, None, pos, codes, refl}
-use Rattle.zpl_nums.specs.declared.operators.Op.TheVariants as op
-use Rattle.zpl_nums.specs.declared.folds.Fold.TheVariants as fold
-use Rattle.zpl_nums.specs.declared.ends.Border.TheVariants as ends
+use Rattle.zpl_tree.specs.of_zpl_nums.declared.operators.Op.TheVariants as op
+use Rattle.zpl_tree.specs.of_zpl_nums.declared.folds.Fold.TheVariants as fold
+use Rattle.zpl_tree.specs.of_zpl_nums.declared.ends.Border.TheVariants as ends
 use Rattle.zpl_tree.specs.Syntax.{Number, Coord, Named, Around, Remap, Paren, Pair, Reduce, Scan, Flood, NoExpr, ThenExpr, NamedDir, Vector, NamedRegion, Ditto, Rexpr, Dims, NoBracket, Bracketed, NoPost, ThenPost, Blank, Star, One, Span, NoDim, ThenDim, Value, Prefixed, NoStmt, ThenStmt, Assign, Invoke, Block, Border, Write, Defined}
 use Rattle.zpl_names.specs.Accepted.{FloodClash}
 use Rattle.zpl_names.proofs.Trees.{name, faults_of, statements}

@@ -1,7 +1,7 @@
 -- Masks and border statements.
 use Rattle.std.proofs.Common.{◌≡◌, true, false, [], ◌∷◌, Some, None, pos, codes, refl}
-use Rattle.zpl_nums.specs.declared.folds.Fold.TheVariants as fold
-use Rattle.zpl_nums.specs.declared.ends.Border.TheVariants as ends
+use Rattle.zpl_tree.specs.of_zpl_nums.declared.folds.Fold.TheVariants as fold
+use Rattle.zpl_tree.specs.of_zpl_nums.declared.ends.Border.TheVariants as ends
 use Rattle.zpl_tree.specs.Syntax.{Number, Named, Reduce, NoExpr, ThenExpr, Vector, NamedRegion, Ditto, Rexpr, Dims, NoBracket, NoPost, ThenPost, Span, NoDim, ThenDim, Value, Prefixed, NoStmt, ThenStmt, Invoke, Block, Border, Write, Defined}
 use Rattle.zpl_names.specs.Accepted.{MaskPlace, BorderForm}
 use Rattle.zpl_names.proofs.Trees.{name, faults_of, statements}

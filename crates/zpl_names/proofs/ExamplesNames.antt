@@ -1,7 +1,7 @@
 -- Names: what is declared where, and what a place takes.
 use Rattle.std.proofs.Common.{◌≡◌, true, false, [], ◌∷◌, Some, None, pos, codes, refl}
-use Rattle.zpl_nums.specs.declared.operators.Op.TheVariants as op
-use Rattle.zpl_nums.specs.declared.ends.Border.TheVariants as ends
+use Rattle.zpl_tree.specs.of_zpl_nums.declared.operators.Op.TheVariants as op
+use Rattle.zpl_tree.specs.of_zpl_nums.declared.ends.Border.TheVariants as ends
 use Rattle.zpl_tree.specs.Syntax.{Number, Truth, Named, Shifted, Around, Remap, Pair, NoExpr, ThenExpr, NamedDir, Vector, NamedRegion, Rexpr, Dims, NoBracket, Bracketed, NoPost, One, Span, NoDim, ThenDim, Value, Prefixed, NoStmt, ThenStmt, Assign, Invoke, Block, For, Border, Write, Return, Integer, Boolean, Other, Config, Constant, Regions, Directions, Vars, Defined}
 use Rattle.zpl_names.specs.Accepted.{UnknownName, TwiceNamed, UnknownType, MaskPlace}
 use Rattle.zpl_names.proofs.Trees.{name, faults_of, statements, declared}

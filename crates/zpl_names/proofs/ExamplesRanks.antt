@@ -1,8 +1,8 @@
 -- Ranks: where two meet, and where none is given.
 use Rattle.std.proofs.Common.{◌≡◌, true, false, [], ◌∷◌, Some, None, pos, codes, refl}
-use Rattle.zpl_nums.specs.declared.operators.Op.TheVariants as op
-use Rattle.zpl_nums.specs.declared.folds.Fold.TheVariants as fold
-use Rattle.zpl_nums.specs.declared.ends.Border.TheVariants as ends
+use Rattle.zpl_tree.specs.of_zpl_nums.declared.operators.Op.TheVariants as op
+use Rattle.zpl_tree.specs.of_zpl_nums.declared.folds.Fold.TheVariants as fold
+use Rattle.zpl_tree.specs.of_zpl_nums.declared.ends.Border.TheVariants as ends
 use Rattle.zpl_tree.specs.Syntax.{Number, Coord, Named, Shifted, Around, Remap, Call, Paren, Pair, Reduce, Scan, Flood, NoExpr, ThenExpr, NamedDir, Vector, NamedRegion, Ditto, Rexpr, Dims, NoBracket, Bracketed, NoPost, ThenPost, One, Span, NoDim, ThenDim, Value, Prefixed, NoStmt, ThenStmt, Assign, Invoke, Block, If, For, Border, Write, Return, Tested, NoArm, ThenArm, NoElse, Integer, Constant, Regions, Defined}
 use Rattle.zpl_names.specs.Accepted.{UnknownName, RankClash, NoRegion, RankUnknown}
 use Rattle.zpl_names.proofs.Trees.{name, faults_of, statements, declared}

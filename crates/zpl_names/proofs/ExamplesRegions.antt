@@ -1,7 +1,7 @@
 -- Regions: where there is no current one.
 use Rattle.std.proofs.Common.{◌≡◌, true, false, [], ◌∷◌, None, pos, codes, refl}
-use Rattle.zpl_nums.specs.declared.operators.Op.TheVariants as op
-use Rattle.zpl_nums.specs.declared.folds.Fold.TheVariants as fold
+use Rattle.zpl_tree.specs.of_zpl_nums.declared.operators.Op.TheVariants as op
+use Rattle.zpl_tree.specs.of_zpl_nums.declared.folds.Fold.TheVariants as fold
 use Rattle.zpl_tree.specs.Syntax.{Number, Named, Shifted, Paren, Pair, Reduce, Scan, Flood, NoExpr, ThenExpr, Vector, NamedRegion, Ditto, Rexpr, Dims, NoBracket, Bracketed, NoPost, Blank, Star, One, Span, NoDim, ThenDim, Str, Value, Prefixed, NoStmt, ThenStmt, Assign, Invoke, Block, If, Write, Tested, NoArm, ThenArm, NoElse, Integer, Constant, Regions, Directions, Defined}
 use Rattle.zpl_names.specs.Accepted.{NoRegion, RankUnknown}
 use Rattle.zpl_names.proofs.Trees.{name, faults_of, statements, declared}

@@ -1,7 +1,7 @@
 -- Shattered statements.
 use Rattle.std.proofs.Common.{◌≡◌, true, false, [], ◌∷◌, Some, None, pos, codes, refl}
-use Rattle.zpl_nums.specs.declared.operators.Op.TheVariants as op
-use Rattle.zpl_nums.specs.declared.folds.Fold.TheVariants as fold
+use Rattle.zpl_tree.specs.of_zpl_nums.declared.operators.Op.TheVariants as op
+use Rattle.zpl_tree.specs.of_zpl_nums.declared.folds.Fold.TheVariants as fold
 use Rattle.zpl_tree.specs.Syntax.{Number, Truth, Coord, Named, Shifted, Around, Remap, Call, Pair, Reduce, NoExpr, ThenExpr, NamedDir, NamedRegion, Rexpr, NoBracket, NoPost, Value, Prefixed, NoStmt, ThenStmt, Assign, Block, If, While, Repeat, For, Write, Return, Tested, NoArm, ThenArm, NoElse, Else, Integer, Defined}
 use Rattle.zpl_names.specs.Accepted.{ShatterBody, CallPlace}
 use Rattle.zpl_names.proofs.Trees.{name, faults_of, statements}

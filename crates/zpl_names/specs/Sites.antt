@@ -1,7 +1,7 @@
 -- The places of a text at which something can be wrong, each with what is in reach there. One walk
 -- lists them in text order; each fault is then a function of a site.
 use Rattle.std.specs.Prelude.{ℕ, Bool, true, false, if◌then◌else◌, List, [], ◌∷◌, ◌++◌, map, flat_map, filter_map, Option, Some, None, option_to_list}
-use Rattle.zpl_nums.specs.declared.operators.Op.{Op}
+use Rattle.zpl_tree.specs.of_zpl_nums.declared.operators.Op.{Op}
 use Rattle.zpl_tree.specs.Syntax.{Name, Pre, RegionBase, NamedRegion, Ditto, Expr, Number, Truth, Coord, Named, Shifted, Call, Paren, Neg, Not, Abs, Pair, Reduce, Scan, Flood, Exprs, NoExpr, ThenExpr, Dir, NamedDir, Vector, Inner, Rexpr, Dims, Bracket, NoBracket, Bracketed, Posts, NoPost, ThenPost, DimText, Blank, Star, One, Span, DimTexts, NoDim, ThenDim, Mask, Prefix, ForHead, Item, Str, Value, Stmt, Prefixed, Stmts, NoStmt, ThenStmt, Form, Assign, Invoke, Block, If, While, Repeat, For, Border, Write, Return, Arm, Tested, Arms, NoArm, ThenArm, Otherwise, NoElse, Else, Base, Define, RegionDef, DirDef, VarDef, Param, Decl, Config, Constant, Regions, Directions, Vars, Defined, Program}
 use Rattle.zpl_tree.specs.Syntax.{Around, Remap}
 use Rattle.zpl_tree.specs.Syntax as plain

@@ -1,9 +1,9 @@
 -- The base type of expressions. It follows from the text alone.
 use Rattle.std.specs.Prelude.{Bool, true, false, ◌&&◌, ◌||◌, Option, Some, None}
-use Rattle.zpl_nums.specs.declared.operators.Op.{Op}
-use Rattle.zpl_nums.specs.declared.operators.Op.TheVariants as op
-use Rattle.zpl_nums.specs.declared.folds.Fold.{Fold}
-use Rattle.zpl_nums.specs.declared.folds.Fold.TheVariants as fold
+use Rattle.zpl_tree.specs.of_zpl_nums.declared.operators.Op.{Op}
+use Rattle.zpl_tree.specs.of_zpl_nums.declared.operators.Op.TheVariants as op
+use Rattle.zpl_tree.specs.of_zpl_nums.declared.folds.Fold.{Fold}
+use Rattle.zpl_tree.specs.of_zpl_nums.declared.folds.Fold.TheVariants as fold
 use Rattle.zpl_tree.specs.Syntax.{Expr, Number, Truth, Coord, Named, Shifted, Call, Paren, Neg, Not, Abs, Pair, Reduce, Scan, Flood, Exprs, NoExpr, ThenExpr, Base, Integer, Boolean}
 use Rattle.zpl_tree.specs.Syntax.{Around, Remap}
 use Rattle.zpl_names.specs.Kinds.{Kind, Config, Constant, Scalar, Array, Procedure}

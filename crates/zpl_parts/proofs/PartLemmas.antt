@@ -2,11 +2,11 @@
 use Rattle.std.proofs.Common.{◌≡◌, ◌≢◌, ℕ, suc, ◌==◌, ◌<◌, Bool, true, false, List, [], ◌∷◌, ◌++◌, map, length, refl, sym, ◌∙◌, ap, if◌then◌else◌, arith}
 use Rattle.std.proofs.lemmas.List.{append-nil, map-append}
 use borrow.Author.Tests.{eqb-true}
-use Rattle.zpl_tree.specs.Syntax as plain
-use Rattle.zpl_tree.specs.Syntax.{NoPost, NamedRegion, Ditto}
-use Rattle.zpl_tree.specs.View.{posts_of, pre_of, base_of}
-use Rattle.zpl_tree.specs.declared.regions.Post.{Post}
-use Rattle.zpl_tree.specs.declared.regions.Pre.{Pre}
+use Rattle.zpl_binding.specs.of_zpl_tree.Syntax as plain
+use Rattle.zpl_binding.specs.of_zpl_tree.Syntax.{NoPost, NamedRegion, Ditto}
+use Rattle.zpl_binding.specs.of_zpl_tree.View.{posts_of, pre_of, base_of}
+use Rattle.zpl_binding.specs.of_zpl_tree.declared.regions.Post.{Post}
+use Rattle.zpl_binding.specs.of_zpl_tree.declared.regions.Pre.{Pre}
 use Rattle.zpl_binding.specs.Storages.{Border, innermost}
 use Rattle.zpl_parts.specs.Part.{Part, BorderPart}
 use Rattle.zpl_parts.specs.Walk.{border_parts}

@@ -4,14 +4,14 @@ use Rattle.std.specs.List.{flat_map}
 use Rattle.std.proofs.lemmas.List.{append_assoc}
 use Rattle.std.proofs.lemmas.List.Concat.{flat_map-append}
 use Rattle.zpl_nums.specs.declared.operators.Op.{Op}
-use Rattle.zpl_tree.specs.Syntax.{Name, Pre, RegionBase, NamedRegion, Ditto, Expr, Number, Truth, Coord, Named, Shifted, Around, Remap, Call, Paren, Neg, Not, Abs, Pair, Reduce, Scan, Flood, Exprs, NoExpr, ThenExpr, Dir, NamedDir, Vector, Inner, Rexpr, Dims, Bracket, NoBracket, Bracketed, Posts, NoPost, ThenPost, DimText, Blank, Star, One, Span, DimTexts, NoDim, ThenDim, Mask, Prefix, ForHead, Item, Str, Value, Stmt, Prefixed, Stmts, NoStmt, ThenStmt, Form, Assign, Invoke, Block, If, While, Repeat, For, Border, Write, Return, Arm, Tested, Arms, NoArm, ThenArm, Otherwise, NoElse, Else, Base, Define, RegionDef, DirDef, VarDef, Param, Procedure, Decl, Config, Constant, Regions, Directions, Vars, Defined, Program}
-use Rattle.zpl_names.specs.Kinds as kind
-use Rattle.zpl_names.specs.Kinds.{Rank}
-use Rattle.zpl_names.specs.Scope.{Entry, Scope}
-use Rattle.zpl_names.specs.Ranks.{inner_rank, own_rank, is_index, mask_rank}
-use Rattle.zpl_names.specs.Shapes.{Shapes, unknown_shapes}
-use Rattle.zpl_names.specs.Declared.{Routine, routine_of, scope_of, declaring, head_scope, with_define, with_region, with_direction, with_variables, with_decl}
-use Rattle.zpl_names.specs.Sites.{Reach, in_declaration, in_body, in_vector, over_source, under_prefix, under_prefixes, inside, Role, Bound, Component, Limit, Result, Test, Printed, Actual, Operand, Assigned, Initial, whole_rank, Site, AtWhole, AtExpr, AtCall, AtNamed, AtDir, AtRegion, AtMask, AtStmt, AtBase, AtPosts, AtProcedure, index_sites, expr_sites, exprs_sites, actuals_sites, dir_sites, components_sites, region_sites, posts_sites, dims_sites, dim_sites, whole_sites, prefix_sites, prefixes_sites, value_sites, item_sites, step_sites, stmt_sites, stmts_sites, form_sites, arms_sites, otherwise_sites, body_sites, outermost_sites, routine_sites, arms_rank, test_rank, shape_sites, define_sites, region_def_sites, direction_sites, variable_sites, param_sites, head_sites, each_sites, decl_sites, text_sites}
+use Rattle.zpl_binding.specs.of_zpl_tree.Syntax.{Name, Pre, RegionBase, NamedRegion, Ditto, Expr, Number, Truth, Coord, Named, Shifted, Around, Remap, Call, Paren, Neg, Not, Abs, Pair, Reduce, Scan, Flood, Exprs, NoExpr, ThenExpr, Dir, NamedDir, Vector, Inner, Rexpr, Dims, Bracket, NoBracket, Bracketed, Posts, NoPost, ThenPost, DimText, Blank, Star, One, Span, DimTexts, NoDim, ThenDim, Mask, Prefix, ForHead, Item, Str, Value, Stmt, Prefixed, Stmts, NoStmt, ThenStmt, Form, Assign, Invoke, Block, If, While, Repeat, For, Border, Write, Return, Arm, Tested, Arms, NoArm, ThenArm, Otherwise, NoElse, Else, Base, Define, RegionDef, DirDef, VarDef, Param, Procedure, Decl, Config, Constant, Regions, Directions, Vars, Defined, Program}
+use Rattle.zpl_binding.specs.of_zpl_names.Kinds as kind
+use Rattle.zpl_binding.specs.of_zpl_names.Kinds.{Rank}
+use Rattle.zpl_binding.specs.of_zpl_names.Scope.{Entry, Scope}
+use Rattle.zpl_binding.specs.of_zpl_names.Ranks.{inner_rank, own_rank, is_index, mask_rank}
+use Rattle.zpl_binding.specs.of_zpl_names.Shapes.{Shapes, unknown_shapes}
+use Rattle.zpl_binding.specs.of_zpl_names.Declared.{Routine, routine_of, scope_of, declaring, head_scope, with_define, with_region, with_direction, with_variables, with_decl}
+use Rattle.zpl_binding.specs.of_zpl_names.Sites.{Reach, in_declaration, in_body, in_vector, over_source, under_prefix, under_prefixes, inside, Role, Bound, Component, Limit, Result, Test, Printed, Actual, Operand, Assigned, Initial, whole_rank, Site, AtWhole, AtExpr, AtCall, AtNamed, AtDir, AtRegion, AtMask, AtStmt, AtBase, AtPosts, AtProcedure, index_sites, expr_sites, exprs_sites, actuals_sites, dir_sites, components_sites, region_sites, posts_sites, dims_sites, dim_sites, whole_sites, prefix_sites, prefixes_sites, value_sites, item_sites, step_sites, stmt_sites, stmts_sites, form_sites, arms_sites, otherwise_sites, body_sites, outermost_sites, routine_sites, arms_rank, test_rank, shape_sites, define_sites, region_def_sites, direction_sites, variable_sites, param_sites, head_sites, each_sites, decl_sites, text_sites}
 use Rattle.zpl_parts.specs.Part.{Part, VectorPart, BorderPart, AroundPart, CallPart, parts_at}
 use Rattle.zpl_parts.specs.Walk.{vector_parts, border_parts, expr_parts, exprs_parts, dir_parts, bracket_parts, inner_parts, posts_parts, dims_parts, dim_parts, prefix_parts, step_parts, head_parts, item_parts, stmt_parts, stmts_parts, form_parts, arms_parts, arm_parts, otherwise_parts, define_parts, region_def_parts, direction_parts, variable_parts, param_parts, procedure_parts, decl_parts, text_parts}
 

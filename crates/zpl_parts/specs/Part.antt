@@ -1,7 +1,7 @@
 -- What binding looks at in a text: vectors, borders of regions, reads that wrap round, and calls.
 use Rattle.std.specs.Prelude.{List, [], ◌∷◌, map, if◌then◌else◌, Option, Some, None}
-use Rattle.zpl_tree.specs.Syntax.{Name, Exprs, Dir, Vector, NamedRegion, Rexpr, NoPost, Around, Expr}
-use Rattle.zpl_names.specs.Sites.{Site, AtExpr, AtCall, AtDir, AtRegion}
+use Rattle.zpl_binding.specs.of_zpl_tree.Syntax.{Name, Exprs, Dir, Vector, NamedRegion, Rexpr, NoPost, Around, Expr}
+use Rattle.zpl_binding.specs.of_zpl_names.Sites.{Site, AtExpr, AtCall, AtDir, AtRegion}
 use Rattle.zpl_binding.specs.Storages.{Border, innermost}
 
 pub data Part : Type 0 where

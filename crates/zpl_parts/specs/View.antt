@@ -1,6 +1,6 @@
 -- The parts in memory, seen as plain parts.
 use Rattle.std.specs.Prelude.{List, map}
-use Rattle.zpl_tree.specs.View.{name_of, dir_of, exprs_of}
+use Rattle.zpl_binding.specs.of_zpl_tree.View.{name_of, dir_of, exprs_of}
 use Rattle.zpl_parts.specs.declared.parts.Part.{Part}
 use Rattle.zpl_parts.specs.declared.parts.Part.TheVariants.{Vector, Border, Around, Call}
 use Rattle.zpl_parts.specs.declared.parts.Parts.{Parts}

@@ -1,7 +1,7 @@
 //! The parts of declarations, and of a whole text.
 ghost use Rattle.std.specs.Prelude.{◌≡◌, ◌++◌, IfOk, OnOk, flat_map, map};
-ghost use Rattle.zpl_tree.specs.View.{decl_of, define_of, direction_of, param_of, procedure_of};
-ghost use Rattle.zpl_tree.specs.View.{region_of, syntax_of, var_of};
+ghost use Rattle.zpl_binding.specs.of_zpl_tree.View.{decl_of, define_of, direction_of, param_of, procedure_of};
+ghost use Rattle.zpl_binding.specs.of_zpl_tree.View.{region_of, syntax_of, var_of};
 ghost use Rattle.zpl_parts.specs.View.{seen};
 ghost use Rattle.zpl_parts.specs.Walk.{decl_parts, define_parts, direction_parts, param_parts};
 ghost use Rattle.zpl_parts.specs.Walk.{procedure_parts, region_def_parts, text_parts};

@@ -1,7 +1,7 @@
 //! The parts of expressions, directions and regions.
 ghost use Rattle.std.specs.Prelude.{◌≡◌, ◌++◌, OnOk};
-ghost use Rattle.zpl_tree.specs.View.{bracket_of, dim_of, dims_of, dir_of, expr_of, exprs_of};
-ghost use Rattle.zpl_tree.specs.View.{inner_of, posts_of};
+ghost use Rattle.zpl_binding.specs.of_zpl_tree.View.{bracket_of, dim_of, dims_of, dir_of, expr_of, exprs_of};
+ghost use Rattle.zpl_binding.specs.of_zpl_tree.View.{inner_of, posts_of};
 ghost use Rattle.zpl_parts.specs.View.{seen};
 ghost use Rattle.zpl_parts.specs.Walk.{bracket_parts, dim_parts, dims_parts, dir_parts, expr_parts};
 ghost use Rattle.zpl_parts.specs.Walk.{exprs_parts, inner_parts, posts_parts};

@@ -10,3 +10,4 @@ mod statements;
 pub use declarations::parts_of_text;
 pub use parts::{Part, Parts};
 pub use statements::parts_of_body;
+pub use zpl_tree;

@@ -1,6 +1,6 @@
 //! The parts of a text, and lists of them.
 ghost use Rattle.std.specs.Prelude.{◌≡◌, ◌∷◌, ◌++◌, [], OnOk, map};
-ghost use Rattle.zpl_tree.specs.View.{base_of, exprs_of, posts_of, pre_of};
+ghost use Rattle.zpl_binding.specs.of_zpl_tree.View.{base_of, exprs_of, posts_of, pre_of};
 ghost use Rattle.zpl_parts.specs.View.{part_of, seen};
 ghost use Rattle.zpl_parts.specs.Walk.{border_parts, vector_parts};
 

@@ -1,8 +1,8 @@
 //! The parts of statements.
 ghost use Rattle.std.specs.Prelude.{◌≡◌, ◌++◌, IfOk, OnOk, false, flat_map, map};
 ghost use Rattle.std.specs.Option.{option_map};
-ghost use Rattle.zpl_tree.specs.View.{arm_of, arms_of, expr_of, head_of, item_of, prefix_of};
-ghost use Rattle.zpl_tree.specs.View.{statement_of, stmt_of, stmts_of};
+ghost use Rattle.zpl_binding.specs.of_zpl_tree.View.{arm_of, arms_of, expr_of, head_of, item_of, prefix_of};
+ghost use Rattle.zpl_binding.specs.of_zpl_tree.View.{statement_of, stmt_of, stmts_of};
 ghost use Rattle.zpl_parts.specs.View.{seen};
 ghost use Rattle.zpl_parts.specs.Walk.{arm_parts, arms_parts, form_parts, head_parts, item_parts};
 ghost use Rattle.zpl_parts.specs.Walk.{prefix_parts, step_parts, stmt_parts, stmts_parts};

@@ -2,11 +2,11 @@
 //! simulates the grid.
 #![tactic(auto)]
 
-use call_answers::{Answer, told};
 use std::io::ErrorKind;
 use std::process::ExitCode;
 use std::rt::Env;
 use std::{env, io};
+use top_call::call_answers::{Answer, told};
 use top_call::zplgrid;
 use zpl_io::{DiskFiles, StdSink};
 

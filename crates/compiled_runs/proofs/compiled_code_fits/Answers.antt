@@ -3,7 +3,7 @@ use Rattle.std.proofs.lemmas.List.{length-map}
 use Rattle.node_form.specs.declared.tables.Tables.{Tables}
 use Rattle.node_emit.specs.Emit.{along_tree, emitted}
 use Rattle.zpl_claims.specs.Build.{Build}
-use Rattle.zpl_compile.specs.Compile.{emitted_for, plan_of}
+use Rattle.settled_runs.specs.of_zpl_compile.Compile.{emitted_for, plan_of}
 use Rattle.compiled_runs.proofs.compiled_code_fits.Goals as goal
 
 as_long : (build : Build) (plan : Tables) (tree : Bool)

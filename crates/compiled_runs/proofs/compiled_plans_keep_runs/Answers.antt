@@ -1,6 +1,6 @@
 use Rattle.node_form.specs.declared.tables.Tables.{Tables}
 use Rattle.zpl_lowering.specs.Tables.{flat_tables}
-use Rattle.zpl_compile.specs.Compile.{plan_of, settled}
+use Rattle.settled_runs.specs.of_zpl_compile.Compile.{plan_of, settled}
 use Rattle.compiled_runs.proofs.SharableLemmas.{plannable}
 use Rattle.compiled_runs.proofs.ShownLemmas.{code_shows, plan_shows}
 use Rattle.compiled_runs.proofs.compiled_plans_keep_runs.Goals as goal

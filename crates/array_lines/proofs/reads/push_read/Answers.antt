@@ -1,10 +1,10 @@
 use Rattle.std.proofs.Common.{◌≡◌, ◌<◌, ◌++◌, length, replicate, to_z, of_z, w64, ◌∙◌, ap, subst, arith, rules}
 use Rattle.std.specs.Result.{OnOk}
-use Rattle.zpl_region.specs.Ends.{tuple_count}
-use Rattle.zpl_region.specs.Region.{members}
-use Rattle.zpl_region.proofs.EndLemmas.{length-tuple_count}
-use Rattle.zpl_region.proofs.HullCode.{some_told}
-use Rattle.zpl_region.proofs.HullLemmas.{has_steps}
+use Rattle.region_places.specs.of_zpl_region.Ends.{tuple_count}
+use Rattle.region_places.specs.of_zpl_region.Region.{members}
+use Rattle.region_places.proofs.of_zpl_region.EndLemmas.{length-tuple_count}
+use Rattle.region_places.proofs.of_zpl_region.HullCode.{some_told}
+use Rattle.region_places.proofs.of_zpl_region.HullLemmas.{has_steps}
 use Rattle.array_lines.specs.Axis.{along}
 use Rattle.array_lines.specs.Read.{plane_values, values_at}
 use Rattle.array_lines.proofs.ReadLemmas.{plane_bound, read_nowhere, some_columns}

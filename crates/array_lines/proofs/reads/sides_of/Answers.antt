@@ -1,6 +1,6 @@
 use Rattle.std.proofs.Common.{refl, sym, ◌∙◌, arith, rules}
-use Rattle.zpl_region.specs.Dim.{IsDim, coordinates}
-use Rattle.zpl_region.proofs.ListLemmas.{cons_same}
+use Rattle.region_places.specs.of_zpl_region.Dim.{IsDim, coordinates}
+use Rattle.region_places.proofs.of_zpl_region.ListLemmas.{cons_same}
 use Rattle.array_lines.proofs.ReadLemmas.{each_of_three, map_three, three_of}
 use Rattle.array_lines.proofs.reads.sides_of.Goals as goal
 

@@ -1,10 +1,10 @@
 use Rattle.std.proofs.Common.{◌≡◌, get_or, pos, to_z, of_z, w64, refl, ◌∙◌, ap, arith, rules}
-use Rattle.zpl_region.specs.declared.dims.Dim.{Dim}
-use Rattle.zpl_region.specs.declared.dims.Dim.TheVariants.{Range}
-use Rattle.zpl_region.proofs.ListLemmas.{cons_same}
-use Rattle.zpl_arrays.specs.Around.{dim_around}
+use Rattle.region_places.specs.of_zpl_region.declared.dims.Dim.{Dim}
+use Rattle.region_places.specs.of_zpl_region.declared.dims.Dim.TheVariants.{Range}
+use Rattle.region_places.proofs.of_zpl_region.ListLemmas.{cons_same}
+use Rattle.region_places.specs.of_zpl_arrays.Around.{dim_around}
 use Rattle.array_lines.proofs.WayLemmas.{around_by_dims}
-use Rattle.zpl_region.proofs.HullCode.{each_some}
+use Rattle.region_places.proofs.of_zpl_region.HullCode.{each_some}
 use Rattle.array_lines.proofs.ways.ways_around.Goals as goal
 
 pub around-requires-clause-some : goal.around-requires-clause-some

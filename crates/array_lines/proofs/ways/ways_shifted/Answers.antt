@@ -1,9 +1,9 @@
 use Rattle.std.proofs.Common.{◌≡◌, if◌then◌else◌, get_or, pos, to_z, of_z, w64, refl, ◌∙◌, ap, arith, rules}
 use Rattle.std.specs.Prelude.{nat_lt}
-use Rattle.zpl_region.specs.declared.dims.Dim.{Dim}
-use Rattle.zpl_region.specs.declared.dims.Dim.TheVariants.{Range}
-use Rattle.zpl_region.specs.Dim.{coordinate_moved}
-use Rattle.zpl_region.proofs.ListLemmas.{cons_same}
+use Rattle.region_places.specs.of_zpl_region.declared.dims.Dim.{Dim}
+use Rattle.region_places.specs.of_zpl_region.declared.dims.Dim.TheVariants.{Range}
+use Rattle.region_places.specs.of_zpl_region.Dim.{coordinate_moved}
+use Rattle.region_places.proofs.of_zpl_region.ListLemmas.{cons_same}
 use Rattle.array_lines.proofs.WayLemmas.{moved_by_rank}
 use Rattle.array_lines.proofs.ways.ways_shifted.Goals as goal
 

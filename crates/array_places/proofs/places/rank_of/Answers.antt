@@ -1,6 +1,6 @@
 use Rattle.std.proofs.Common.{◌∙◌, ap, ap₂}
 use Rattle.zpl_tree.specs.View.{expr_of}
-use Rattle.zpl_names.specs.Ranks.{placed_rank}
+use Rattle.name_kinds.specs.of_zpl_names.Ranks.{placed_rank}
 use Rattle.name_kinds.specs.declared.parts.Part.{Part}
 use Rattle.name_kinds.specs.Reach.{scope_of}
 use Rattle.name_kinds.proofs.PartLemmas.{part-open, part-own}

@@ -3,9 +3,9 @@ use Rattle.zpl_tree.specs.Syntax as plain
 use Rattle.zpl_tree.specs.View.{base_of, dims_of, inner_of, posts_of, pre_of}
 use Rattle.zpl_tree.proofs.Views.{inner_of-Dims, rexpr_of-parts}
 use Rattle.zpl_tree.specs.declared.regions.Rexpr.{out-Rexpr}
-use Rattle.zpl_bind.proofs.RegionLemmas.{dims-count}
-use Rattle.zpl_meaning.specs.Regions.{inner_over}
-use Rattle.array_stops.specs.Answer.{Computes}
+use Rattle.array_places.proofs.of_zpl_bind.RegionLemmas.{dims-count}
+use Rattle.array_places.specs.of_zpl_meaning.Regions.{inner_over}
+use Rattle.array_places.specs.of_array_stops.Answer.{Computes}
 use Rattle.array_places.specs.View.{place_of}
 use Rattle.array_regions.specs.Fit.{IsFitInner}
 use Rattle.array_regions.proofs.brackets.inner_over.Goals as goal

@@ -1,7 +1,7 @@
 use Rattle.std.proofs.Common.{Bool, map, subst, sym, ◌∙◌}
 use Rattle.zpl_tree.specs.View.{name_of, posts_of, pre_of}
-use Rattle.zpl_meaning.specs.Regions.{name_in}
-use Rattle.array_stops.specs.Answer.{Computes}
+use Rattle.array_places.specs.of_zpl_meaning.Regions.{name_in}
+use Rattle.array_places.specs.of_array_stops.Answer.{Computes}
 use Rattle.array_places.specs.View.{place_of}
 use Rattle.array_regions.proofs.brackets.named_over.Goals as goal
 

@@ -2,8 +2,8 @@ use Rattle.std.proofs.Common.{map, subst, sym}
 use Rattle.zpl_tree.specs.Syntax as plain
 use Rattle.zpl_tree.specs.View.{base_of, posts_of, pre_of}
 use Rattle.zpl_tree.specs.declared.regions.RegionBase.{RegionBase}
-use Rattle.zpl_meaning.specs.Regions.{inner_over}
-use Rattle.array_stops.specs.Answer.{Computes}
+use Rattle.array_places.specs.of_zpl_meaning.Regions.{inner_over}
+use Rattle.array_places.specs.of_array_stops.Answer.{Computes}
 use Rattle.array_places.specs.View.{place_of}
 use Rattle.array_regions.proofs.brackets.rexpr_over.Goals as goal
 

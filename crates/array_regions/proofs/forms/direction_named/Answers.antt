@@ -1,9 +1,9 @@
 use Rattle.std.proofs.Common.{sym, ap, ◌∙◌, []}
 use Rattle.std.specs.Prelude.{unwrap_or}
-use Rattle.zpl_binding.specs.Outcome.{Gives}
-use Rattle.zpl_binding.specs.Vectors.{three_components}
-use Rattle.zpl_bind.specs.Tables.{listed}
-use Rattle.zpl_bind.proofs.TableLemmas.{outcome-found}
+use Rattle.array_places.specs.of_zpl_binding.Outcome.{Gives}
+use Rattle.array_places.specs.of_zpl_binding.Vectors.{three_components}
+use Rattle.array_places.specs.of_zpl_bind.Tables.{listed}
+use Rattle.array_places.proofs.of_zpl_bind.TableLemmas.{outcome-found}
 use Rattle.array_regions.proofs.forms.direction_named.Goals as goal
 
 pub returns : goal.returns

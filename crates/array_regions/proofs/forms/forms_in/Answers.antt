@@ -1,10 +1,10 @@
 use Rattle.std.proofs.Common.{map, subst}
 use Rattle.zpl_region.specs.declared.regions.Region.{Region}
 use Rattle.zpl_tree.specs.View.{posts_of, pre_of}
-use Rattle.zpl_binding.specs.Outcome.{Outcome}
-use Rattle.zpl_bind.specs.Known.{known_in}
-use Rattle.zpl_meaning.specs.Regions.{computed_of}
-use Rattle.array_stops.specs.Answer.{Computes}
+use Rattle.array_places.specs.of_zpl_binding.Outcome.{Outcome}
+use Rattle.array_places.specs.of_zpl_bind.Known.{known_in}
+use Rattle.array_places.specs.of_zpl_meaning.Regions.{computed_of}
+use Rattle.array_places.specs.of_array_stops.Answer.{Computes}
 use Rattle.array_places.proofs.AnswerLemmas.{passed}
 use Rattle.array_regions.proofs.RegionLemmas.{both-gives, both-traps}
 use Rattle.array_regions.proofs.forms.forms_in.Goals as goal

@@ -1,6 +1,6 @@
 use Rattle.std.proofs.Common.{sym, ap, ◌∙◌, subst}
 use Rattle.zpl_region.specs.Region.{IsWithinLimit}
-use Rattle.zpl_meaning.specs.Computed.{Gives}
+use Rattle.array_places.specs.of_zpl_meaning.Computed.{Gives}
 use Rattle.array_regions.proofs.RegionLemmas.{past, small-within, within}
 use Rattle.array_regions.proofs.forms.limited.Goals as goal
 

@@ -1,9 +1,9 @@
 use Rattle.std.proofs.Common.{subst, sym, Bool}
 use Rattle.zpl_region.specs.Region.{moved, strided}
 use Rattle.std.specs.Prelude.{if◌then◌else◌}
-use Rattle.zpl_binding.specs.Regions.{limited}
-use Rattle.zpl_meaning.specs.Regions.{computed_of}
-use Rattle.array_stops.specs.Answer.{Computes}
+use Rattle.array_places.specs.of_zpl_binding.Regions.{limited}
+use Rattle.array_places.specs.of_zpl_meaning.Regions.{computed_of}
+use Rattle.array_places.specs.of_array_stops.Answer.{Computes}
 use Rattle.array_regions.proofs.RegionLemmas.{moved-steps, strided-steps}
 use Rattle.array_regions.proofs.forms.moved.Goals as goal
 

@@ -1,10 +1,10 @@
 use Rattle.std.proofs.Common.{sym, ap, ◌∙◌}
 use Rattle.std.specs.Prelude.{unwrap_or}
-use Rattle.zpl_binding.specs.Outcome.{Gives}
-use Rattle.zpl_binding.specs.Regions.{no_region}
-use Rattle.zpl_bind.specs.Tables.{listed}
-use Rattle.zpl_bind.proofs.TableLemmas.{outcome-found}
-use Rattle.zpl_bind.proofs.RegionLemmas.{found-holds}
+use Rattle.array_places.specs.of_zpl_binding.Outcome.{Gives}
+use Rattle.array_places.specs.of_zpl_binding.Regions.{no_region}
+use Rattle.array_places.specs.of_zpl_bind.Tables.{listed}
+use Rattle.array_places.proofs.of_zpl_bind.TableLemmas.{outcome-found}
+use Rattle.array_places.proofs.of_zpl_bind.RegionLemmas.{found-holds}
 use Rattle.array_terms.specs.Sound.{IsSmall}
 use Rattle.array_regions.proofs.forms.region_named.Goals as goal
 

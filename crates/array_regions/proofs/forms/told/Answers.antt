@@ -1,7 +1,7 @@
 use Rattle.std.proofs.Common.{sym, ap, ◌∙◌, subst}
 use Rattle.std.proofs.lemmas.Result.{OkIff-at_ok, OkIff-at_err, IfOk-at_ok}
 use Rattle.zpl_region.specs.Region.{IsRegion, IsWithinLimit}
-use Rattle.zpl_meaning.specs.Computed.{Gives}
+use Rattle.array_places.specs.of_zpl_meaning.Computed.{Gives}
 use Rattle.array_regions.proofs.RegionLemmas.{past, small-within, within}
 use Rattle.array_regions.proofs.forms.told.Goals as goal
 

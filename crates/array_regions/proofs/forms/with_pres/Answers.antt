@@ -1,5 +1,5 @@
 use Rattle.std.proofs.Common.{arith}
-use Rattle.zpl_bind.specs.Known.{known_in}
+use Rattle.array_places.specs.of_zpl_bind.Known.{known_in}
 use Rattle.array_places.proofs.AnswerLemmas.{passed}
 use Rattle.array_regions.proofs.RegionLemmas.{before-goes, before-traps}
 use Rattle.array_regions.proofs.forms.with_pres.Goals as goal

@@ -1,8 +1,8 @@
 use Rattle.std.proofs.Common.{◌≡◌, ◌≤◌, take, map, length}
 use Rattle.zpl_tree.specs.View.{pre_of}
-use Rattle.zpl_binding.specs.Outcome.{Gives}
-use Rattle.zpl_binding.specs.Regions.{before}
-use Rattle.zpl_bind.specs.Known.{known_in}
+use Rattle.array_places.specs.of_zpl_binding.Outcome.{Gives}
+use Rattle.array_places.specs.of_zpl_binding.Regions.{before}
+use Rattle.array_places.specs.of_zpl_bind.Known.{known_in}
 use Rattle.array_terms.specs.Sound.{IsSmall}
 use Rattle.array_regions.proofs.forms.with_pres.Given as goal
 

@@ -3,8 +3,8 @@ use Rattle.zpl_tree.specs.Syntax as plain
 use Rattle.zpl_tree.specs.View.{base_of, inner_of, posts_of, pre_of}
 use Rattle.zpl_tree.proofs.Views.{rexpr_of-parts}
 use Rattle.zpl_tree.specs.declared.regions.Rexpr.{out-Rexpr}
-use Rattle.zpl_bind.specs.Known.{known_in}
-use Rattle.zpl_meaning.specs.Regions.{edge_in}
+use Rattle.array_places.specs.of_zpl_bind.Known.{known_in}
+use Rattle.array_places.specs.of_zpl_meaning.Regions.{edge_in}
 use Rattle.array_regions.proofs.prefixes.edge_in.Goals as goal
 
 pub returns-in-Rexpr-clause-edge : goal.returns-in-Rexpr-clause-edge

@@ -2,7 +2,7 @@ use Rattle.std.proofs.Common.{subst}
 use Rattle.std.specs.Prelude.{IfSome}
 use Rattle.zpl_names.specs.Kinds.{Rank}
 use Rattle.zpl_tree.specs.View.{inner_of}
-use Rattle.zpl_meaning.specs.Regions.{current_for, edge_in}
+use Rattle.array_places.specs.of_zpl_meaning.Regions.{current_for, edge_in}
 use Rattle.array_places.specs.View.{place_of}
 use Rattle.array_regions.specs.Fit.{IsLimited}
 use Rattle.array_regions.proofs.RegionLemmas.{edge-limited}

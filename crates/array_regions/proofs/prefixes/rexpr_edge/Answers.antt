@@ -1,6 +1,6 @@
 use Rattle.std.proofs.Common.{sym, ◌∙◌}
 use Rattle.zpl_tree.specs.View.{base_of}
-use Rattle.zpl_bind.specs.Known.{known_in}
+use Rattle.array_places.specs.of_zpl_bind.Known.{known_in}
 use Rattle.array_regions.proofs.RegionLemmas.{edge-behind}
 use Rattle.array_regions.proofs.prefixes.rexpr_edge.Goals as goal
 

@@ -2,8 +2,8 @@ use Rattle.std.proofs.Common.{◌≡◌, ◌∙◌, ap, subst, sym}
 use Rattle.std.specs.Prelude.{IfSome, Option}
 use Rattle.std.specs.Option.{option_map}
 use Rattle.zpl_tree.specs.View.{inner_of}
-use Rattle.zpl_meaning.specs.Context.{Edge}
-use Rattle.zpl_meaning.specs.Regions.{current_for, edge_in}
+use Rattle.array_places.specs.of_zpl_meaning.Context.{Edge}
+use Rattle.array_places.specs.of_zpl_meaning.Regions.{current_for, edge_in}
 use Rattle.array_places.specs.View.{edge_of, place_of}
 use Rattle.array_regions.specs.Fit.{IsLimited}
 use Rattle.array_regions.proofs.RegionLemmas.{edge-sound}

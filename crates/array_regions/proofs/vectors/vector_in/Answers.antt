@@ -1,5 +1,5 @@
 use Rattle.zpl_tree.specs.View.{dir_of as seen_dir}
-use Rattle.zpl_bind.specs.Tables.{computed, listed}
+use Rattle.array_places.specs.of_zpl_bind.Tables.{computed, listed}
 use Rattle.array_regions.proofs.VectorLemmas.{dir-near}
 use Rattle.array_regions.proofs.vectors.vector_in.Goals as goal
 

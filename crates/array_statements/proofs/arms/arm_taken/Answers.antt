@@ -3,7 +3,7 @@ use Rattle.zpl_tree.specs.View.{expr_of}
 use Rattle.zpl_tree.specs.declared.statements.Arm.{out-Arm}
 use Rattle.zpl_meaning.specs.Statement.{test_of}
 use Rattle.array_places.specs.View.{place_of}
-use Rattle.array_settling.specs.Fit.{IsFit}
+use Rattle.array_steps.specs.of_array_settling.Fit.{IsFit}
 use Rattle.array_statements.specs.Arms.{offset_or}
 use Rattle.array_statements.specs.Choices.{Leads}
 use Rattle.array_statements.specs.declared.choices.Truth.TheVariants as truth

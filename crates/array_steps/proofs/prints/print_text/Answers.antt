@@ -4,8 +4,8 @@ use Rattle.zpl_meaning.specs.Computed.{Gives}
 use Rattle.array_terms.specs.View.{terms_of}
 use Rattle.array_stops.specs.Answer.{Stops}
 use Rattle.array_places.specs.View.{place_of}
-use Rattle.array_settling.specs.Placed.{placed_of}
-use Rattle.array_values.proofs.RowLemmas.{passed_on}
+use Rattle.scalar_steps.specs.of_array_settling.Placed.{placed_of}
+use Rattle.array_effects.proofs.of_array_values.RowLemmas.{passed_on}
 use Rattle.array_steps.specs.Checked.{checked_each}
 use Rattle.array_steps.specs.Prints.{items_in}
 use Rattle.array_steps.proofs.PrintLemmas.{checked_aligned, values_stop, whole_gives, whole_traps}

@@ -3,7 +3,7 @@ use Rattle.zpl_tree.specs.declared.statements.Item.{Item}
 use Rattle.zpl_tree.specs.View.{item_of}
 use Rattle.zpl_meaning.specs.Text.{printed_exprs}
 use Rattle.array_places.specs.View.{place_of}
-use Rattle.array_settling.specs.Placed.{placed_of}
+use Rattle.scalar_steps.specs.of_array_settling.Placed.{placed_of}
 use Rattle.array_steps.proofs.PrintLemmas.{exprs_next}
 use Rattle.array_steps.proofs.prints.printed_exprs.Goals as goal
 

@@ -2,7 +2,7 @@ use Rattle.std.proofs.Common.{◌≡◌, ◌++◌, drop, map}
 use Rattle.zpl_tree.specs.View.{item_of}
 use Rattle.zpl_meaning.specs.Text.{printed_exprs}
 use Rattle.array_places.specs.View.{place_of}
-use Rattle.array_settling.specs.Placed.{placed_of}
+use Rattle.scalar_steps.specs.of_array_settling.Placed.{placed_of}
 use Rattle.array_steps.proofs.prints.printed_exprs.Given as goal
 
 abbrev pub invariant-loop-at : goal.invariant-loop-at

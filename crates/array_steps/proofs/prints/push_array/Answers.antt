@@ -3,7 +3,7 @@ use Rattle.zpl_region.proofs.HullLemmas.{has_steps}
 use Rattle.zpl_arrays.specs.Array.{element}
 use Rattle.array_terms.specs.View.{term_of}
 use Rattle.array_prints.specs.RowText.{value_text}
-use Rattle.array_values.proofs.RowLemmas.{passed_on}
+use Rattle.array_effects.proofs.of_array_values.RowLemmas.{passed_on}
 use Rattle.array_steps.proofs.PrintLemmas.{array_given, array_stops, row_elements}
 use Rattle.array_steps.proofs.prints.push_array.Goals as goal
 

@@ -1,7 +1,7 @@
 use Rattle.std.proofs.Common.{rules, ◌≡◌, ◌++◌, ◌∙◌, ap, w64, to_z, of_z}
 use Rattle.array_terms.specs.View.{term_of}
 use Rattle.array_prints.specs.RowText.{value_text}
-use Rattle.array_values.proofs.RowLemmas.{passed_on}
+use Rattle.array_effects.proofs.of_array_values.RowLemmas.{passed_on}
 use Rattle.array_steps.proofs.PrintLemmas.{scalar_given, scalar_stops}
 use Rattle.array_steps.proofs.prints.push_scalar.Goals as goal
 

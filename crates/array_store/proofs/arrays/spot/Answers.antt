@@ -1,10 +1,10 @@
 use Rattle.std.proofs.Common.{◌≡◌, get_or, [], ◌∷◌, pos, to_z, of_z, w64, refl, ◌∙◌, ap, arith, rules}
-use Rattle.zpl_region.specs.declared.dims.Dim.{Dim}
-use Rattle.zpl_region.specs.declared.dims.Dim.TheVariants.{Range}
-use Rattle.zpl_region.proofs.EndLemmas.{length-tuple_count}
-use Rattle.zpl_region.proofs.HullLemmas.{has_steps}
-use Rattle.zpl_region.proofs.ListLemmas.{cons_same}
-use Rattle.zpl_arrays.specs.Array.{flattened}
+use Rattle.zpl_meaning.specs.of_zpl_region.declared.dims.Dim.{Dim}
+use Rattle.zpl_meaning.specs.of_zpl_region.declared.dims.Dim.TheVariants.{Range}
+use Rattle.zpl_meaning.proofs.of_zpl_region.EndLemmas.{length-tuple_count}
+use Rattle.zpl_meaning.proofs.of_zpl_region.HullLemmas.{has_steps}
+use Rattle.zpl_meaning.proofs.of_zpl_region.ListLemmas.{cons_same}
+use Rattle.zpl_meaning.specs.of_zpl_arrays.Array.{flattened}
 use Rattle.array_store.specs.Stored.{flat_coordinate}
 use Rattle.array_store.proofs.SpotLemmas.{flat_three, no_place, place_is}
 use Rattle.array_store.proofs.arrays.spot.Goals as goal

@@ -1,6 +1,6 @@
 use Rattle.std.proofs.Common.{◌∙◌, ap}
 use Rattle.zpl_region.specs.declared.dims.Dim.TheVariants.{Flood}
-use Rattle.zpl_arrays.specs.Reference.{lies_in}
+use Rattle.array_store.specs.of_zpl_arrays.Reference.{lies_in}
 use Rattle.array_terms.proofs.CheckLemmas.{not_moved}
 use Rattle.array_terms.proofs.checks.lies_in.Goals as goal
 

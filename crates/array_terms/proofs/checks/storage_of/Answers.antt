@@ -1,5 +1,5 @@
 use Rattle.std.proofs.Common.{sym, ap}
-use Rattle.zpl_arrays.specs.Array.{Array}
+use Rattle.array_store.specs.of_zpl_arrays.Array.{Array}
 use Rattle.array_terms.proofs.checks.storage_of.Goals as goal
 
 pub returns-in-None-clause-storage : goal.returns-in-None-clause-storage

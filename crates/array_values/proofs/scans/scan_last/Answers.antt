@@ -1,7 +1,7 @@
 use Rattle.std.proofs.Common.{false, map, ◌++◌, sym, ◌∙◌, ap}
 use Rattle.zpl_region.specs.Region.{members}
-use Rattle.zpl_meaning.specs.Computed.{Gives}
-use Rattle.array_totals.specs.Total.{kept_values, scan_total}
+use Rattle.array_stops.specs.of_zpl_meaning.Computed.{Gives}
+use Rattle.row_stacks.specs.of_array_totals.Total.{kept_values, scan_total}
 use Rattle.array_values.specs.Row.{row_with}
 use Rattle.array_values.proofs.scans.scan_last.Goals as goal
 

@@ -8,10 +8,10 @@ use Rattle.zpl_arrays.specs.Flood.{flood_source}
 use Rattle.zpl_arrays.specs.Fold.{partly_reduced, reduced}
 use Rattle.remap_rows.specs.Remap.{all_placed, remapped}
 use Rattle.zpl_nums.specs.declared.ends.TrapKind.TheVariants.{OutsideStorage}
-use Rattle.zpl_meaning.specs.Computed.{Gives, provided}
-use Rattle.zpl_meaning.specs.Fields.{everywhere, is_kept_in}
-use Rattle.zpl_meaning.specs.Store.{array_at}
-use Rattle.array_totals.specs.Total.{scan_total, sure, total_of}
+use Rattle.array_stops.specs.of_zpl_meaning.Computed.{Gives, provided}
+use Rattle.array_stops.specs.of_zpl_meaning.Fields.{everywhere, is_kept_in}
+use Rattle.array_stops.specs.of_zpl_meaning.Store.{array_at}
+use Rattle.row_stacks.specs.of_array_totals.Total.{scan_total, sure, total_of}
 use Rattle.source_rows.specs.Part.{flood_of}
 use Rattle.array_terms.specs.View.{over_of, term_of, terms_of}
 use Rattle.array_stops.specs.Answer.{Answers}

@@ -1,9 +1,9 @@
 use Rattle.std.proofs.Common.{◌<◌, ◌*◌, ◌≤◌, drop, map, take, pos, ◌+ℤ◌, ◌∙◌, ap, arith}
-use Rattle.zpl_region.specs.Ends.{tuple_count}
-use Rattle.zpl_region.specs.Region.{members}
-use Rattle.zpl_region.proofs.EndLemmas.{length-tuple_count}
-use Rattle.zpl_region.proofs.HullCode.{some_told}
-use Rattle.zpl_region.proofs.HullLemmas.{has_steps}
+use Rattle.array_lines.specs.of_zpl_region.Ends.{tuple_count}
+use Rattle.array_lines.specs.of_zpl_region.Region.{members}
+use Rattle.array_lines.proofs.of_zpl_region.EndLemmas.{length-tuple_count}
+use Rattle.array_lines.proofs.of_zpl_region.HullCode.{some_told}
+use Rattle.array_lines.proofs.of_zpl_region.HullLemmas.{has_steps}
 use Rattle.array_lines.specs.Axis.{along}
 use Rattle.array_lines.proofs.ReadLemmas.{plane_bound, some_columns}
 use Rattle.array_writes.specs.Write.{place_gone, places_at, plane_places, put_each}

@@ -1,6 +1,6 @@
 use Rattle.std.proofs.Common.{refl, sym, ◌∙◌, arith}
-use Rattle.zpl_region.specs.Dim.{IsDim, coordinates}
-use Rattle.zpl_region.proofs.ListLemmas.{cons_same}
+use Rattle.array_lines.specs.of_zpl_region.Dim.{IsDim, coordinates}
+use Rattle.array_lines.proofs.of_zpl_region.ListLemmas.{cons_same}
 use Rattle.array_lines.proofs.ReadLemmas.{each_of_three, map_three, three_of}
 use Rattle.array_writes.proofs.puts.sides_of.Goals as goal
 

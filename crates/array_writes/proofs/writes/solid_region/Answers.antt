@@ -1,9 +1,9 @@
 use Rattle.std.proofs.Common.{◌≡◌, List, [], ◌∷◌, map, subst, sym, ap, arith}
-use Rattle.zpl_region.specs.declared.dims.Dim.{Dim}
-use Rattle.zpl_region.specs.declared.regions.Region.{Region}
-use Rattle.zpl_region.specs.Dim.{IsDim}
-use Rattle.zpl_region.specs.Region.{IsPadded}
-use Rattle.zpl_region.proofs.RegionLemmas.{all_of_three}
+use Rattle.array_lines.specs.of_zpl_region.declared.dims.Dim.{Dim}
+use Rattle.array_lines.specs.of_zpl_region.declared.regions.Region.{Region}
+use Rattle.array_lines.specs.of_zpl_region.Dim.{IsDim}
+use Rattle.array_lines.specs.of_zpl_region.Region.{IsPadded}
+use Rattle.array_lines.proofs.of_zpl_region.RegionLemmas.{all_of_three}
 use Rattle.array_lines.proofs.ReadLemmas.{each_of_three, map_three}
 use Rattle.array_writes.specs.Write.{solid}
 use Rattle.array_writes.proofs.PlaceLemmas.{solid_padded}

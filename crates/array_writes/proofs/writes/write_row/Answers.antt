@@ -1,7 +1,7 @@
 use Rattle.std.proofs.Common.{◌≡◌, map, ◌∙◌, ap, arith}
-use Rattle.zpl_region.specs.declared.dims.Dim.TheVariants.{Flood}
-use Rattle.zpl_region.specs.Ends.{tuple_count}
-use Rattle.zpl_region.specs.Region.{members}
+use Rattle.array_lines.specs.of_zpl_region.declared.dims.Dim.TheVariants.{Flood}
+use Rattle.array_lines.specs.of_zpl_region.Ends.{tuple_count}
+use Rattle.array_lines.specs.of_zpl_region.Region.{members}
 use Rattle.array_writes.specs.declared.puts.Change.TheVariants.{Set}
 use Rattle.array_writes.specs.Write.{place_gone, put_each, still}
 use Rattle.array_writes.proofs.PlaceLemmas.{own_places, solid_tuple_count}

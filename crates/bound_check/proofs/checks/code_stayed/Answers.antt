@@ -1,6 +1,6 @@
 use Rattle.std.proofs.Common.{◌≡◌, ◌∙◌, ◌≤◌, ◌++◌, ◌∷◌, [], ap, arith, length, rules, Some}
 use Rattle.std.specs.Prelude.{filter, map, slice_get}
-use Rattle.node_form.proofs.GrowthLemmas.{Fits-instr-row}
+use Rattle.flat_passes.proofs.of_node_form.GrowthLemmas.{Fits-instr-row}
 use Rattle.flat_passes.specs.Numbers.{number_among, numbers_from}
 use Rattle.flat_passes.specs.Rewritten.{with_moved_goal}
 use Rattle.flat_passes.proofs.RowLemmas.{at_first, at_more, at_places, at_rows, recoded}

@@ -2,10 +2,10 @@ use Rattle.std.proofs.Common.{◌≡◌, ◌∙◌, ◌<◌, ap, arith, length, 
 use Rattle.std.specs.Prelude.{All, Some, slice_get}
 use Rattle.std.specs.Option.{IfSome, option_copied}
 use Rattle.std.specs.List.{list_all}
-use Rattle.node_form.specs.declared.instructions.Instr.TheVariants as instr
-use Rattle.node_form.specs.Fits.{FitsInstr, FitsRegion}
-use Rattle.node_form.proofs.GrowthLemmas.{Fits-array-row}
-use Rattle.code_parts.specs.Needs.{is_decided}
+use Rattle.flat_passes.specs.of_node_form.declared.instructions.Instr.TheVariants as instr
+use Rattle.flat_passes.specs.of_node_form.Fits.{FitsInstr, FitsRegion}
+use Rattle.flat_passes.proofs.of_node_form.GrowthLemmas.{Fits-array-row}
+use Rattle.flat_passes.specs.of_code_parts.Needs.{is_decided}
 use Rattle.bound_check.specs.Writes.{passes_within, writes_into}
 use Rattle.bound_check.proofs.WriteLemmas.{all_noted_length, all_writes_fit, listed, rows_pass}
 use Rattle.bound_check.proofs.WriteLemmas.{slot_there}

@@ -1,6 +1,6 @@
 use Rattle.std.proofs.Common.{◌≡◌, map, take, string_bytes}
 use Rattle.zpl_bind.specs.Lists.{settings_of}
-use Rattle.call_claims.specs.Setting.{settings_among}
+use Rattle.call_words.specs.of_call_claims.Setting.{settings_among}
 use Rattle.bound_texts.proofs.settings.settings_of.Given as goal
 
 -- the settings among the words so far

@@ -1,5 +1,5 @@
 use Rattle.std.proofs.Common.{map, string_bytes}
-use Rattle.call_claims.specs.Setting.{settings_among}
+use Rattle.call_words.specs.of_call_claims.Setting.{settings_among}
 use Rattle.bound_texts.proofs.TextLemmas.{refused_on, refused_up}
 use Rattle.bound_texts.proofs.texts.accepted_text.Goals as goal
 

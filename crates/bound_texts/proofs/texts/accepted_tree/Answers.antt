@@ -1,6 +1,6 @@
 use Rattle.std.proofs.Common.{map, string_bytes}
 use Rattle.zpl_tree.specs.View.{syntax_of}
-use Rattle.call_claims.specs.Setting.{settings_among}
+use Rattle.call_words.specs.of_call_claims.Setting.{settings_among}
 use Rattle.call_answers.specs.Refusals.{of_judge}
 use Rattle.bound_texts.proofs.TextLemmas.{judge_refused, passed_up}
 use Rattle.bound_texts.proofs.texts.accepted_tree.Goals as goal

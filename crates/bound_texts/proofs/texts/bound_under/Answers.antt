@@ -1,7 +1,7 @@
 use Rattle.std.proofs.Common.{map, string_bytes, subst}
 use Rattle.zpl_tree.specs.View.{syntax_of}
 use Rattle.zpl_bound.specs.Faults.{Holds}
-use Rattle.call_claims.specs.Setting.{settings_among}
+use Rattle.call_words.specs.of_call_claims.Setting.{settings_among}
 use Rattle.call_answers.specs.Refusals.{of_bind}
 use Rattle.bound_texts.proofs.TextLemmas.{bind_refused, passed_up}
 use Rattle.bound_texts.proofs.texts.bound_under.Goals as goal

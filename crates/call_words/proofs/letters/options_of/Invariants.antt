@@ -1,5 +1,5 @@
 use Rattle.std.proofs.Common.{◌≡◌, drop}
-use Rattle.zpl_claims.specs.Build.{no_options}
+use Rattle.call_claims.specs.of_zpl_claims.Build.{no_options}
 use Rattle.call_claims.specs.Words.{with_letters}
 use Rattle.call_words.proofs.letters.options_of.Given as goal
 

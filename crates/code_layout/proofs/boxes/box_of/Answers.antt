@@ -1,7 +1,7 @@
 use Rattle.std.proofs.Common.{◌≡◌, ◌∙◌, length, arith, pos, w64, rules, sym, subst}
 use Rattle.std.proofs.lemmas.Int.{to_z-of_z}
 use Rattle.std.specs.Prelude.{FitsSigned}
-use Rattle.node_form.specs.declared.arrays.ArrayDim.TheVariants.{Range}
+use Rattle.grid_meaning.specs.of_node_form.declared.arrays.ArrayDim.TheVariants.{Range}
 use Rattle.grid_layout.specs.Layout.{IsArrayBox}
 use Rattle.grid_meaning.proofs.BoxLemmas.{box_is, box_parts}
 use Rattle.code_layout.proofs.boxes.box_of.Goals as goal

@@ -1,8 +1,8 @@
 use Rattle.std.proofs.Common.{◌≡◌, ◌∙◌, ap, subst, sym, rules, arith, false, None, Some}
 use Rattle.std.specs.Prelude.{slice_get}
 use Rattle.std.proofs.lemmas.Option.{unwrap_or-slice_get}
-use Rattle.code_parts.specs.Stretch.{is_goal}
-use Rattle.plan_form.specs.Draft.{plan_of}
+use Rattle.last_writes.specs.of_code_parts.Stretch.{is_goal}
+use Rattle.last_writes.specs.of_plan_form.Draft.{plan_of}
 use Rattle.comm_combine.proofs.MergeLemmas.{IsMerging, merge_begins, merge_ends, merge_one}
 use Rattle.comm_combine.proofs.neighbours.merge_neighbours.Goals as goal
 

@@ -1,7 +1,7 @@
 use Rattle.std.proofs.Common.{◌≡◌, ◌∙◌, subst, sym, rules, arith, false, Some}
 use Rattle.std.specs.Prelude.{slice_get}
 use Rattle.std.proofs.lemmas.Option.{unwrap_or-slice_get}
-use Rattle.code_parts.specs.Stretch.{is_goal}
+use Rattle.last_writes.specs.of_code_parts.Stretch.{is_goal}
 use Rattle.comm_combine.proofs.DropLemmas.{IsDropping, drop_begins, drop_ends, drop_one}
 use Rattle.comm_combine.proofs.repeats.drop_repeats.Goals as goal
 

@@ -1,7 +1,7 @@
 use Rattle.std.proofs.Common.{◌≡◌, ◌∙◌, ap, subst, sym, rules, arith, false, [], Some}
 use Rattle.std.specs.Prelude.{slice_get}
 use Rattle.std.proofs.lemmas.Option.{unwrap_or-slice_get}
-use Rattle.code_parts.specs.Stretch.{is_goal}
+use Rattle.last_writes.specs.of_code_parts.Stretch.{is_goal}
 use Rattle.comm_early.proofs.SendLemmas.{IsFew, IsSending, few_noted, sends_begin, sends_end, sends_one}
 use Rattle.comm_early.proofs.early.send_early.Goals as goal
 

@@ -2,8 +2,8 @@ use Rattle.std.proofs.Common.{◌≡◌, ◌∙◌, ap, sym, arith, true, List}
 use Rattle.std.specs.Prelude.{flat_map}
 use Rattle.std.specs.List.{list_any}
 use Rattle.std.proofs.lemmas.List.Folds.{list_any_at}
-use Rattle.node_form.specs.declared.members.Member.{Member}
-use Rattle.code_parts.specs.Uses.{divides_in, member_words}
+use Rattle.plan_form.specs.of_node_form.declared.members.Member.{Member}
+use Rattle.plan_form.specs.of_code_parts.Uses.{divides_in, member_words}
 use Rattle.comm_needs.proofs.NeedLemmas.{any_of_all}
 use Rattle.comm_needs.proofs.groups.divides.Goals as goal
 

@@ -1,7 +1,7 @@
 use Rattle.std.proofs.Common.{◌≡◌, false, take}
 use Rattle.std.specs.Prelude.{flat_map}
 use Rattle.std.specs.List.{list_any}
-use Rattle.code_parts.specs.Uses.{divides_in, member_words}
+use Rattle.plan_form.specs.of_code_parts.Uses.{divides_in, member_words}
 use Rattle.comm_needs.proofs.groups.divides.Given as goal
 
 abbrev pub invariant-loop-member : goal.invariant-loop-member

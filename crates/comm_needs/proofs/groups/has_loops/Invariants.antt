@@ -1,6 +1,6 @@
 use Rattle.std.proofs.Common.{◌≡◌, false, take}
 use Rattle.std.specs.List.{list_any}
-use Rattle.code_parts.specs.Uses.{is_turning}
+use Rattle.plan_form.specs.of_code_parts.Uses.{is_turning}
 use Rattle.comm_needs.proofs.groups.has_loops.Given as goal
 
 abbrev pub invariant-loop-member : goal.invariant-loop-member

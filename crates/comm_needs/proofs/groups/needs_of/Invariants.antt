@@ -1,6 +1,6 @@
 use Rattle.std.proofs.Common.{◌≡◌, [], take}
 use Rattle.std.specs.Prelude.{flat_map}
-use Rattle.code_parts.specs.Uses.{member_words}
+use Rattle.plan_form.specs.of_code_parts.Uses.{member_words}
 use Rattle.comm_needs.specs.Needs.{with_needed}
 use Rattle.comm_needs.proofs.groups.needs_of.Given as goal
 

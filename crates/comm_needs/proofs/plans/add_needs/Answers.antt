@@ -1,6 +1,6 @@
 use Rattle.std.proofs.Common.{◌≡◌, ◌∙◌, ◌+◌, ap, subst, sym, rules, arith, Some}
 use Rattle.std.specs.Prelude.{slice_get}
-use Rattle.node_form.specs.declared.tables.Tables.{Tables}
+use Rattle.plan_form.specs.of_node_form.declared.tables.Tables.{Tables}
 use Rattle.plan_form.specs.Draft.{written}
 use Rattle.comm_needs.specs.Needs.{row_with_needs}
 use Rattle.comm_needs.proofs.PlanLemmas.{IsPlanned, plan_begins, plan_ends, plan_steps}

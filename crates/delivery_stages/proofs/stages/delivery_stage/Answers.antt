@@ -1,8 +1,8 @@
 use Rattle.std.proofs.Common.{◌≡◌, ◌-◌, refl, ℕ, zero, suc, List, ◌∷◌, ap, ◌∙◌, sym, arith}
 use Rattle.std.specs.Prelude.{Some, slice_get}
-use Rattle.grid_meaning.specs.Collective.{Stage}
-use Rattle.node_stages.specs.Partners.{exchanging, flagged}
-use Rattle.node_stages.specs.Stage.{staged}
+use Rattle.node_messages.specs.of_grid_meaning.Collective.{Stage}
+use Rattle.node_messages.specs.of_node_stages.Partners.{exchanging, flagged}
+use Rattle.node_messages.specs.of_node_stages.Stage.{staged}
 use Rattle.delivery_stages.proofs.stages.delivery_stage.Goals as goal
 
 first_stage : (first : Stage) (rest : List Stage) (made : ℕ) → made ≡ 0 → slice_get (first ∷ rest) made ≡ Some first

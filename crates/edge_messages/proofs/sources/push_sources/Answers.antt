@@ -4,7 +4,7 @@ use Rattle.zpl_region.proofs.HullLemmas.{has_steps}
 use Rattle.zpl_arrays.specs.Border.{border_source}
 use Rattle.reduce_plan.proofs.WalkLemmas.{pushed}
 use Rattle.grid_meaning.specs.Place.{value_at}
-use Rattle.node_messages.proofs.ReadLemmas.{left}
+use Rattle.exchange_messages.proofs.of_node_messages.ReadLemmas.{left}
 use Rattle.edge_messages.proofs.NearLemmas.{near_member}
 use Rattle.edge_messages.proofs.SourceLemmas.{IsRead, fewer_left, read_ends, read_lacks, read_starts, read_step}
 use Rattle.edge_messages.proofs.sources.push_sources.Goals as goal

@@ -1,6 +1,6 @@
 use Rattle.zpl_arrays.specs.Border.{border_source}
 use Rattle.grid_meaning.specs.Place.{value_at}
-use Rattle.node_messages.proofs.ReadLemmas.{left}
+use Rattle.exchange_messages.proofs.of_node_messages.ReadLemmas.{left}
 use Rattle.edge_messages.proofs.SourceLemmas.{IsRead}
 use Rattle.edge_messages.proofs.sources.push_sources.Given as goal
 

@@ -2,7 +2,7 @@ use Rattle.std.proofs.Common.{◌≡◌, ◌++◌, map, ap, subst}
 use Rattle.std.specs.Result.{OnOk}
 use Rattle.zpl_region.specs.Region.{members}
 use Rattle.zpl_arrays.specs.Array.{Array, element}
-use Rattle.zpl_meaning.specs.Store.{array_at}
+use Rattle.plain_rows.specs.of_zpl_meaning.Store.{array_at}
 use Rattle.element_rows.proofs.ElementLemmas.{nowhere}
 use Rattle.element_rows.proofs.elements.push_element.Goals as goal
 

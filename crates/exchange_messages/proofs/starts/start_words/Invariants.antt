@@ -1,5 +1,5 @@
 use Rattle.std.proofs.Common.{◌≡◌, drop}
-use Rattle.grid_meaning.specs.Exchange.{words_between}
+use Rattle.node_messages.specs.of_grid_meaning.Exchange.{words_between}
 use Rattle.exchange_messages.proofs.ItemLemmas.{words_onward}
 use Rattle.exchange_messages.proofs.starts.start_words.Given as goal
 

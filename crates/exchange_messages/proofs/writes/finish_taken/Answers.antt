@@ -1,7 +1,7 @@
 use Rattle.std.proofs.Common.{◌≡◌, ◌≤◌, true, cond, length, sym, ap, ◌∙◌, arith}
 use Rattle.std.specs.Prelude.{Some, None, is_some}
 use Rattle.std.specs.Option.{option_map}
-use Rattle.grid_meaning.specs.Exchange.{word_count, words_written}
+use Rattle.node_messages.specs.of_grid_meaning.Exchange.{word_count, words_written}
 use Rattle.exchange_messages.proofs.HeldLemmas.{none_from, put_each, written_when_items_held}
 use Rattle.exchange_messages.proofs.writes.finish_taken.Goals as goal
 

@@ -1,7 +1,7 @@
 use Rattle.std.proofs.Common.{◌≡◌, ◌≤◌, true, cond, length, sym, ap, ◌∙◌, arith}
 use Rattle.std.specs.Prelude.{Some, None, is_some}
 use Rattle.zpl_region.specs.Region.{members}
-use Rattle.grid_meaning.specs.Place.{with_values}
+use Rattle.node_messages.specs.of_grid_meaning.Place.{with_values}
 use Rattle.exchange_messages.proofs.HeldLemmas.{none_from, put_all, written_when_held}
 use Rattle.exchange_messages.proofs.writes.put_values.Goals as goal
 

@@ -1,5 +1,5 @@
 use Rattle.std.proofs.Common.{◌≡◌, ◌≤◌, drop, length}
-use Rattle.grid_meaning.specs.Exchange.{words_written}
+use Rattle.node_messages.specs.of_grid_meaning.Exchange.{words_written}
 use Rattle.exchange_messages.proofs.writes.write_items.Given as goal
 
 abbrev pub invariant-loop-item : goal.invariant-loop-item

@@ -1,8 +1,8 @@
 use Rattle.std.proofs.Common.{rules, ◌≡◌, get_or, pos, to_z, of_z, w64, refl, sym, ap, ◌∙◌, subst, arith}
 use Rattle.zpl_region.proofs.EndLemmas.{first_member}
 use Rattle.zpl_region.proofs.HullLemmas.{has_steps}
-use Rattle.grid_meaning.specs.Place.{with_value}
-use Rattle.node_local.specs.Workplace.{Workplace}
+use Rattle.node_messages.specs.of_grid_meaning.Place.{with_value}
+use Rattle.node_messages.specs.of_node_local.Workplace.{Workplace}
 use Rattle.exchange_messages.proofs.ItemLemmas.{next_of}
 use Rattle.exchange_messages.proofs.WriteLemmas.{IsWriting, places_end, words_end, writing_lacks, writing_starts, writing_step}
 use Rattle.exchange_messages.proofs.writes.write_values.Goals as goal

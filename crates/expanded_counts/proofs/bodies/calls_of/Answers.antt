@@ -1,11 +1,11 @@
 use Rattle.std.proofs.Common.{◌≡◌, List, [], ◌++◌, None, false, ap, map, ◌∙◌}
 use Rattle.std.specs.List.{filter_map, fold}
 use Rattle.zpl_tree.specs.View.{syntax_of}
-use Rattle.zpl_names.specs.Shapes.{unknown_shapes}
-use Rattle.zpl_names.specs.Sites.{CallSite, Site, call_of, routine_sites}
-use Rattle.site_faults.specs.Findings.{State, after}
-use Rattle.site_faults.specs.Walk.{state_of}
-use Rattle.text_walk.proofs.Meaning.{walked-calls}
+use Rattle.routine_walks.specs.of_zpl_names.Shapes.{unknown_shapes}
+use Rattle.routine_walks.specs.of_zpl_names.Sites.{CallSite, Site, call_of, routine_sites}
+use Rattle.routine_walks.specs.of_site_faults.Findings.{State, after}
+use Rattle.routine_walks.specs.of_site_faults.Walk.{state_of}
+use Rattle.routine_walks.proofs.of_text_walk.Meaning.{walked-calls}
 use Rattle.routine_walks.specs.Numbers.{node_of}
 use Rattle.routine_walks.specs.Texts.{names_in, routine_of, sites_over}
 use Rattle.routine_walks.proofs.TextLemmas.{sites-are}

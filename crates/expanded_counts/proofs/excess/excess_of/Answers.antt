@@ -1,6 +1,6 @@
 use Rattle.std.proofs.Common.{ap, ap₂, map, slice_get, ◌∙◌}
 use Rattle.zpl_tree.specs.View.{syntax_of}
-use Rattle.zpl_names.specs.Reached.{longest_chain}
+use Rattle.routine_walks.specs.of_zpl_names.Reached.{longest_chain}
 use Rattle.routine_walks.specs.Numbers.{node_of}
 use Rattle.routine_walks.specs.Texts.{names_in}
 use Rattle.routine_walks.proofs.TextLemmas.{named-node}

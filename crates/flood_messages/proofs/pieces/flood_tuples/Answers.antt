@@ -10,8 +10,8 @@ use Rattle.move_plan.specs.FloodPiece.{flood_piece_in}
 use Rattle.grid_meaning.specs.Owner.{owner_for}
 use Rattle.grid_meaning.specs.Stored.{arrangement_of}
 use Rattle.grid_meaning.proofs.WorldLemmas.{processors_alike}
-use Rattle.node_stages.proofs.OwnLemmas as own
-use Rattle.node_stages.proofs.PieceLemmas.{grid_count, IsRegion-slot}
+use Rattle.exchange_messages.proofs.of_node_stages.OwnLemmas as own
+use Rattle.exchange_messages.proofs.of_node_stages.PieceLemmas.{grid_count, IsRegion-slot}
 use Rattle.flood_messages.specs.Conforming.{conforming}
 use Rattle.flood_messages.proofs.ConformLemmas.{conforms, length-conforming, same_owners}
 use Rattle.flood_messages.proofs.pieces.flood_tuples.Goals as goal

@@ -1,7 +1,7 @@
 use Rattle.std.proofs.Common.{List, [], ℤ}
 use Rattle.zpl_arrays.specs.Flood.{flood_source}
 use Rattle.grid_meaning.specs.Place.{value_at}
-use Rattle.node_messages.proofs.ReadLemmas.{left}
+use Rattle.exchange_messages.proofs.of_node_messages.ReadLemmas.{left}
 use Rattle.flood_messages.proofs.WalkLemmas.{IsWalking}
 use Rattle.flood_messages.proofs.sources.are_sources_held.Given as goal
 

@@ -4,7 +4,7 @@ use Rattle.zpl_region.proofs.HullLemmas.{has_steps}
 use Rattle.zpl_arrays.specs.Flood.{flood_source}
 use Rattle.reduce_plan.proofs.WalkLemmas.{pushed}
 use Rattle.grid_meaning.specs.Place.{value_at}
-use Rattle.node_messages.proofs.ReadLemmas.{left}
+use Rattle.exchange_messages.proofs.of_node_messages.ReadLemmas.{left}
 use Rattle.flood_messages.proofs.WalkLemmas.{IsWalking, fewer_left, walk_ends, walk_lacks, walk_starts, walk_step}
 use Rattle.flood_messages.proofs.sources.push_sources.Goals as goal
 

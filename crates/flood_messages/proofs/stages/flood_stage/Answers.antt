@@ -5,9 +5,9 @@ use Rattle.grid_layout.specs.Grid.{processors_of}
 use Rattle.grid_meaning.specs.Collective.{others_where}
 use Rattle.grid_meaning.specs.Delivery.{flood_targets}
 use Rattle.grid_meaning.specs.Local.{processors}
-use Rattle.node_stages.specs.Partners.{flagged}
-use Rattle.node_stages.specs.Stage.{staged}
-use Rattle.node_stages.proofs.PieceLemmas.{grid_count}
+use Rattle.exchange_messages.specs.of_node_stages.Partners.{flagged}
+use Rattle.exchange_messages.specs.of_node_stages.Stage.{staged}
+use Rattle.exchange_messages.proofs.of_node_stages.PieceLemmas.{grid_count}
 use Rattle.flood_messages.proofs.stages.flood_stage.Goals as goal
 
 pub delivery_stage-requires-clause-made : goal.delivery_stage-requires-clause-made

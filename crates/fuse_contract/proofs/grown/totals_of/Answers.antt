@@ -1,8 +1,8 @@
 use Rattle.std.proofs.Common.{◌≡◌, ◌∙◌, [], ap, arith, fold, rules, List, Some}
 use Rattle.std.specs.Prelude.{flat_map, slice_get}
 use Rattle.std.proofs.lemmas.List.{take_all}
-use Rattle.node_form.specs.declared.members.Member.{Member}
-use Rattle.code_parts.specs.Uses.{accumulated_by}
+use Rattle.temp_norm.specs.of_node_form.declared.members.Member.{Member}
+use Rattle.temp_norm.specs.of_code_parts.Uses.{accumulated_by}
 use Rattle.fuse_contract.specs.Joining.{with_number}
 use Rattle.fuse_contract.proofs.UseLemmas.{lists_more}
 use Rattle.fuse_contract.proofs.grown.totals_of.Goals as goal

@@ -1,7 +1,7 @@
 use Rattle.std.proofs.Common.{◌≡◌, ◌∙◌, ap, refl, subst, sym, List, Some}
 use Rattle.std.specs.Prelude.{All}
-use Rattle.node_form.specs.declared.members.Member.{Member}
-use Rattle.code_parts.specs.Uses.{members_of}
+use Rattle.temp_norm.specs.of_node_form.declared.members.Member.{Member}
+use Rattle.temp_norm.specs.of_code_parts.Uses.{members_of}
 use Rattle.fuse_contract.specs.Behind.{FitsReference, IsLast}
 use Rattle.fuse_contract.specs.Joining.{last_with, uses_of}
 use Rattle.fuse_contract.specs.declared.uses.GroupUses.{GroupUses}

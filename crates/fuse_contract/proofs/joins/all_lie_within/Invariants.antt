@@ -1,6 +1,6 @@
 use Rattle.std.proofs.Common.{◌≡◌, List, true, take}
 use Rattle.std.specs.List.{list_all}
-use Rattle.node_form.specs.declared.arrays.Item.{Item}
+use Rattle.temp_norm.specs.of_node_form.declared.arrays.Item.{Item}
 use Rattle.fuse_contract.specs.Fusing.{lies_within}
 use Rattle.fuse_contract.specs.Known.{IsKnown}
 use Rattle.fuse_contract.proofs.joins.all_lie_within.Given as goal

@@ -1,5 +1,5 @@
 use Rattle.std.proofs.Common.{◌∙◌, ap, fold, List}
-use Rattle.code_parts.specs.Uses.{member_words}
+use Rattle.temp_norm.specs.of_code_parts.Uses.{member_words}
 use Rattle.fuse_contract.specs.Naming.{word_noted}
 use Rattle.fuse_contract.specs.declared.states.CellState.{CellState}
 use Rattle.fuse_contract.proofs.UseLemmas.{both_exprs}

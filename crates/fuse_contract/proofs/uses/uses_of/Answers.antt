@@ -1,8 +1,8 @@
 use Rattle.std.proofs.Common.{◌∙◌, ap, arith, fold, List}
 use Rattle.std.specs.Prelude.{flat_map}
 use Rattle.std.proofs.lemmas.List.{take_all}
-use Rattle.node_form.specs.declared.members.Member.{Member}
-use Rattle.code_parts.specs.Uses.{member_words}
+use Rattle.temp_norm.specs.of_node_form.declared.members.Member.{Member}
+use Rattle.temp_norm.specs.of_code_parts.Uses.{member_words}
 use Rattle.fuse_contract.specs.Joining.{no_uses, with_member, with_word}
 use Rattle.fuse_contract.proofs.UseLemmas.{all_used}
 use Rattle.fuse_contract.proofs.uses.uses_of.Goals as goal

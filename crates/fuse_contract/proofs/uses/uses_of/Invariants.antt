@@ -1,6 +1,6 @@
 use Rattle.std.proofs.Common.{◌≡◌, fold, take}
 use Rattle.std.specs.Prelude.{flat_map}
-use Rattle.code_parts.specs.Uses.{member_words}
+use Rattle.temp_norm.specs.of_code_parts.Uses.{member_words}
 use Rattle.fuse_contract.specs.Joining.{no_uses, with_member, with_word}
 use Rattle.fuse_contract.proofs.uses.uses_of.Given as goal
 

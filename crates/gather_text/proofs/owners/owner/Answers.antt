@@ -3,7 +3,7 @@ use Rattle.zpl_region.specs.declared.dims.Dim.{Dim}
 use Rattle.zpl_region.specs.declared.dims.Dim.TheVariants.{Range}
 use Rattle.grid_layout.specs.Layout.{AreBlocks, laid_out, owner_of}
 use Rattle.grid_meaning.specs.Stored.{arrangement_of}
-use Rattle.node_stages.proofs.PieceLemmas.{grid_count}
+use Rattle.node_messages.proofs.of_node_stages.PieceLemmas.{grid_count}
 use Rattle.gather_text.specs.Printer.{coordinate_below}
 use Rattle.gather_text.proofs.OwnerLemmas.{owner_is, three_below}
 use Rattle.gather_text.proofs.owners.owner.Goals as goal

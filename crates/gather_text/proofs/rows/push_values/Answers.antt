@@ -4,7 +4,7 @@ use Rattle.std.proofs.lemmas.List.{get_or-replicate}
 use Rattle.zpl_region.proofs.EndLemmas.{first_member}
 use Rattle.grid_layout.specs.Layout.{AreBlocks, laid_out}
 use Rattle.grid_meaning.specs.Stored.{arrangement_of}
-use Rattle.node_local.specs.Standing.{entry_of}
+use Rattle.node_messages.specs.of_node_local.Standing.{entry_of}
 use Rattle.node_messages.proofs.ReadLemmas.{left}
 use Rattle.reduce_plan.proofs.WalkLemmas.{pushed}
 use Rattle.gather_text.proofs.GatherLemmas.{IsGathering, few_used, gathering_ends, gathering_fewer, gathering_starts, gathering_step, value_is}

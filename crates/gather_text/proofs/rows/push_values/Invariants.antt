@@ -3,7 +3,7 @@ use Rattle.std.specs.Prelude.{map}
 use Rattle.grid_layout.specs.Layout.{AreBlocks, laid_out}
 use Rattle.grid_meaning.specs.State.{IsSlot}
 use Rattle.grid_meaning.specs.Stored.{arrangement_of}
-use Rattle.node_local.specs.Standing.{entry_of}
+use Rattle.node_messages.specs.of_node_local.Standing.{entry_of}
 use Rattle.node_messages.proofs.ReadLemmas.{left}
 use Rattle.gather_text.proofs.GatherLemmas.{IsGathering}
 use Rattle.gather_text.proofs.rows.push_values.Given as goal

@@ -1,8 +1,8 @@
 use Rattle.std.proofs.Common.{◌≡◌, ◌+◌, ◌-◌, ◌<◌, length, map, cond, ◌==◌, get_or, sym, ap, ◌∙◌, subst, arith}
 use Rattle.std.specs.Prelude.{Some, slice_get}
 use Rattle.std.proofs.lemmas.List.{length-map}
-use Rattle.node_local.specs.declared.standings.Kept.{Kept}
-use Rattle.node_local.specs.Standing.{entry_of}
+use Rattle.node_messages.specs.of_node_local.declared.standings.Kept.{Kept}
+use Rattle.node_messages.specs.of_node_local.Standing.{entry_of}
 use Rattle.gather_text.proofs.GatherLemmas.{AreFound, found_back, found_in, found_none}
 use Rattle.gather_text.proofs.rows.senders.Goals as goal
 

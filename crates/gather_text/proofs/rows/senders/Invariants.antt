@@ -1,6 +1,6 @@
 use Rattle.std.proofs.Common.{◌-◌, length}
 use Rattle.std.specs.Prelude.{map}
-use Rattle.node_local.specs.Standing.{entry_of}
+use Rattle.node_messages.specs.of_node_local.Standing.{entry_of}
 use Rattle.gather_text.proofs.GatherLemmas.{AreFound}
 use Rattle.gather_text.proofs.rows.senders.Given as goal
 

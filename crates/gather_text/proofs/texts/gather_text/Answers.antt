@@ -6,7 +6,7 @@ use Rattle.array_prints.specs.RowText.{value_text}
 use Rattle.grid_meaning.specs.Gather.{gathered_value}
 use Rattle.grid_meaning.specs.Owner.{tuples_of}
 use Rattle.grid_meaning.specs.Place.{values_at}
-use Rattle.node_local.specs.Standing.{entry_of}
+use Rattle.node_messages.specs.of_node_local.Standing.{entry_of}
 use Rattle.gather_text.proofs.RowLemmas.{last_prints, read_some}
 use Rattle.gather_text.proofs.texts.gather_text.Goals as goal
 

@@ -1,6 +1,6 @@
 use Rattle.std.proofs.Common.{◌≡◌, ◌≢◌, ◌≤◌, [], length, sym, ◌∙◌, subst, arith}
 use Rattle.zpl_text.specs.declared.TheConstants.{MOST_SOURCE}
-use Rattle.call_answers.specs.declared.answers.Answer.TheVariants as answer
+use Rattle.grid_call.specs.of_call_answers.declared.answers.Answer.TheVariants as answer
 use Rattle.call_words.specs.Reading.{asked_in}
 use Rattle.program_texts.specs.Text.{drawn_program}
 use Rattle.gen_call.proofs.RunLemmas.{quiet_puts, quiet_stops}

@@ -1,7 +1,7 @@
 use Rattle.std.proofs.Common.{[]}
 use Rattle.grid_meaning.specs.Local.{processors}
-use Rattle.call_claims.specs.Call.{call_of}
-use Rattle.call_claims.specs.Command.{limit_of}
+use Rattle.call_words.specs.of_call_claims.Call.{call_of}
+use Rattle.call_words.specs.of_call_claims.Command.{limit_of}
 use Rattle.call_words.specs.Reading.{asked_in}
 use Rattle.grid_call.specs.Work.IsCodeWork.{ran}
 use Rattle.call_answers.proofs.FetchLemmas.{not_fetched}

@@ -1,8 +1,8 @@
 use Rattle.std.proofs.Common.{◌≤◌, length, refl, sym, subst}
-use Rattle.call_claims.specs.Call.{call_of}
+use Rattle.call_words.specs.of_call_claims.Call.{call_of}
 use Rattle.call_answers.proofs.FetchLemmas.{on_err, on_ok}
 use Rattle.call_answers.specs.Fetched.{IsWholeText}
-use Rattle.exec_claims.specs.declared.limits.TheConstants.{MOST_LISTING}
+use Rattle.call_answers.specs.of_exec_claims.declared.limits.TheConstants.{MOST_LISTING}
 use Rattle.grid_call.proofs.WorkLemmas.{source_of, unfetched_order, unfetched_unrun, unread_order}
 use Rattle.grid_call.proofs.orders.fetch_named.Goals as goal
 

@@ -1,8 +1,8 @@
 use Rattle.std.proofs.Common.{subst, refl}
 use Rattle.call_words.specs.Reading.{asked_in}
-use Rattle.exec_claims.specs.Cause.{run_of}
+use Rattle.call_answers.specs.of_exec_claims.Cause.{run_of}
 use Rattle.zpl_nums.specs.declared.ends.End.TheVariants.{More}
-use Rattle.grid_sim.specs.Run.{EndsRun, IsRun, run_in}
+use Rattle.call_answers.specs.of_grid_sim.Run.{EndsRun, IsRun, run_in}
 use Rattle.grid_call.proofs.RunLemmas.{run_is_on}
 use Rattle.grid_call.proofs.runs.run_sim.Goals as goal
 

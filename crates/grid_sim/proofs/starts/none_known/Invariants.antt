@@ -1,5 +1,5 @@
 use Rattle.std.proofs.Common.{◌≡◌, replicate}
-use Rattle.node_stages.specs.Known.{nothing_known}
+use Rattle.node_turn.specs.of_node_stages.Known.{nothing_known}
 use Rattle.grid_sim.proofs.starts.none_known.Given as goal
 
 abbrev pub invariant-loop-p : goal.invariant-loop-p

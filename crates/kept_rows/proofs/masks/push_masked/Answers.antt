@@ -5,8 +5,8 @@ use Rattle.zpl_region.specs.Region.{members}
 use Rattle.zpl_region.proofs.EndLemmas.{length-tuple_count}
 use Rattle.zpl_region.proofs.HullLemmas.{has_steps}
 use Rattle.zpl_arrays.specs.Array.{Array, element}
-use Rattle.zpl_meaning.specs.Context.{lets_in}
-use Rattle.zpl_meaning.specs.Store.{array_at}
+use Rattle.array_terms.specs.of_zpl_meaning.Context.{lets_in}
+use Rattle.array_terms.specs.of_zpl_meaning.Store.{array_at}
 use Rattle.kept_rows.proofs.KeptLemmas.{let_in_nowhere}
 use Rattle.kept_rows.proofs.masks.push_masked.Goals as goal
 

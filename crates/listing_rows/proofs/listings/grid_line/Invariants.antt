@@ -1,5 +1,5 @@
 use Rattle.std.proofs.Common.{◌≡◌, ◌++◌, drop, map}
-use Rattle.node_form.specs.Grid.{factors_of}
+use Rattle.listing_lines.specs.of_node_form.Grid.{factors_of}
 use Rattle.listing_rows.specs.declared.fields.Said.TheVariants.{Number}
 use Rattle.listing_rows.specs.Fields.{fields_of}
 use Rattle.listing_rows.proofs.listings.grid_line.Given as goal

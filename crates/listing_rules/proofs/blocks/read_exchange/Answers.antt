@@ -1,6 +1,6 @@
 use Rattle.std.proofs.Common.{◌+◌, List, [], drop, arith}
 use Rattle.node_form.specs.declared.arrays.Item.{Item}
-use Rattle.listing_lines.specs.declared.keywords.Keyword.TheVariants as key
+use Rattle.listing_rows.specs.of_listing_lines.declared.keywords.Keyword.TheVariants as key
 use Rattle.listing_rows.specs.Rows.{line_of}
 use Rattle.listing_rules.specs.declared.parts.Part.TheVariants as part
 use Rattle.listing_rules.specs.Reads.{Stops}

@@ -1,7 +1,7 @@
 use Rattle.std.proofs.Common.{◌≡◌, ◌+◌, false, [], ◌∷◌, ◌++◌, drop, rules}
 use Rattle.node_form.specs.Fits.{FitsGroup}
 use Rattle.listing_rules.specs.Facts.{AreGroupFacts}
-use Rattle.listing_lines.specs.declared.keywords.Keyword.TheVariants as key
+use Rattle.listing_rows.specs.of_listing_lines.declared.keywords.Keyword.TheVariants as key
 use Rattle.listing_rows.specs.Rows.{line_of}
 use Rattle.listing_rules.specs.declared.parts.Part.TheVariants as part
 use Rattle.listing_rules.specs.Blocks.{BlocksStop, NoBlock}

@@ -1,5 +1,5 @@
 use Rattle.std.proofs.Common.{drop}
-use Rattle.listing_lines.specs.declared.keywords.Keyword.TheVariants as key
+use Rattle.listing_rows.specs.of_listing_lines.declared.keywords.Keyword.TheVariants as key
 use Rattle.listing_rules.specs.Reads.{NoFirst}
 use Rattle.listing_rules.specs.Rules.{IsCountLine, IsGridLine, IsSlotsLine, IsVersionLine}
 use Rattle.listing_rules.specs.Stages.{Breaks, AtVersion, AtGrid, AtScalars, AtSlots, AtCells}

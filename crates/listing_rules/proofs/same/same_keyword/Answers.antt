@@ -1,6 +1,6 @@
 use Rattle.std.proofs.Common.{sym, ◌∙◌, ap}
-use Rattle.listing_lines.specs.Keyword.{keyword_text}
-use Rattle.listing_lines.proofs.KeywordTexts.{same_keyword}
+use Rattle.listing_rows.specs.of_listing_lines.Keyword.{keyword_text}
+use Rattle.listing_rows.proofs.of_listing_lines.KeywordTexts.{same_keyword}
 use Rattle.listing_rules.proofs.same.same_keyword.Goals as goal
 
 pub returns : goal.returns

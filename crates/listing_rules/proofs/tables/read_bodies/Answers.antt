@@ -2,7 +2,7 @@ use Rattle.std.proofs.Common.{List, [], drop, sym, subst, refl}
 use Rattle.node_form.specs.declared.arrays.Item.{Item}
 use Rattle.node_form.specs.declared.tables.Tables.{Tables}
 use Rattle.node_form.specs.Fits.{FitsGroup}
-use Rattle.listing_lines.specs.declared.keywords.Keyword.TheVariants as key
+use Rattle.listing_rows.specs.of_listing_lines.declared.keywords.Keyword.TheVariants as key
 use Rattle.listing_rows.specs.Rows.{line_of}
 use Rattle.listing_rules.specs.declared.facts.Known.{Known}
 use Rattle.listing_rules.specs.declared.parts.Part.TheVariants as part

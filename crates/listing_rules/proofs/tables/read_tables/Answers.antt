@@ -1,6 +1,6 @@
 use Rattle.std.proofs.Common.{◌≡◌, ℕ, ◌+◌, ◌-◌, List, [], length, drop, subst, refl}
 use Rattle.node_form.specs.declared.instructions.Instr.{Instr}
-use Rattle.listing_lines.specs.declared.lines.Line.{Line}
+use Rattle.listing_rows.specs.of_listing_lines.declared.lines.Line.{Line}
 use Rattle.listing_rules.specs.declared.parts.Part.TheVariants as part
 use Rattle.listing_rules.specs.Reads.{NoFirst, Reads, Stops}
 use Rattle.listing_rules.specs.Rules.{belongs, IsCodeLine, IsInstrLine}

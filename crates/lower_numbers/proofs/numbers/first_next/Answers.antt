@@ -1,7 +1,7 @@
 use Rattle.std.proofs.Common.{◌≡◌, ◌+◌, min, ◌^◌, ◌-◌, sym, ◌∙◌, ap, ap₂, length}
 use Rattle.zpl_tree.specs.View.{syntax_of}
-use Rattle.zpl_names.specs.Expansion.{expanded_arrays, expanded_copies, expanded_of}
-use Rattle.zpl_lowering.specs.Program.{reads_round}
+use Rattle.expanded_counts.specs.of_zpl_names.Expansion.{expanded_arrays, expanded_copies, expanded_of}
+use Rattle.lower_draft.specs.of_zpl_lowering.Program.{reads_round}
 use Rattle.lower_numbers.specs.Arrays.{first_numbers, global_arrays, own_arrays}
 use Rattle.lower_numbers.proofs.SumLemmas.{behind_is, exact}
 use Rattle.lower_numbers.proofs.InstanceLemmas.{arrays_are, copies_are}

@@ -1,7 +1,7 @@
 use Rattle.std.proofs.Common.{arith, ap, ◌∙◌}
-use Rattle.zpl_lowering.specs.Lowered.{rows_alone}
-use Rattle.zpl_lowering.specs.Reference.{conforming}
-use Rattle.lower_draft.specs.Drafted.{grown}
+use Rattle.lower_regions.specs.of_zpl_lowering.Lowered.{rows_alone}
+use Rattle.lower_regions.specs.of_zpl_lowering.Reference.{conforming}
+use Rattle.lower_regions.specs.of_lower_draft.Drafted.{grown}
 use Rattle.lower_operators.specs.View.{slate_of}
 use Rattle.lower_operators.proofs.SlateLemmas.{conform-end, conform-next}
 use Rattle.lower_operators.proofs.conforming.conform_all.Goals as goal

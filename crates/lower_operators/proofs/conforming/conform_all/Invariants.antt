@@ -1,7 +1,7 @@
 use Rattle.std.proofs.Common.{◌≡◌, drop}
-use Rattle.zpl_lowering.specs.Lowered.{rows_alone}
-use Rattle.zpl_lowering.specs.Reference.{all_conforming}
-use Rattle.lower_draft.specs.Drafted.{grown}
+use Rattle.lower_regions.specs.of_zpl_lowering.Lowered.{rows_alone}
+use Rattle.lower_regions.specs.of_zpl_lowering.Reference.{all_conforming}
+use Rattle.lower_regions.specs.of_lower_draft.Drafted.{grown}
 use Rattle.lower_operators.specs.View.{slates_in}
 use Rattle.lower_operators.proofs.conforming.conform_all.Given as goal
 

@@ -1,5 +1,5 @@
 use Rattle.node_form.specs.declared.instructions.Instr.TheVariants as instr
-use Rattle.lower_places.specs.View.{slotted_of}
+use Rattle.lower_regions.specs.of_lower_places.View.{slotted_of}
 use Rattle.lower_operators.proofs.OperatorLemmas.{sourced, sourced-left}
 use Rattle.lower_operators.proofs.folding.flood_over.Goals as goal
 

@@ -1,7 +1,7 @@
 use Rattle.std.proofs.Common.{◌≡◌, [], ◌∷◌, rules}
 use Rattle.zpl_nums.specs.Fold.{unit_of}
 use Rattle.node_form.specs.declared.words.ExprOp.TheVariants.{Const}
-use Rattle.lower_places.specs.View.{slotted_of}
+use Rattle.lower_regions.specs.of_lower_places.View.{slotted_of}
 use Rattle.lower_operators.proofs.OperatorLemmas.{folded, folded-left}
 use Rattle.lower_operators.proofs.folding.fold_over.Goals as goal
 

@@ -1,7 +1,7 @@
 use Rattle.std.proofs.Common.{◌++◌, ◌∷◌, map, sym, ap, ◌∙◌}
 use Rattle.node_form.specs.Expression.{Operation, words_of}
-use Rattle.zpl_lowering.specs.Hoist.{all_hoisted, hoisted}
-use Rattle.lower_draft.specs.Drafted.{grown}
+use Rattle.lower_regions.specs.of_zpl_lowering.Hoist.{all_hoisted, hoisted}
+use Rattle.lower_regions.specs.of_lower_draft.Drafted.{grown}
 use Rattle.lower_operators.specs.Code.{free_of, of_hoisted}
 use Rattle.lower_operators.specs.View.{slate_of, slates_of}
 use Rattle.lower_operators.proofs.GrowthLemmas.{hoisted_then}

@@ -1,8 +1,8 @@
 use Rattle.std.proofs.Common.{◌+◌, ◌++◌, map, drop, subst, ap, ◌∙◌, arith}
 use Rattle.std.proofs.lemmas.List.{at_drop_more}
 use Rattle.node_form.specs.Expression.{words_of}
-use Rattle.zpl_lowering.specs.Hoist.{all_hoisted, hoisted}
-use Rattle.lower_draft.specs.Drafted.{grown}
+use Rattle.lower_regions.specs.of_zpl_lowering.Hoist.{all_hoisted, hoisted}
+use Rattle.lower_regions.specs.of_lower_draft.Drafted.{grown}
 use Rattle.lower_operators.specs.Code.{free_of, of_hoisted}
 use Rattle.lower_operators.specs.Sound.{AreSound}
 use Rattle.lower_operators.specs.View.{slate_of, slates_in}

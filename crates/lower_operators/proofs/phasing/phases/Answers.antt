@@ -1,5 +1,5 @@
 use Rattle.std.proofs.Common.{ap, ◌∙◌}
-use Rattle.lower_places.specs.View.{where_of}
+use Rattle.lower_regions.specs.of_lower_places.View.{where_of}
 use Rattle.lower_operators.specs.Once.{optional}
 use Rattle.lower_operators.specs.View.{all_placed, slates_in}
 use Rattle.lower_operators.proofs.PhaseLemmas.{each_ok, phased-left, phased-rows, when_ok}

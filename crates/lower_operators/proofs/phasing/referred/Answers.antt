@@ -1,5 +1,5 @@
 use Rattle.std.proofs.Common.{[], ◌++◌, ap, ◌∙◌, append_assoc}
-use Rattle.zpl_lowering.specs.Reference.{all_referred}
+use Rattle.lower_regions.specs.of_zpl_lowering.Reference.{all_referred}
 use Rattle.lower_operators.specs.Once.{optional, with_references}
 use Rattle.lower_operators.specs.View.{slates_in}
 use Rattle.lower_operators.proofs.OnceLemmas.{added-both, added-once}

@@ -1,6 +1,6 @@
 use Rattle.std.proofs.Common.{◌+◌, drop, ap, subst, sym, ◌∙◌, arith}
-use Rattle.zpl_lowering.specs.Slate.{settled_each}
-use Rattle.lower_places.specs.View.{where_of}
+use Rattle.lower_regions.specs.of_zpl_lowering.Slate.{settled_each}
+use Rattle.lower_regions.specs.of_lower_places.View.{where_of}
 use Rattle.lower_operators.specs.Sound.{AreSound}
 use Rattle.lower_operators.specs.View.{all_placed, slates_before, slates_in}
 use Rattle.lower_operators.proofs.SettleLemmas.{each-next, each-slates-next, each-slates-end, sound-more}

@@ -1,7 +1,7 @@
 use Rattle.std.proofs.Common.{◌≡◌, drop}
-use Rattle.zpl_lowering.specs.Slate.{settled_each}
-use Rattle.lower_draft.specs.Drafted.{grown}
-use Rattle.lower_places.specs.View.{where_of}
+use Rattle.lower_regions.specs.of_zpl_lowering.Slate.{settled_each}
+use Rattle.lower_regions.specs.of_lower_draft.Drafted.{grown}
+use Rattle.lower_regions.specs.of_lower_places.View.{where_of}
 use Rattle.lower_operators.specs.Code.{of_settled}
 use Rattle.lower_operators.specs.Sound.{AreSound}
 use Rattle.lower_operators.specs.View.{all_placed, slates_before, slates_in}

@@ -1,5 +1,5 @@
 use Rattle.std.proofs.Common.{arith, ap, ◌∙◌}
-use Rattle.zpl_lowering.specs.Reference.{referred}
+use Rattle.lower_regions.specs.of_zpl_lowering.Reference.{referred}
 use Rattle.lower_operators.specs.Once.{with_references}
 use Rattle.lower_operators.specs.View.{slate_of}
 use Rattle.lower_operators.proofs.SlateLemmas.{refer-end, refer-next}

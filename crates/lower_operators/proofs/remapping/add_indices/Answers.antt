@@ -1,11 +1,11 @@
 use Rattle.std.proofs.Common.{rules, ◌≡◌, ◌∷◌, [], ◌++◌, map, sym, ap, ◌∙◌}
 use Rattle.std.specs.Vec.Iter.{into_iter_items}
-use Rattle.zpl_lowering.specs.Hoist.{mask_code}
-use Rattle.lower_draft.specs.Drafted.{grown}
-use Rattle.lower_draft.specs.Inline.{member_of}
-use Rattle.lower_draft.specs.declared.rows.FlatMember.TheVariants as flat
-use Rattle.lower_draft.proofs.PushLemmas.{nothing_left}
-use Rattle.lower_places.specs.View.{slotted_of}
+use Rattle.lower_regions.specs.of_zpl_lowering.Hoist.{mask_code}
+use Rattle.lower_regions.specs.of_lower_draft.Drafted.{grown}
+use Rattle.lower_regions.specs.of_lower_draft.Inline.{member_of}
+use Rattle.lower_regions.specs.of_lower_draft.declared.rows.FlatMember.TheVariants as flat
+use Rattle.lower_regions.proofs.of_lower_draft.PushLemmas.{nothing_left}
+use Rattle.lower_regions.specs.of_lower_places.View.{slotted_of}
 use Rattle.lower_operators.specs.Remapped.{puts_of, with_rooms}
 use Rattle.lower_operators.proofs.RemapLemmas.{put-pushed, puts-end, puts-next, rooms-end, rooms-next}
 use Rattle.lower_operators.proofs.remapping.add_indices.Goals as goal

@@ -1,8 +1,8 @@
 use Rattle.std.proofs.Common.{◌≡◌, ◌++◌, map}
-use Rattle.zpl_lowering.specs.Hoist.{mask_code}
-use Rattle.lower_draft.specs.Drafted.{grown}
-use Rattle.lower_draft.specs.Inline.{member_of}
-use Rattle.lower_places.specs.View.{slotted_of}
+use Rattle.lower_regions.specs.of_zpl_lowering.Hoist.{mask_code}
+use Rattle.lower_regions.specs.of_lower_draft.Drafted.{grown}
+use Rattle.lower_regions.specs.of_lower_draft.Inline.{member_of}
+use Rattle.lower_regions.specs.of_lower_places.View.{slotted_of}
 use Rattle.lower_operators.specs.Remapped.{puts_of, with_rooms}
 use Rattle.lower_operators.proofs.remapping.add_indices.Given as goal
 

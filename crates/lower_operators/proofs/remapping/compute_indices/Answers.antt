@@ -1,6 +1,6 @@
 use Rattle.std.proofs.Common.{map}
-use Rattle.lower_draft.specs.Inline.{member_of}
-use Rattle.lower_places.specs.View.{slotted_of}
+use Rattle.lower_regions.specs.of_lower_draft.Inline.{member_of}
+use Rattle.lower_regions.specs.of_lower_places.View.{slotted_of}
 use Rattle.lower_operators.proofs.RemapLemmas.{indices-grown}
 use Rattle.lower_operators.proofs.remapping.compute_indices.Goals as goal
 

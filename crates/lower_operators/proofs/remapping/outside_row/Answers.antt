@@ -1,6 +1,6 @@
 use Rattle.std.proofs.Common.{◌≡◌, ◌≤◌, length, take, sym, ◌∙◌, arith}
 use Rattle.std.proofs.lemmas.Bool.{eqb-false, eqb-true}
-use Rattle.zpl_lowering.specs.Hoist.{past_dims}
+use Rattle.lower_regions.specs.of_zpl_lowering.Hoist.{past_dims}
 use Rattle.lower_operators.proofs.RemapLemmas.{outside-none, outside-some}
 use Rattle.lower_operators.proofs.remapping.outside_row.Goals as goal
 

@@ -1,7 +1,7 @@
 use Rattle.std.proofs.Common.{◌≡◌, pos, [], ◌∷◌, fold, take, get_or, ap, ◌∙◌, arith}
 use Rattle.zpl_region.specs.declared.dims.Dim.{Dim}
 use Rattle.zpl_region.specs.declared.dims.Dim.TheVariants.{Range}
-use Rattle.zpl_lowering.specs.Hoist.{past_dims}
+use Rattle.lower_regions.specs.of_zpl_lowering.Hoist.{past_dims}
 use Rattle.lower_operators.specs.Remapped.{ored}
 use Rattle.lower_operators.proofs.RemapLemmas.{three-dims, three-past}
 use Rattle.lower_operators.proofs.remapping.past_words.Goals as goal

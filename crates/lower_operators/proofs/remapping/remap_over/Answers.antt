@@ -1,10 +1,10 @@
 use Rattle.std.proofs.Common.{sym, ap, ◌∙◌}
 use Rattle.std.specs.Option.{option_map}
 use Rattle.node_form.specs.Expression.{words_of}
-use Rattle.zpl_lowering.specs.Hoist.{remapping}
-use Rattle.lower_draft.specs.Drafted.{grown}
-use Rattle.lower_places.specs.Numbers.{stored_of}
-use Rattle.lower_places.specs.View.{slotted_of}
+use Rattle.lower_regions.specs.of_zpl_lowering.Hoist.{remapping}
+use Rattle.lower_regions.specs.of_lower_draft.Drafted.{grown}
+use Rattle.lower_regions.specs.of_lower_places.Numbers.{stored_of}
+use Rattle.lower_regions.specs.of_lower_places.View.{slotted_of}
 use Rattle.lower_operators.specs.Code.{free_of, of_hoisted}
 use Rattle.lower_operators.proofs.remapping.remap_over.Goals as goal
 

@@ -1,6 +1,6 @@
 use Rattle.std.proofs.Common.{ap, ◌∙◌}
-use Rattle.lower_places.specs.Numbers.{stored_of}
-use Rattle.lower_places.specs.View.{slotted_of}
+use Rattle.lower_regions.specs.of_lower_places.Numbers.{stored_of}
+use Rattle.lower_regions.specs.of_lower_places.View.{slotted_of}
 use Rattle.lower_operators.proofs.RemapLemmas.{remapped, remapped-left}
 use Rattle.lower_operators.proofs.remapping.remap_stored.Goals as goal
 

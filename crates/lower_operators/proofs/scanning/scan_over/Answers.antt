@@ -1,9 +1,9 @@
 use Rattle.std.proofs.Common.{sym, ap, ◌∙◌}
 use Rattle.std.specs.Option.{option_map}
-use Rattle.zpl_lowering.specs.Hoist.{scanning}
+use Rattle.lower_regions.specs.of_zpl_lowering.Hoist.{scanning}
 use Rattle.array_terms.specs.View.{mask_of}
-use Rattle.lower_draft.specs.Drafted.{grown}
-use Rattle.lower_places.specs.View.{slotted_of}
+use Rattle.lower_regions.specs.of_lower_draft.Drafted.{grown}
+use Rattle.lower_regions.specs.of_lower_places.View.{slotted_of}
 use Rattle.lower_operators.specs.Code.{free_of, of_hoisted}
 use Rattle.lower_operators.proofs.OperatorLemmas.{scanned-with, scanned-without}
 use Rattle.lower_operators.proofs.scanning.scan_over.Goals as goal

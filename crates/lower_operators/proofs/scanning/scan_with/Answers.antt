@@ -1,5 +1,5 @@
 use Rattle.std.proofs.Common.{ap, ◌∙◌}
-use Rattle.lower_places.specs.View.{slotted_of}
+use Rattle.lower_regions.specs.of_lower_places.View.{slotted_of}
 use Rattle.lower_operators.proofs.OperatorLemmas.{scan-kept}
 use Rattle.lower_operators.proofs.scanning.scan_with.Goals as goal
 

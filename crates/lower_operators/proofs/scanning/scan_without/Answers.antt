@@ -1,4 +1,4 @@
-use Rattle.lower_places.specs.View.{slotted_of}
+use Rattle.lower_regions.specs.of_lower_places.View.{slotted_of}
 use Rattle.lower_operators.proofs.OperatorLemmas.{scan-filled}
 use Rattle.lower_operators.proofs.scanning.scan_without.Goals as goal
 

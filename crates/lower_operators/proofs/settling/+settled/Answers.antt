@@ -2,9 +2,9 @@ use Rattle.std.proofs.Common.{◌≡◌, ◌+◌, drop, ap, ◌∙◌, sym, subs
 use Rattle.zpl_tree.specs.Syntax as syntax
 use Rattle.zpl_tree.specs.View.{expr_of, exprs_of, form_of, name_of}
 use Rattle.zpl_tree.proofs.Views.{form_of-Remap}
-use Rattle.zpl_lowering.specs.Slate.{settled, settled_all}
-use Rattle.lower_draft.specs.Drafted.{grown}
-use Rattle.lower_places.specs.View.{slotted_of, where_of}
+use Rattle.lower_regions.specs.of_zpl_lowering.Slate.{settled, settled_all}
+use Rattle.lower_regions.specs.of_lower_draft.Drafted.{grown}
+use Rattle.lower_regions.specs.of_lower_places.View.{slotted_of, where_of}
 use Rattle.lower_operators.specs.Code.{of_settled}
 use Rattle.lower_operators.specs.Sound.{AreSound}
 use Rattle.lower_operators.specs.View.{slate_of, slates_before, slates_in}

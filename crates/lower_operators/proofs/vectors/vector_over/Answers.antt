@@ -3,7 +3,7 @@ use Rattle.std.proofs.lemmas.Int.{ints}
 use Rattle.zpl_region.specs.declared.dims.Dim.{Dim}
 use Rattle.zpl_region.specs.declared.dims.Dim.TheVariants.{Range}
 use Rattle.zpl_region.specs.Dim.{IsUpTo}
-use Rattle.zpl_lowering.specs.Reference.{dim_shift}
+use Rattle.lower_regions.specs.of_zpl_lowering.Reference.{dim_shift}
 use Rattle.lower_operators.proofs.VectorLemmas.{near-over, shifts-are}
 use Rattle.lower_operators.proofs.vectors.vector_over.Goals as goal
 

@@ -1,7 +1,7 @@
 use Rattle.std.proofs.Common.{◌≡◌, pos, [], ◌∷◌, ◌++◌, flat_map, sym, ap, ap₂, ◌∙◌, w64, to_z, of_z, arith}
 use Rattle.std.proofs.lemmas.Int.{ints}
 use Rattle.zpl_nums.specs.Integer.{is_true}
-use Rattle.zpl_lowering.specs.Hoist.{kept_or_not}
+use Rattle.lower_regions.specs.of_zpl_lowering.Hoist.{kept_or_not}
 use Rattle.lower_operators.proofs.WrapLemmas.{all-chosen, each-two}
 use Rattle.lower_operators.proofs.wrapping.add_all.Goals as goal
 

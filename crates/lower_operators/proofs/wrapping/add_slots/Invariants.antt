@@ -1,5 +1,5 @@
 use Rattle.std.proofs.Common.{◌≡◌, [], replicate}
-use Rattle.lower_draft.specs.Drafted.{grown}
+use Rattle.lower_regions.specs.of_lower_draft.Drafted.{grown}
 use Rattle.lower_operators.proofs.CopyLemmas.{having}
 use Rattle.lower_operators.proofs.wrapping.add_slots.Given as goal
 

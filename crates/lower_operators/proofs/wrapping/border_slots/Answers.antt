@@ -1,6 +1,6 @@
 use Rattle.std.proofs.Common.{◌≡◌, pos, [], ◌∷◌, filter, length, get_or, refl, ap, ◌∙◌, w64, to_z, of_z, arith}
 use Rattle.std.proofs.lemmas.Int.{ints}
-use Rattle.zpl_lowering.specs.Slate.{is_moving}
+use Rattle.lower_regions.specs.of_zpl_lowering.Slate.{is_moving}
 use Rattle.lower_operators.proofs.CopyLemmas.{slots-are}
 use Rattle.lower_operators.proofs.wrapping.border_slots.Goals as goal
 

@@ -1,7 +1,7 @@
 use Rattle.std.proofs.Common.{◌≡◌, drop}
-use Rattle.zpl_lowering.specs.Hoist.{border_rows}
-use Rattle.zpl_lowering.specs.Lowered.{rows_alone}
-use Rattle.lower_draft.specs.Drafted.{grown}
+use Rattle.lower_regions.specs.of_zpl_lowering.Hoist.{border_rows}
+use Rattle.lower_regions.specs.of_zpl_lowering.Lowered.{rows_alone}
+use Rattle.lower_regions.specs.of_lower_draft.Drafted.{grown}
 use Rattle.lower_operators.proofs.wrapping.push_borders.Given as goal
 
 abbrev pub invariant-loop-shift : goal.invariant-loop-shift

@@ -4,7 +4,7 @@ use Rattle.zpl_tree.specs.Syntax.{Else}
 use Rattle.zpl_tree.specs.View.{arms_of, expr_of, stmts_of}
 use Rattle.zpl_tree.specs.declared.statements.Arm.{out-Arm}
 use Rattle.flat_form.specs.Row as row
-use Rattle.lower_draft.specs.Inline.{member_of}
+use Rattle.lower_operators.specs.of_lower_draft.Inline.{member_of}
 use Rattle.lower_operators.specs.Once.{with_references}
 use Rattle.lower_points.specs.Inside.{arms_at, form_at, members_in, stmts_at, value_at}
 use Rattle.lower_points.proofs.FormLemmas.{choice_else, repeat_is, while_is}

@@ -3,7 +3,7 @@ use Rattle.zpl_tree.specs.View.{expr_of}
 use Rattle.zpl_tree.specs.declared.statements.Arm.{out-Arm}
 use Rattle.zpl_names.specs.Sites.{test_rank}
 use Rattle.zpl_lowering.specs.Where.{reach_of}
-use Rattle.lower_places.specs.View.{where_of}
+use Rattle.lower_operators.specs.of_lower_places.View.{where_of}
 use Rattle.lower_points.proofs.RankLemmas.{arms_step}
 use Rattle.lower_points.proofs.ranks.arms_rank.Goals as goal
 

@@ -3,7 +3,7 @@ use Rattle.zpl_tree.specs.View.{arms_of}
 use Rattle.zpl_names.specs.Ranks.{first_rank}
 use Rattle.zpl_names.specs.Sites.{arms_rank}
 use Rattle.zpl_lowering.specs.Where.{reach_of}
-use Rattle.lower_places.specs.View.{where_of}
+use Rattle.lower_operators.specs.of_lower_places.View.{where_of}
 use Rattle.lower_points.proofs.ranks.arms_rank.Given as goal
 
 -- the rank so far, else that of the rest, is that of all

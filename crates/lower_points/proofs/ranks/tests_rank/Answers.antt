@@ -2,7 +2,7 @@ use Rattle.std.proofs.Common.{ap, sym, ◌∙◌}
 use Rattle.zpl_tree.specs.View.{statement_of}
 use Rattle.zpl_names.specs.Sites as sites
 use Rattle.zpl_lowering.specs.Where.{reach_of}
-use Rattle.lower_places.specs.View.{where_of}
+use Rattle.lower_operators.specs.of_lower_places.View.{where_of}
 use Rattle.lower_points.proofs.ranks.tests_rank.Goals as goal
 
 pub returns-in-If : goal.returns-in-If

@@ -1,7 +1,7 @@
 use Rattle.std.proofs.Common.{◌∙◌, ap}
 use Rattle.zpl_tree.specs.View.{statement_of}
 use Rattle.lower_operators.specs.Once.{optional, with_references}
-use Rattle.lower_places.specs.View.{slotted_of, where_of}
+use Rattle.lower_operators.specs.of_lower_places.View.{slotted_of, where_of}
 use Rattle.lower_points.specs.Inside.{form_at}
 use Rattle.lower_points.proofs.PointLemmas.{all_needed}
 use Rattle.lower_points.proofs.shattered.collected.Goals as goal

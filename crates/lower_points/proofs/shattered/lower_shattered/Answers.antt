@@ -1,5 +1,5 @@
 use Rattle.zpl_tree.specs.View.{statement_of}
-use Rattle.lower_places.specs.View.{where_of}
+use Rattle.lower_operators.specs.of_lower_places.View.{where_of}
 use Rattle.lower_points.proofs.ApartLemmas.{shattered_grown}
 use Rattle.lower_points.proofs.shattered.lower_shattered.Goals as goal
 

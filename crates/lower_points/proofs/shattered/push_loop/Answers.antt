@@ -1,7 +1,7 @@
 use Rattle.std.proofs.Common.{◌∙◌, ap}
 use Rattle.zpl_tree.specs.View.{statement_of}
 use Rattle.zpl_lowering.specs.Statement.{has_put}
-use Rattle.lower_places.specs.View.{where_of}
+use Rattle.lower_operators.specs.of_lower_places.View.{where_of}
 use Rattle.lower_points.specs.Inside.{members_in, whole_inside}
 use Rattle.lower_points.proofs.ApartLemmas.{group_put}
 use Rattle.lower_points.proofs.shattered.push_loop.Goals as goal

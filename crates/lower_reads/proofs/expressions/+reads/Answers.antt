@@ -1,6 +1,6 @@
 use Rattle.std.proofs.Common.{◌+◌, sym, ◌∙◌, ap}
-use Rattle.zpl_tree.specs.View.{inner_of}
-use Rattle.zpl_tree.proofs.Views.{rexpr_of-parts}
+use Rattle.zpl_lowering.specs.of_zpl_tree.View.{inner_of}
+use Rattle.zpl_lowering.proofs.of_zpl_tree.Views.{rexpr_of-parts}
 use Rattle.lower_reads.specs.Reads.{inner_reads}
 use Rattle.lower_reads.proofs.expressions.+reads.Goals as goal
 

@@ -1,7 +1,7 @@
 -- How deep what is counted is, and then how far a function stands above those that it passes the
 -- same. The count so far with the rest is the whole count.
 use Rattle.std.proofs.Common.{◌≡◌, ◌+◌, ◌*◌, drop}
-use Rattle.zpl_tree.specs.View.{dims_of, exprs_of, posts_of}
+use Rattle.zpl_lowering.specs.of_zpl_tree.View.{dims_of, exprs_of, posts_of}
 use Rattle.lower_reads.specs.Reads.{dims_reads, exprs_reads, posts_reads}
 use Rattle.lower_reads.proofs.expressions.+reads.Given as goal
 

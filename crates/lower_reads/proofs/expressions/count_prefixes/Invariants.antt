@@ -1,5 +1,5 @@
 use Rattle.std.proofs.Common.{◌≡◌, ◌+◌, drop, map}
-use Rattle.zpl_tree.specs.View.{prefix_of}
+use Rattle.zpl_lowering.specs.of_zpl_tree.View.{prefix_of}
 use Rattle.lower_reads.specs.Reads.{prefixes_reads}
 use Rattle.lower_reads.proofs.expressions.count_prefixes.Given as goal
 

@@ -1,6 +1,6 @@
 use Rattle.std.proofs.Common.{◌≡◌, ◌+◌, ◌∙◌, ap, arith}
-use Rattle.zpl_tree.specs.Syntax as plain
-use Rattle.zpl_tree.specs.View.{arms_of, else_of, statement_of, stmts_of}
+use Rattle.zpl_lowering.specs.of_zpl_tree.Syntax as plain
+use Rattle.zpl_lowering.specs.of_zpl_tree.View.{arms_of, else_of, statement_of, stmts_of}
 use Rattle.lower_reads.specs.Reads.{arms_reads, form_reads, stmts_reads}
 use Rattle.lower_reads.proofs.ArmLemmas.{arms_on}
 use Rattle.lower_reads.proofs.statements.+statement_reads.Goals as goal

@@ -1,5 +1,5 @@
 use Rattle.std.proofs.Common.{◌≡◌, ◌+◌, ◌*◌, drop}
-use Rattle.zpl_tree.specs.View.{arms_of, stmts_of}
+use Rattle.zpl_lowering.specs.of_zpl_tree.View.{arms_of, stmts_of}
 use Rattle.lower_reads.specs.Reads.{arms_reads, stmts_reads}
 use Rattle.lower_reads.proofs.statements.+statement_reads.Given as goal
 

@@ -1,6 +1,6 @@
 use Rattle.std.proofs.Common.{◌≡◌, ◌+◌, drop, map}
 use Rattle.std.specs.Prelude.{sum_by}
-use Rattle.zpl_tree.specs.View.{item_of}
+use Rattle.zpl_lowering.specs.of_zpl_tree.View.{item_of}
 use Rattle.lower_reads.specs.Reads.{item_reads}
 use Rattle.lower_reads.proofs.statements.count_items.Given as goal
 

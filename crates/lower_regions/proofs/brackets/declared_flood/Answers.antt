@@ -5,7 +5,7 @@ use Rattle.zpl_binding.specs.Outcome.{Outcome, value_or}
 use Rattle.zpl_binding.specs.Regions.{no_region}
 use Rattle.zpl_bind.specs.Tables.{found, listed}
 use Rattle.zpl_bind.proofs.TableLemmas.{outcome-found}
-use Rattle.zpl_lowering.specs.Where.{flood_of}
+use Rattle.lower_places.specs.of_zpl_lowering.Where.{flood_of}
 use Rattle.lower_regions.proofs.brackets.declared_flood.Goals as goal
 
 pub returns : goal.returns

@@ -4,7 +4,7 @@ use Rattle.zpl_tree.specs.View.{base_of, inner_of, name_of, posts_of, pre_of}
 use Rattle.zpl_tree.specs.declared.regions.RegionBase.{RegionBase}
 use Rattle.zpl_tree.specs.declared.regions.Rexpr.{out-Rexpr}
 use Rattle.zpl_tree.proofs.Views.{rexpr_of-parts}
-use Rattle.zpl_lowering.specs.Bracket.{computed, forms_of}
+use Rattle.lower_places.specs.of_zpl_lowering.Bracket.{computed, forms_of}
 use Rattle.lower_places.specs.View.{where_of}
 use Rattle.lower_regions.specs.Opened.{are_none, has_no}
 use Rattle.lower_regions.proofs.BracketLemmas.{ditto_stands, named_rows}

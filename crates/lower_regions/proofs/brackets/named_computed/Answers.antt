@@ -2,7 +2,7 @@ use Rattle.std.proofs.Common.{◌≡◌, Bool, map, subst, sym, ◌∙◌}
 use Rattle.std.specs.Prelude.{IfOk, OnOk}
 use Rattle.zpl_tree.specs.View.{name_of, posts_of, pre_of}
 use Rattle.zpl_bind.specs.Known.{known_in}
-use Rattle.zpl_lowering.specs.Bracket.{Opened, formed, forms_of, name_opened}
+use Rattle.lower_places.specs.of_zpl_lowering.Bracket.{Opened, formed, forms_of, name_opened}
 use Rattle.lower_places.specs.View.{where_of}
 use Rattle.lower_regions.specs.Opened.{IsOpened, with_opened}
 use Rattle.lower_regions.proofs.brackets.named_computed.Goals as goal

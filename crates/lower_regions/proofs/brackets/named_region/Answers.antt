@@ -1,7 +1,7 @@
 use Rattle.std.proofs.Common.{◌≡◌, ℕ, List, ap, sym, ◌∙◌}
 use Rattle.zpl_tree.specs.View.{name_of}
 use Rattle.zpl_bind.specs.Known.{known_in}
-use Rattle.zpl_lowering.specs.Bracket.{region_slot, standing}
+use Rattle.lower_places.specs.of_zpl_lowering.Bracket.{region_slot, standing}
 use Rattle.lower_places.specs.RegionSlots.{slot_in}
 use Rattle.lower_places.proofs.SlotLemmas.{slot-named}
 use Rattle.lower_regions.proofs.brackets.named_region.Goals as goal

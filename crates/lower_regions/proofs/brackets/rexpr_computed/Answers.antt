@@ -4,7 +4,7 @@ use Rattle.zpl_tree.specs.Syntax as plain
 use Rattle.zpl_tree.specs.View.{base_of, name_of, posts_of, pre_of, rexpr_of}
 use Rattle.zpl_tree.specs.declared.regions.Rexpr.{out-Rexpr}
 use Rattle.zpl_tree.proofs.Views.{rexpr_of-parts}
-use Rattle.zpl_lowering.specs.Bracket.{computed}
+use Rattle.lower_places.specs.of_zpl_lowering.Bracket.{computed}
 use Rattle.lower_places.specs.View.{slotted_of, where_of}
 use Rattle.lower_regions.specs.Opened.{IsOpened, with_opened}
 use Rattle.lower_regions.proofs.brackets.rexpr_computed.Goals as goal

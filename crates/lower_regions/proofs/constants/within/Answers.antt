@@ -1,5 +1,5 @@
 use Rattle.std.proofs.Common.{ap, sym}
-use Rattle.zpl_lowering.specs.Bracket as plain
+use Rattle.lower_places.specs.of_zpl_lowering.Bracket as plain
 use Rattle.lower_regions.proofs.constants.within.Goals as goal
 
 pub returns-in-Ok : goal.returns-in-Ok

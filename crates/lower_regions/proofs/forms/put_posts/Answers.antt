@@ -2,7 +2,7 @@ use Rattle.std.proofs.Common.{◌≡◌, ◌+◌, ◌++◌, ◌∷◌, [], List,
 use Rattle.std.proofs.lemmas.List.{map-append}
 use Rattle.zpl_tree.specs.View.{posts_of}
 use Rattle.zpl_bind.specs.Known.{known_in}
-use Rattle.zpl_lowering.specs.Bracket.{Form, post_forms}
+use Rattle.lower_places.specs.of_zpl_lowering.Bracket.{Form, post_forms}
 use Rattle.lower_regions.specs.Forms.{form_of}
 use Rattle.lower_regions.proofs.FormLemmas.{posts_more}
 use Rattle.lower_regions.proofs.forms.put_posts.Goals as goal

@@ -1,7 +1,7 @@
 use Rattle.std.proofs.Common.{◌≡◌, ◌≤◌, ◌++◌, drop, length, map}
 use Rattle.zpl_tree.specs.View.{pre_of}
 use Rattle.zpl_bind.specs.Known.{known_in}
-use Rattle.zpl_lowering.specs.Bracket.{pre_forms}
+use Rattle.lower_places.specs.of_zpl_lowering.Bracket.{pre_forms}
 use Rattle.lower_regions.specs.Forms.{form_of}
 use Rattle.lower_regions.proofs.forms.put_pres.Given as goal
 

@@ -1,5 +1,5 @@
 use Rattle.std.proofs.Common.{drop, map}
-use Rattle.zpl_lowering.specs.Bracket.{formed}
+use Rattle.lower_places.specs.of_zpl_lowering.Bracket.{formed}
 use Rattle.lower_regions.specs.Forms.{form_of}
 use Rattle.lower_regions.specs.Opened.{standing_at}
 use Rattle.lower_regions.proofs.FormLemmas.{Forming}

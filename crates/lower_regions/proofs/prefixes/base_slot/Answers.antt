@@ -3,7 +3,7 @@ use Rattle.zpl_tree.specs.Syntax.{Rexpr}
 use Rattle.zpl_tree.specs.View.{base_of, name_of}
 use Rattle.zpl_tree.specs.declared.regions.RegionBase.{RegionBase}
 use Rattle.zpl_bind.specs.Known.{known_in}
-use Rattle.zpl_lowering.specs.Statement.{base_slot}
+use Rattle.lower_places.specs.of_zpl_lowering.Statement.{base_slot}
 use Rattle.lower_places.specs.RegionSlots.{slot_in}
 use Rattle.lower_places.specs.View.{slotted_of}
 use Rattle.lower_places.proofs.SlotLemmas.{slot-named}

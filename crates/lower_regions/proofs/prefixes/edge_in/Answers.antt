@@ -3,7 +3,7 @@ use Rattle.zpl_tree.specs.Syntax as plain
 use Rattle.zpl_tree.specs.View.{base_of, inner_of, posts_of, pre_of}
 use Rattle.zpl_tree.proofs.Views.{rexpr_of-parts}
 use Rattle.zpl_tree.specs.declared.regions.Rexpr.{out-Rexpr}
-use Rattle.zpl_lowering.specs.Statement.{edge_of}
+use Rattle.lower_places.specs.of_zpl_lowering.Statement.{edge_of}
 use Rattle.lower_places.specs.View.{slotted_of, where_of}
 use Rattle.lower_regions.proofs.prefixes.edge_in.Goals as goal
 

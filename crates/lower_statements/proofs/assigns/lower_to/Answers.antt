@@ -2,7 +2,7 @@ use Rattle.std.proofs.Common.{None, Some, refl}
 use Rattle.zpl_tree.specs.View.{expr_of, name_of}
 use Rattle.zpl_meaning.specs.Points.{assigned_expr}
 use Rattle.zpl_meaning.specs.Store.{thing_of}
-use Rattle.lower_places.specs.View.{where_of}
+use Rattle.lower_points.specs.of_lower_places.View.{where_of}
 use Rattle.lower_statements.proofs.AssignLemmas.{assigned_to}
 use Rattle.lower_statements.proofs.assigns.lower_to.Goals as goal
 

@@ -7,8 +7,8 @@ use Rattle.zpl_meaning.specs.Store.{ArrayAt, Scalar, thing_of}
 use Rattle.zpl_lowering.specs.Slate.{Placed}
 use Rattle.zpl_lowering.specs.Statement.{lowered_to, placed_in}
 use Rattle.zpl_lowering.specs.Where.{slotted_at}
-use Rattle.lower_places.specs.Numbers.{stored_of}
-use Rattle.lower_places.specs.View.{slotted_of, where_of}
+use Rattle.lower_points.specs.of_lower_places.Numbers.{stored_of}
+use Rattle.lower_points.specs.of_lower_places.View.{slotted_of, where_of}
 use Rattle.lower_statements.proofs.AssignLemmas.{to_array, to_scalar}
 use Rattle.lower_statements.proofs.assigns.lower_whole.Goals as goal
 

@@ -1,5 +1,5 @@
 use Rattle.std.proofs.Common.{arith}
-use Rattle.lower_places.specs.View.{edge_of, where_of}
+use Rattle.lower_points.specs.of_lower_places.View.{edge_of, where_of}
 use Rattle.lower_statements.proofs.BorderLemmas.{borders_all, borders_on}
 use Rattle.lower_statements.proofs.borders.push_borders.Goals as goal
 

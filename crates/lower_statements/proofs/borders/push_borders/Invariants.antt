@@ -1,7 +1,7 @@
 use Rattle.std.proofs.Common.{◌≡◌, drop, map}
 use Rattle.zpl_tree.specs.View.{name_of}
 use Rattle.lower_draft.specs.Drafted.{all_pushed}
-use Rattle.lower_places.specs.View.{where_of}
+use Rattle.lower_points.specs.of_lower_places.View.{where_of}
 use Rattle.lower_statements.specs.Borders.{each_at}
 use Rattle.lower_statements.proofs.borders.push_borders.Given as goal
 

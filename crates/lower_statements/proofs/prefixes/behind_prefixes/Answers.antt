@@ -1,5 +1,5 @@
 use Rattle.std.proofs.Common.{arith}
-use Rattle.lower_places.specs.View.{where_of}
+use Rattle.lower_points.specs.of_lower_places.View.{where_of}
 use Rattle.lower_statements.proofs.PrefixLemmas.{prefix_fit, prefixes_end, prefixes_fit, prefixes_next}
 use Rattle.lower_statements.proofs.prefixes.behind_prefixes.Goals as goal
 

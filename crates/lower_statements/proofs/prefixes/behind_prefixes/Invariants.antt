@@ -3,8 +3,8 @@ use Rattle.zpl_tree.specs.View.{prefix_of}
 use Rattle.zpl_lowering.specs.Lowered.{Lowered}
 use Rattle.zpl_lowering.specs.Statement.{Calling, Lowering}
 use Rattle.zpl_lowering.specs.Where.{Next}
-use Rattle.lower_places.specs.Sound.{IsPlace}
-use Rattle.lower_places.specs.View.{where_of}
+use Rattle.lower_points.specs.of_lower_places.Sound.{IsPlace}
+use Rattle.lower_points.specs.of_lower_places.View.{where_of}
 use Rattle.lower_points.specs.Fit.{AreFitPrefixes}
 use Rattle.lower_statements.proofs.PrefixLemmas.{ahead}
 use Rattle.lower_statements.proofs.prefixes.behind_prefixes.Given as goal

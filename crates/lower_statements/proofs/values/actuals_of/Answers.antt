@@ -1,5 +1,5 @@
 use Rattle.std.proofs.Common.{arith}
-use Rattle.lower_places.specs.View.{where_of}
+use Rattle.lower_points.specs.of_lower_places.View.{where_of}
 use Rattle.lower_statements.proofs.ValueLemmas.{actuals_end}
 use Rattle.lower_statements.proofs.values.actuals_of.Goals as goal
 

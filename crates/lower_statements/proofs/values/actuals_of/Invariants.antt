@@ -2,10 +2,10 @@ use Rattle.std.proofs.Common.{◌≡◌, ◌++◌, drop, map}
 use Rattle.zpl_tree.specs.View.{exprs_of}
 use Rattle.name_kinds.specs.Seen.{formal_of}
 use Rattle.zpl_lowering.specs.Statement.{value_exprs}
-use Rattle.array_settling.specs.Fit.{AreFit}
-use Rattle.lower_operators.specs.Sound.{AreFitPlaced}
-use Rattle.lower_operators.specs.View.{placed_of}
-use Rattle.lower_places.specs.View.{where_of}
+use Rattle.lower_points.specs.of_array_settling.Fit.{AreFit}
+use Rattle.lower_points.specs.of_lower_operators.Sound.{AreFitPlaced}
+use Rattle.lower_points.specs.of_lower_operators.View.{placed_of}
+use Rattle.lower_points.specs.of_lower_places.View.{where_of}
 use Rattle.lower_statements.proofs.values.actuals_of.Given as goal
 
 abbrev pub invariant-loop-at : goal.invariant-loop-at

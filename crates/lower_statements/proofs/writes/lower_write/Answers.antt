@@ -4,8 +4,8 @@ use Rattle.node_form.specs.Expression.{words_of}
 use Rattle.zpl_lowering.specs.Lowered.{phased}
 use Rattle.zpl_lowering.specs.Statement.{items_of, printed_exprs}
 use Rattle.lower_draft.specs.Drafted.{grown}
-use Rattle.lower_operators.specs.View.{placed_of}
-use Rattle.lower_places.specs.View.{where_of}
+use Rattle.lower_points.specs.of_lower_operators.View.{placed_of}
+use Rattle.lower_points.specs.of_lower_places.View.{where_of}
 use Rattle.lower_statements.specs.Writes.{rows_in}
 use Rattle.lower_statements.proofs.WriteLemmas.{write_grown}
 use Rattle.lower_statements.proofs.writes.lower_write.Goals as goal

@@ -1,5 +1,5 @@
 use Rattle.std.proofs.Common.{arith}
-use Rattle.lower_places.specs.View.{where_of}
+use Rattle.lower_points.specs.of_lower_places.View.{where_of}
 use Rattle.lower_statements.proofs.WriteLemmas.{item_fit, items_fit, printed_end, printed_next}
 use Rattle.lower_statements.proofs.writes.printed.Goals as goal
 

@@ -1,9 +1,9 @@
 use Rattle.std.proofs.Common.{◌≡◌, ◌++◌, drop, map}
 use Rattle.zpl_tree.specs.View.{item_of}
 use Rattle.zpl_lowering.specs.Statement.{printed_exprs}
-use Rattle.lower_operators.specs.Sound.{AreFitPlaced}
-use Rattle.lower_operators.specs.View.{placed_of}
-use Rattle.lower_places.specs.View.{where_of}
+use Rattle.lower_points.specs.of_lower_operators.Sound.{AreFitPlaced}
+use Rattle.lower_points.specs.of_lower_operators.View.{placed_of}
+use Rattle.lower_points.specs.of_lower_places.View.{where_of}
 use Rattle.lower_points.specs.Fit.{AreFitItems}
 use Rattle.lower_statements.proofs.writes.printed.Given as goal
 

@@ -2,7 +2,7 @@ use Rattle.std.proofs.Common.{◌∙◌, ap}
 use Rattle.zpl_tree.specs.View.{expr_of}
 use Rattle.zpl_names.specs.Types.{type_of}
 use Rattle.name_kinds.proofs.PartLemmas.{part-base}
-use Rattle.lower_places.specs.View.{where_of}
+use Rattle.lower_points.specs.of_lower_places.View.{where_of}
 use Rattle.lower_statements.specs.Writes.{is_boolean}
 use Rattle.lower_statements.proofs.ItemLemmas.{boolean_seen}
 use Rattle.lower_statements.proofs.writes.prints_truth.Goals as goal

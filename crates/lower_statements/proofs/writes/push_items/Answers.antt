@@ -1,6 +1,6 @@
 use Rattle.std.proofs.Common.{arith}
 use Rattle.std.specs.Vec.Iter.{into_iter_items}
-use Rattle.lower_places.specs.View.{where_of}
+use Rattle.lower_points.specs.of_lower_places.View.{where_of}
 use Rattle.lower_statements.specs.Writes.{rows_in}
 use Rattle.lower_statements.proofs.WriteLemmas.{loop_next}
 use Rattle.lower_statements.proofs.writes.push_items.Goals as goal

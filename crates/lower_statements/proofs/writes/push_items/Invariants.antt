@@ -2,7 +2,7 @@ use Rattle.std.proofs.Common.{◌≡◌, List, drop, map}
 use Rattle.std.specs.Vec.Iter.{into_iter_items}
 use Rattle.zpl_tree.specs.View.{item_of}
 use Rattle.node_form.specs.Expression.{Expression, words_of}
-use Rattle.lower_places.specs.View.{where_of}
+use Rattle.lower_points.specs.of_lower_places.View.{where_of}
 use Rattle.lower_statements.specs.Writes.{rows_in}
 use Rattle.lower_statements.proofs.WriteLemmas.{AreAhead}
 use Rattle.lower_statements.proofs.writes.push_items.Given as goal

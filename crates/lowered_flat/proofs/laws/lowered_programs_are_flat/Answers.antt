@@ -1,4 +1,4 @@
-use Rattle.zpl_lowering.specs.Tables.{unshared_tables}
+use Rattle.lowering_fits.specs.of_zpl_lowering.Tables.{unshared_tables}
 use Rattle.lowered_flat.proofs.GridLemmas.{one_processor}
 use Rattle.lowered_flat.proofs.laws.lowered_programs_are_flat.Goals as goal
 

@@ -1,5 +1,5 @@
-use Rattle.zpl_lowering.specs.Program.{lowered_program}
-use Rattle.zpl_lowering.specs.Tables.{empty_tables, rows_of, unshared_tables}
+use Rattle.lowering_fits.specs.of_zpl_lowering.Program.{lowered_program}
+use Rattle.lowering_fits.specs.of_zpl_lowering.Tables.{empty_tables, rows_of, unshared_tables}
 use Rattle.lowered_flat.proofs.TypedLemmas.{cells_are, shared_typed}
 use Rattle.lowered_flat.proofs.laws.lowered_tables_are_typed.Goals as goal
 

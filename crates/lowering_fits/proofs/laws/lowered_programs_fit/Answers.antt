@@ -4,7 +4,7 @@ use Rattle.lowering_fits.proofs.NumberedLemmas.{all_numbered}
 use Rattle.lowering_fits.proofs.PieceLemmas.{code_inline}
 use Rattle.lowering_fits.proofs.ReadLemmas.{whole_stored}
 use Rattle.lowering_fits.proofs.ProgramFitLemmas.{program_fits}
-use Rattle.zpl_lowering.specs.Program.{lowered_program}
+use Rattle.lower_numbers.specs.of_zpl_lowering.Program.{lowered_program}
 use Rattle.lowering_fits.proofs.laws.lowered_programs_fit.Goals as goal
 
 pub returns : goal.returns

@@ -1,5 +1,5 @@
 use Rattle.lowering_fits.proofs.FormLemmas.{stmt_fits}
-use Rattle.zpl_meaning.specs.Visited.{first_setup}
+use Rattle.meaning_ranks.specs.of_zpl_meaning.Visited.{first_setup}
 use Rattle.lowering_fits.proofs.laws.statements_fit.Goals as goal
 
 pub returns : goal.returns

@@ -1,5 +1,5 @@
-use Rattle.zpl_binding.specs.Declarations.{known_of}
-use Rattle.zpl_binding.specs.Storages.{borders_of}
+use Rattle.meaning_ranks.specs.of_zpl_binding.Declarations.{known_of}
+use Rattle.meaning_ranks.specs.of_zpl_binding.Storages.{borders_of}
 use Rattle.lowering_fits.proofs.RegionLemmas.{known_good}
 use Rattle.lowering_fits.proofs.HullLemmas.{storage_like}
 use Rattle.lowering_fits.proofs.StorageLemmas.{storage_is, copy_is}

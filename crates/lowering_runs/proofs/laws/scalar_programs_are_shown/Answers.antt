@@ -1,5 +1,5 @@
-use Rattle.zpl_meaning.specs.Program.{outcome_of}
-use Rattle.zpl_lowering.specs.Tables.{flat_tables}
+use Rattle.lowering_fits.specs.of_zpl_meaning.Program.{outcome_of}
+use Rattle.lowering_fits.specs.of_zpl_lowering.Tables.{flat_tables}
 use Rattle.lowering_runs.proofs.ProgramLemmas.{program_shows}
 use Rattle.lowering_runs.proofs.WrongLemmas.{never_wrong}
 use Rattle.lowering_runs.proofs.laws.scalar_programs_are_shown.Goals as goal

@@ -1,4 +1,4 @@
-use Rattle.zpl_tree.specs.Syntax.{Border}
+use Rattle.meaning_runs.specs.of_zpl_tree.Syntax.{Border}
 use Rattle.meaning_ranks.proofs.MetLemmas.{met_bordered}
 use Rattle.meaning_ranks.proofs.laws.borders_are_of_arrays.Goals as goal
 

@@ -1,7 +1,7 @@
 use Rattle.std.proofs.Common.{◌≡◌, get_or, to_z, of_z, w64, pos, subst, sym, arith}
 use Rattle.std.proofs.lemmas.Int.{ints}
-use Rattle.zpl_region.specs.declared.dims.Dim.TheVariants.{Range}
-use Rattle.zpl_region.specs.Region.{IsRegion}
+use Rattle.zpl_arrays.specs.of_zpl_region.declared.dims.Dim.TheVariants.{Range}
+use Rattle.zpl_arrays.specs.of_zpl_region.Region.{IsRegion}
 use Rattle.grid_layout.specs.Layout.{AreBlocks, laid_out}
 use Rattle.move_plan.proofs.RegionLemmas.{border_is_region}
 use Rattle.move_plan.proofs.CodeLemmas.{border_told, component_up_to, pieces_told}

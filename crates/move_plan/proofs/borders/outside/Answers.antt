@@ -1,7 +1,7 @@
 use Rattle.std.proofs.Common.{arith}
 use Rattle.std.proofs.lemmas.Int.{ints}
-use Rattle.zpl_region.specs.declared.dims.Dim.TheVariants.{Range}
-use Rattle.zpl_region.specs.Dim.{IsDim}
+use Rattle.zpl_arrays.specs.of_zpl_region.declared.dims.Dim.TheVariants.{Range}
+use Rattle.zpl_arrays.specs.of_zpl_region.Dim.{IsDim}
 use Rattle.move_plan.proofs.CodeLemmas.{outside_above, outside_below}
 use Rattle.move_plan.proofs.borders.outside.Goals as goal
 

@@ -1,6 +1,6 @@
 use Rattle.std.proofs.Common.{◌≡◌, to_z, of_z, w64, pos, neg_ℤ, ◌-ℤ◌, arith}
 use Rattle.std.proofs.lemmas.Int.{ints}
-use Rattle.zpl_nums.specs.declared.ends.Border.TheVariants.{Wrap}
+use Rattle.zpl_arrays.specs.of_zpl_nums.declared.ends.Border.TheVariants.{Wrap}
 use Rattle.zpl_arrays.specs.Border.{dim_border_source}
 use Rattle.move_plan.proofs.CodeLemmas.{pair_same}
 use Rattle.move_plan.proofs.borders.target_bounds.Goals as goal

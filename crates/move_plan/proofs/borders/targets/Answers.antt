@@ -1,8 +1,8 @@
 use Rattle.std.proofs.Common.{◌≡◌, get_or, to_z, of_z, w64, pos, ◌∙◌, ap, arith}
 use Rattle.std.proofs.lemmas.Int.{ints}
-use Rattle.zpl_region.specs.declared.dims.Dim.TheVariants.{Range}
-use Rattle.zpl_region.specs.Dim.{dim_outside_of}
-use Rattle.zpl_region.specs.Region.{each}
+use Rattle.zpl_arrays.specs.of_zpl_region.declared.dims.Dim.TheVariants.{Range}
+use Rattle.zpl_arrays.specs.of_zpl_region.Dim.{dim_outside_of}
+use Rattle.zpl_arrays.specs.of_zpl_region.Region.{each}
 use Rattle.move_plan.proofs.CodeLemmas.{component_up_to, outsides_told}
 use Rattle.move_plan.proofs.borders.targets.Goals as goal
 

@@ -1,7 +1,7 @@
 use Rattle.std.proofs.Common.{◌≡◌, get_or, to_z, of_z, w64, pos, ap, subst, sym, arith, ℕ, List, ◌<◌, [], ◌∷◌}
 use Rattle.std.proofs.lemmas.Int.{ints}
-use Rattle.zpl_region.specs.declared.dims.Dim.TheVariants.{Range}
-use Rattle.zpl_region.specs.declared.regions.Region.{Region}
+use Rattle.zpl_arrays.specs.of_zpl_region.declared.dims.Dim.TheVariants.{Range}
+use Rattle.zpl_arrays.specs.of_zpl_region.declared.regions.Region.{Region}
 use Rattle.grid_layout.specs.declared.blocks.Blocks.{Blocks}
 use Rattle.grid_layout.specs.Grid.{processors_of}
 use Rattle.move_plan.specs.FloodPiece.{each_flood_piece}

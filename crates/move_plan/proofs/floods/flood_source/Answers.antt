@@ -1,7 +1,7 @@
 use Rattle.std.proofs.Common.{◌≡◌, get_or, to_z, of_z, w64, pos, ◌∙◌, ap, arith}
 use Rattle.std.specs.Prelude.{unwrap_or}
 use Rattle.std.proofs.lemmas.Int.{ints}
-use Rattle.zpl_region.specs.declared.dims.Dim.TheVariants.{Range}
+use Rattle.zpl_arrays.specs.of_zpl_region.declared.dims.Dim.TheVariants.{Range}
 use Rattle.move_plan.proofs.CodeLemmas.{flood_sources_told}
 use Rattle.move_plan.proofs.floods.flood_source.Goals as goal
 

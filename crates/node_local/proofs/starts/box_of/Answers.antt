@@ -1,8 +1,8 @@
 use Rattle.std.proofs.Common.{◌∙◌, arith, pos, w64, rules}
 use Rattle.std.proofs.lemmas.Int.{to_z-of_z}
 use Rattle.std.specs.Prelude.{FitsSigned}
-use Rattle.node_form.specs.Fits.{storage_dim}
-use Rattle.node_form.specs.declared.arrays.ArrayDim.TheVariants.{Range}
+use Rattle.grid_meaning.specs.of_node_form.Fits.{storage_dim}
+use Rattle.grid_meaning.specs.of_node_form.declared.arrays.ArrayDim.TheVariants.{Range}
 use Rattle.grid_meaning.specs.Stored.{width_above, width_below}
 use Rattle.node_local.proofs.StartLemmas.{three_dims, box_made}
 use Rattle.node_local.proofs.starts.box_of.Goals as goal

@@ -1,5 +1,5 @@
 use Rattle.std.proofs.Common.{ℕ, ◌<◌, ◌≤◌, List, length, get_or}
-use Rattle.node_form.specs.declared.words.ExprOp.{ExprOp}
+use Rattle.grid_meaning.specs.of_node_form.declared.words.ExprOp.{ExprOp}
 use Rattle.node_local.proofs.starts.longest_expression.Given as goal
 
 abbrev pub invariant-loop-i : goal.invariant-loop-i

@@ -1,9 +1,9 @@
 use Rattle.std.proofs.Common.{◌≡◌, ◌<◌, ap, ◌∙◌, sym, subst, ◌++◌, ◌∷◌, [], All, map, take, pos, rules}
 use Rattle.std.specs.Prelude.{Some, slice_get}
-use Rattle.node_form.specs.declared.arrays.ArrayRow.{ArrayRow}
-use Rattle.zpl_arrays.specs.Array.{array_of}
-use Rattle.grid_layout.specs.Grid.{processors_of}
-use Rattle.grid_layout.specs.Layout.{Arrangement, IsArrayBox, laid_out}
+use Rattle.grid_meaning.specs.of_node_form.declared.arrays.ArrayRow.{ArrayRow}
+use Rattle.grid_meaning.specs.of_zpl_arrays.Array.{array_of}
+use Rattle.grid_meaning.specs.of_grid_layout.Grid.{processors_of}
+use Rattle.grid_meaning.specs.of_grid_layout.Layout.{Arrangement, IsArrayBox, laid_out}
 use Rattle.grid_meaning.specs.Local.{start_places}
 use Rattle.grid_meaning.specs.Stored.{arrangement_of}
 use Rattle.grid_meaning.proofs.WorldLemmas.{processors_alike}

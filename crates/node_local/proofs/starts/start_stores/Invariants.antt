@@ -1,6 +1,6 @@
 use Rattle.std.proofs.Common.{◌≡◌, map, take, pos}
-use Rattle.zpl_arrays.specs.Array.{array_of}
-use Rattle.grid_layout.specs.Layout.{laid_out}
+use Rattle.grid_meaning.specs.of_zpl_arrays.Array.{array_of}
+use Rattle.grid_meaning.specs.of_grid_layout.Layout.{laid_out}
 use Rattle.grid_meaning.specs.Local.{start_places}
 use Rattle.grid_meaning.specs.Stored.{arrangement_of}
 use Rattle.node_local.proofs.starts.start_stores.Given as goal

@@ -1,7 +1,7 @@
 use Rattle.std.proofs.Common.{◌≡◌, pos, get_or, ap, ◌∙◌, arith, w64, to_z, of_z}
 use Rattle.std.proofs.lemmas.Int.{ints}
-use Rattle.zpl_region.specs.declared.dims.Dim.{Dim}
-use Rattle.zpl_region.specs.declared.dims.Dim.TheVariants.{Range}
+use Rattle.grid_meaning.specs.of_zpl_region.declared.dims.Dim.{Dim}
+use Rattle.grid_meaning.specs.of_zpl_region.declared.dims.Dim.TheVariants.{Range}
 use Rattle.node_local.specs.Reading.{is_flat_coordinate}
 use Rattle.node_local.proofs.StoreLemmas.{flat_of_three, three_tests}
 use Rattle.node_local.proofs.stores.is_flat.Goals as goal

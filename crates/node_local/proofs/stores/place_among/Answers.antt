@@ -1,6 +1,6 @@
 use Rattle.std.proofs.Common.{pos, arith, rules}
-use Rattle.zpl_region.specs.declared.dims.Dim.{Dim}
-use Rattle.zpl_region.specs.declared.dims.Dim.TheVariants.{Range}
+use Rattle.grid_meaning.specs.of_zpl_region.declared.dims.Dim.{Dim}
+use Rattle.grid_meaning.specs.of_zpl_region.declared.dims.Dim.TheVariants.{Range}
 use Rattle.node_local.proofs.StoreLemmas.{at_coordinate, second_none, third_none, all_some, all_within, counts_told}
 use Rattle.node_local.proofs.stores.place_among.Goals as goal
 

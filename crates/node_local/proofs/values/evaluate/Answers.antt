@@ -1,6 +1,6 @@
 use Rattle.std.proofs.Common.{◌≡◌, drop, [], ap, ◌∙◌, arith}
 use Rattle.std.proofs.lemmas.List.{drop_all}
-use Rattle.node_form.specs.Value.{evaluated, and_then, only_value}
+use Rattle.grid_meaning.specs.of_node_form.Value.{evaluated, and_then, only_value}
 use Rattle.node_local.specs.Computing.{operands_in}
 use Rattle.node_local.proofs.StackLemmas.{not_one}
 use Rattle.node_local.proofs.values.evaluate.Goals as goal

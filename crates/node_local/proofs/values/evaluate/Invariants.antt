@@ -1,5 +1,5 @@
 use Rattle.std.proofs.Common.{◌≡◌, ◌+◌, ◌≤◌, [], length, drop}
-use Rattle.node_form.specs.Value.{evaluated}
+use Rattle.grid_meaning.specs.of_node_form.Value.{evaluated}
 use Rattle.node_local.specs.Computing.{operands_in}
 use Rattle.node_local.proofs.values.evaluate.Given as goal
 

@@ -1,7 +1,7 @@
 use Rattle.std.proofs.Common.{rules, ◌≡◌, ◌<◌, sym, ◌∙◌, subst}
 use Rattle.zpl_region.proofs.EndLemmas.{first_member}
 use Rattle.zpl_region.proofs.HullLemmas.{has_steps}
-use Rattle.reduce_plan.proofs.WalkLemmas.{pushed}
+use Rattle.node_stages.proofs.of_reduce_plan.WalkLemmas.{pushed}
 use Rattle.node_messages.proofs.ReadLemmas.{IsReading, fewer_left, left, reading_ends, reading_lacks, reading_starts, reading_step}
 use Rattle.node_messages.proofs.places.push_values.Goals as goal
 

@@ -1,5 +1,5 @@
 use Rattle.std.proofs.Common.{◌≡◌, ℕ, ◌+◌, length, Bool, false, sym, ap, ◌∙◌, subst, arith}
-use Rattle.grid_layout.specs.Grid.{processors_of}
+use Rattle.grid_meaning.specs.of_grid_layout.Grid.{processors_of}
 use Rattle.grid_meaning.specs.Delivery.{border_targets}
 use Rattle.grid_meaning.specs.Local.{processors}
 use Rattle.node_stages.proofs.PieceLemmas.{grid_count}

@@ -1,5 +1,5 @@
 use Rattle.std.proofs.Common.{◌≡◌, ℕ, ◌+◌, Bool, false, sym, ap, ◌∙◌, subst, arith}
-use Rattle.grid_layout.specs.Grid.{processors_of}
+use Rattle.grid_meaning.specs.of_grid_layout.Grid.{processors_of}
 use Rattle.grid_meaning.specs.Exchange.{word_count}
 use Rattle.grid_meaning.specs.Local.{processors}
 use Rattle.node_stages.specs.Slots.{at_slots}

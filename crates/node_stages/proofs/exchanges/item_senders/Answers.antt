@@ -1,9 +1,9 @@
 use Rattle.std.proofs.Common.{◌<◌, [], length, get_or, sym, subst}
 use Rattle.std.proofs.lemmas.Option.{slice_get_within, get_or_from_slice_get}
-use Rattle.zpl_region.specs.declared.regions.Region.{Region}
-use Rattle.zpl_region.specs.Region.{IsRegion, members}
-use Rattle.grid_layout.specs.Layout.{Arrangement}
-use Rattle.grid_layout.specs.Piece.{piece_of}
+use Rattle.reduce_plan.specs.of_zpl_region.declared.regions.Region.{Region}
+use Rattle.reduce_plan.specs.of_zpl_region.Region.{IsRegion, members}
+use Rattle.grid_meaning.specs.of_grid_layout.Layout.{Arrangement}
+use Rattle.grid_meaning.specs.of_grid_layout.Piece.{piece_of}
 use Rattle.grid_meaning.specs.Exchange.{places_of}
 use Rattle.grid_meaning.specs.Stored.{box_number}
 use Rattle.node_stages.specs.Slots.{at_slots}

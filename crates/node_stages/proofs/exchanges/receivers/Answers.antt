@@ -1,5 +1,5 @@
 use Rattle.std.proofs.Common.{◌≡◌, ◌<◌, inl, inr, [], length, ap, ◌∙◌, arith}
-use Rattle.grid_layout.specs.Grid.{processors_of}
+use Rattle.grid_meaning.specs.of_grid_layout.Grid.{processors_of}
 use Rattle.grid_meaning.specs.Exchange.{places_of}
 use Rattle.grid_meaning.specs.Local.{processors}
 use Rattle.node_stages.specs.Slots.{at_slots}

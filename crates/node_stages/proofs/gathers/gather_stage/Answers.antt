@@ -1,8 +1,8 @@
 use Rattle.std.proofs.Common.{◌≡◌, ℕ, zero, suc, ◌<◌, length, refl, sym, ap, ◌∙◌, subst}
 use Rattle.std.specs.Prelude.{Some, slice_get}
-use Rattle.zpl_region.specs.declared.regions.Region.{Region}
-use Rattle.grid_layout.specs.Grid.{processors_of}
-use Rattle.node_form.specs.declared.tables.Tables.{Tables}
+use Rattle.reduce_plan.specs.of_zpl_region.declared.regions.Region.{Region}
+use Rattle.grid_meaning.specs.of_grid_layout.Grid.{processors_of}
+use Rattle.grid_meaning.specs.of_node_form.declared.tables.Tables.{Tables}
 use Rattle.grid_meaning.specs.Collective.{others_where}
 use Rattle.grid_meaning.specs.Gather.{gather_stages}
 use Rattle.grid_meaning.specs.Local.{processors}

@@ -1,5 +1,5 @@
 use Rattle.std.proofs.Common.{◌≡◌, ◌==◌, ◌&&◌, not, length, nat_lt, ap, ◌∙◌, arith}
-use Rattle.grid_layout.specs.Grid.{processors_of}
+use Rattle.grid_meaning.specs.of_grid_layout.Grid.{processors_of}
 use Rattle.grid_meaning.specs.Local.{processors}
 use Rattle.grid_meaning.specs.Owner.{tuples_of}
 use Rattle.node_stages.proofs.PartnerLemmas.{apart_and, flagged-others, flags_step, same_not}

@@ -1,10 +1,10 @@
 use Rattle.std.proofs.Common.{◌≡◌, ◌<◌, get_or, to_z, of_z, w64, pos, sym, ap, ◌∙◌, subst, arith}
 use Rattle.std.proofs.lemmas.Int.{ints}
-use Rattle.zpl_region.specs.declared.dims.Dim.TheVariants.{Range}
-use Rattle.zpl_region.specs.Region.{IsRegion, members}
-use Rattle.grid_layout.specs.Layout.{AreBlocks, laid_out}
-use Rattle.grid_layout.specs.Piece.{owned_part}
-use Rattle.grid_layout.proofs.SoundLemmas.{owned_is_region}
+use Rattle.reduce_plan.specs.of_zpl_region.declared.dims.Dim.TheVariants.{Range}
+use Rattle.reduce_plan.specs.of_zpl_region.Region.{IsRegion, members}
+use Rattle.grid_meaning.specs.of_grid_layout.Layout.{AreBlocks, laid_out}
+use Rattle.grid_meaning.specs.of_grid_layout.Piece.{owned_part}
+use Rattle.grid_meaning.proofs.of_grid_layout.SoundLemmas.{owned_is_region}
 use Rattle.node_stages.proofs.OwnLemmas as own
 use Rattle.node_stages.proofs.PieceLemmas.{IsRegion-slot, grid_count}
 use Rattle.node_stages.proofs.gathers.own_tuples.Goals as goal

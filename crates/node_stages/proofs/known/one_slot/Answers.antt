@@ -1,7 +1,7 @@
 use Rattle.std.proofs.Common.{◌≡◌, ◌+◌, ◌∷◌, drop, drop-cons, get_or, [], subst, sym, ap, ◌∙◌, suc, arith}
 use Rattle.std.specs.Prelude.{All}
 use Rattle.std.proofs.lemmas.List.Elements.{All-cons}
-use Rattle.node_form.specs.declared.arrays.Item.{Item}
+use Rattle.grid_meaning.specs.of_node_form.declared.arrays.Item.{Item}
 use Rattle.node_stages.proofs.known.one_slot.Goals as goal
 
 pub loop-item-preserved : goal.loop-item-preserved

@@ -1,6 +1,6 @@
 use Rattle.std.proofs.Common.{◌≡◌, drop}
 use Rattle.std.specs.Prelude.{All}
-use Rattle.node_form.specs.declared.arrays.Item.{Item}
+use Rattle.grid_meaning.specs.of_node_form.declared.arrays.Item.{Item}
 use Rattle.node_stages.proofs.known.one_slot.Given as goal
 
 abbrev pub invariant-loop-item : goal.invariant-loop-item

@@ -1,6 +1,6 @@
 use Rattle.std.proofs.Common.{List, subst}
-use Rattle.listing_lines.specs.declared.lines.Line.{Line}
-use Rattle.listing_lines.proofs.OneWay.{one_listing, lines_or_fault}
+use Rattle.listing_rules.specs.of_listing_lines.declared.lines.Line.{Line}
+use Rattle.listing_rules.proofs.of_listing_lines.OneWay.{one_listing, lines_or_fault}
 use Rattle.listing_rules.specs.Stages.{AreTables}
 use Rattle.listing_rules.proofs.OneTables.{tables_one, breaks_not}
 use Rattle.node_text.proofs.laws.bytes_have_one_program.Goals as goal

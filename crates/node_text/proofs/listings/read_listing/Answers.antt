@@ -1,5 +1,5 @@
 use Rattle.std.proofs.Common.{List, sym, subst}
-use Rattle.listing_lines.specs.declared.lines.Line.{Line}
+use Rattle.listing_rules.specs.of_listing_lines.declared.lines.Line.{Line}
 use Rattle.listing_rules.specs.Stages.{AreTables}
 use Rattle.listing_rules.proofs.Sound.{sound}
 use Rattle.node_text.specs.Listing.{IsListing}

@@ -1,8 +1,8 @@
 use Rattle.std.proofs.Common.{◌≡◌, sym, subst}
 use Rattle.std.specs.Prelude.{Some}
 use Rattle.grid_meaning.specs.Collective.{stage_of}
-use Rattle.node_stages.specs.declared.stages.Stage.{Stage}
-use Rattle.node_stages.specs.Stage.{staged}
+use Rattle.node_loop.specs.of_node_stages.declared.stages.Stage.{Stage}
+use Rattle.node_loop.specs.of_node_stages.Stage.{staged}
 use Rattle.row_turn.specs.Together.{OfRow}
 use Rattle.node_turn.proofs.QuietLemmas.{rests_alone, rests_last}
 use Rattle.node_turn.proofs.resting.rests_together.Goals as goal

@@ -6,8 +6,8 @@ use Rattle.grid_layout.specs.Layout.{laid_out}
 use Rattle.grid_layout.specs.Piece.{owned_part}
 use Rattle.grid_layout.specs.declared.blocks.Blocks.{Blocks}
 use Rattle.grid_meaning.specs.Local.{processors}
-use Rattle.node_stages.proofs.OwnLemmas as own
-use Rattle.node_stages.proofs.PieceLemmas.{grid_count}
+use Rattle.exchange_messages.proofs.of_node_stages.OwnLemmas as own
+use Rattle.exchange_messages.proofs.of_node_stages.PieceLemmas.{grid_count}
 use Rattle.part_messages.proofs.blocks.own_part.Goals as goal
 
 pub owned-requires-clause-owner : goal.owned-requires-clause-owner

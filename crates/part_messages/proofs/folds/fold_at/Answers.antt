@@ -2,7 +2,7 @@ use Rattle.std.proofs.Common.{rules, ◌≡◌, ◌<◌, w64, to_z, of_z, sym, a
 use Rattle.zpl_nums.specs.Fold.{joined}
 use Rattle.zpl_region.proofs.EndLemmas.{first_member}
 use Rattle.zpl_region.proofs.HullLemmas.{has_steps}
-use Rattle.node_messages.proofs.ReadLemmas.{left}
+use Rattle.exchange_messages.proofs.of_node_messages.ReadLemmas.{left}
 use Rattle.part_messages.proofs.FoldLemmas.{IsFolding, fewer_left, folding_ends, folding_lacks, folding_starts, folding_step}
 use Rattle.part_messages.proofs.folds.fold_at.Goals as goal
 

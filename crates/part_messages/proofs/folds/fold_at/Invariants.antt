@@ -1,4 +1,4 @@
-use Rattle.node_messages.proofs.ReadLemmas.{left}
+use Rattle.exchange_messages.proofs.of_node_messages.ReadLemmas.{left}
 use Rattle.part_messages.proofs.FoldLemmas.{IsFolding}
 use Rattle.part_messages.proofs.folds.fold_at.Given as goal
 

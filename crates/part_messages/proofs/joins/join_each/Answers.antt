@@ -1,5 +1,5 @@
 use Rattle.std.proofs.Common.{rules, ◌≡◌, get_or, pos, to_z, of_z, w64, refl, sym, ap, ◌∙◌, subst, arith}
-use Rattle.node_local.specs.Workplace.{Workplace}
+use Rattle.exchange_messages.specs.of_node_local.Workplace.{Workplace}
 use Rattle.part_messages.specs.Joining.{joined_at}
 use Rattle.part_messages.proofs.AheadLemmas.{on_ahead}
 use Rattle.part_messages.proofs.JoinLemmas.{IsJoining, joining_lacks, joining_starts, joining_step, next_of, tuples_end, words_end}

@@ -2,7 +2,7 @@ use Rattle.std.proofs.Common.{rules, ◌≡◌, true, false, sym, ap, ◌∙◌}
 use Rattle.std.specs.Prelude.{Some, length}
 use Rattle.zpl_region.specs.Region.{members}
 use Rattle.grid_meaning.specs.Delivery.{each_word}
-use Rattle.node_local.specs.Workplace.{Workplace}
+use Rattle.exchange_messages.specs.of_node_local.Workplace.{Workplace}
 use Rattle.delivery_stages.proofs.WordLemmas.{as_many, read_none, read_some}
 use Rattle.part_messages.specs.Folding.{fold_over}
 use Rattle.part_messages.specs.Walking.{tuples_on}

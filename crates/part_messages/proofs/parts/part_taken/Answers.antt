@@ -1,6 +1,6 @@
 use Rattle.std.proofs.Common.{sym, ap, ◌∙◌}
 use Rattle.std.specs.Prelude.{length}
-use Rattle.node_local.specs.Workplace.{Workplace}
+use Rattle.exchange_messages.specs.of_node_local.Workplace.{Workplace}
 use Rattle.part_messages.specs.Walking.{tuples_on}
 use Rattle.part_messages.proofs.RowLemmas.{taken_put}
 use Rattle.part_messages.proofs.parts.part_taken.Goals as goal

@@ -2,8 +2,8 @@ use Rattle.std.proofs.Common.{◌≡◌, ◌==◌, ◌&&◌, not, length, nat_lt
 use Rattle.grid_layout.specs.Grid.{processors_of}
 use Rattle.grid_meaning.specs.Delivery.{part_targets}
 use Rattle.grid_meaning.specs.Local.{processors}
-use Rattle.node_stages.proofs.PartnerLemmas.{apart_and, flagged-others, flags_step, same_not}
-use Rattle.node_stages.proofs.PieceLemmas.{grid_count}
+use Rattle.exchange_messages.proofs.of_node_stages.PartnerLemmas.{apart_and, flagged-others, flags_step, same_not}
+use Rattle.exchange_messages.proofs.of_node_stages.PieceLemmas.{grid_count}
 use Rattle.part_messages.proofs.stages.mark_part_receivers.Goals as goal
 use Rattle.part_messages.proofs.stages.mark_part_receivers.Goals.{then-q-p, else-q-p}
 

@@ -1,6 +1,6 @@
 use Rattle.std.proofs.Common.{[], ◌∷◌, refl}
 use Rattle.zpl_lowering.specs.Tables.{flat_tables, unshared_tables}
-use Rattle.lowering_fits.proofs.ReadLemmas.{reads_same}
+use Rattle.lowered_flat.proofs.of_lowering_fits.ReadLemmas.{reads_same}
 use Rattle.program_code.proofs.laws.lowered_shifts_are_stored.Goals as goal
 
 pub returns : goal.returns

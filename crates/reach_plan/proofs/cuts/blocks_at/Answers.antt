@@ -1,5 +1,5 @@
 use Rattle.std.proofs.Common.{arith}
-use Rattle.grid_layout.proofs.ThreeLemmas.{few_of}
+use Rattle.move_plan.proofs.of_grid_layout.ThreeLemmas.{few_of}
 use Rattle.reach_plan.proofs.cuts.blocks_at.Goals as goal
 
 pub overflow_mul-rest : goal.overflow_mul-rest

@@ -1,6 +1,6 @@
 use Rattle.std.proofs.Common.{◌≡◌, ◌≤◌, ℕ, List, sym, ap, ◌∙◌, subst, arith, rules}
-use Rattle.grid_layout.specs.Grid.{IsGrid, cuts, processors_of}
-use Rattle.grid_layout.proofs.GridLemmas.{IsCut, of_three}
+use Rattle.move_plan.specs.of_grid_layout.Grid.{IsGrid, cuts, processors_of}
+use Rattle.move_plan.proofs.of_grid_layout.GridLemmas.{IsCut, of_three}
 use Rattle.reach_plan.proofs.cuts.cuts.Goals as goal
 
 cut_of : (gs grid : List ℕ) (b c : ℕ) → IsCut gs b c → gs ≡ grid → processors_of grid ≤ 64 → (processors_of gs ≡ processors_of grid) × (processors_of gs ≤ 64)

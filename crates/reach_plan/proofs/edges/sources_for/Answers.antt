@@ -1,7 +1,7 @@
 use Rattle.std.proofs.Common.{◌≡◌, get_or, to_z, of_z, w64, pos, arith}
 use Rattle.std.proofs.lemmas.Int.{ints}
-use Rattle.zpl_region.specs.declared.dims.Dim.TheVariants.{Range}
-use Rattle.grid_layout.proofs.ThreeLemmas.{few_of}
+use Rattle.move_plan.specs.of_zpl_region.declared.dims.Dim.TheVariants.{Range}
+use Rattle.move_plan.proofs.of_grid_layout.ThreeLemmas.{few_of}
 use Rattle.reach_plan.proofs.EdgeLemmas.{sources_lie}
 use Rattle.reach_plan.proofs.PieceLemmas.{component_up_to}
 use Rattle.reach_plan.proofs.NumberLemmas.{row_inside}

@@ -1,7 +1,7 @@
 use Rattle.std.proofs.Common.{◌≡◌, to_z, of_z, w64, refl, ap, ◌∙◌, arith}
 use Rattle.std.specs.Int.{int_max, int_min}
 use Rattle.std.proofs.lemmas.Int.{clamps, ints}
-use Rattle.zpl_arrays.specs.Border.{dim_border_source}
+use Rattle.move_plan.specs.of_zpl_arrays.Border.{dim_border_source}
 use Rattle.reach_plan.specs.Edge.{back_of}
 use Rattle.reach_plan.proofs.EdgeLemmas.{source_of}
 use Rattle.reach_plan.proofs.edges.target_ends.Goals as goal

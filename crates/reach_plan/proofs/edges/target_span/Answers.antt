@@ -1,10 +1,10 @@
 use Rattle.std.proofs.Common.{◌≡◌, ◌≢◌, to_z, of_z, w64, ◌∙◌, ap, sym, subst, refl, ◌≤◌, arith, pos, ◌≤ℤ◌, ℤ}
 use Rattle.std.specs.Int.{int_max, int_min}
 use Rattle.std.proofs.lemmas.Int.{clamps, ints}
-use Rattle.zpl_region.specs.declared.dims.Dim.TheVariants.{Range}
-use Rattle.zpl_region.specs.Dim.{dim_outside_of}
-use Rattle.zpl_arrays.specs.Border.{dim_border_source}
-use Rattle.grid_layout.specs.Block.{block_first, block_last, block_of}
+use Rattle.move_plan.specs.of_zpl_region.declared.dims.Dim.TheVariants.{Range}
+use Rattle.move_plan.specs.of_zpl_region.Dim.{dim_outside_of}
+use Rattle.move_plan.specs.of_zpl_arrays.Border.{dim_border_source}
+use Rattle.move_plan.specs.of_grid_layout.Block.{block_first, block_last, block_of}
 use Rattle.reach_plan.specs.Edge.{HasSome, back_of, dim_edge}
 use Rattle.reach_plan.proofs.EdgeLemmas.{target_lies, beside_of, ends_of, still_same, wrong_way}
 use Rattle.reach_plan.proofs.edges.target_span.Goals as goal

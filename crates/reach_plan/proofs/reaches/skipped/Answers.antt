@@ -1,5 +1,5 @@
 use Rattle.std.proofs.Common.{◌≡◌, ◌≤◌, ◌<◌, ◌+◌, ◌*◌, ◌/◌, ◌%◌, ℕ, min, get_or, arith}
-use Rattle.grid_layout.proofs.ThreeLemmas.{AreFew, few_of}
+use Rattle.move_plan.proofs.of_grid_layout.ThreeLemmas.{AreFew, few_of}
 use Rattle.reach_plan.specs.declared.reaches.Span.{Span}
 use Rattle.reach_plan.proofs.NumberLemmas.{Placed, after_column, after_row, before_column, before_plane, before_row, lt_mul, placed}
 use Rattle.reach_plan.proofs.ReachLemmas.{LieThree, lie_told, mul_most, placed_at}

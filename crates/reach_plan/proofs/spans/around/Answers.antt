@@ -1,8 +1,8 @@
 use Rattle.std.proofs.Common.{◌≡◌, get_or, to_z, of_z, w64, pos, sym, subst, ◌∙◌, ap, arith}
 use Rattle.std.proofs.lemmas.Int.{ints}
-use Rattle.zpl_region.specs.declared.dims.Dim.TheVariants.{Range}
-use Rattle.grid_layout.specs.Grid.{blocks_at, cuts}
-use Rattle.grid_layout.proofs.ThreeLemmas.{few_of}
+use Rattle.move_plan.specs.of_zpl_region.declared.dims.Dim.TheVariants.{Range}
+use Rattle.move_plan.specs.of_grid_layout.Grid.{blocks_at, cuts}
+use Rattle.move_plan.proofs.of_grid_layout.ThreeLemmas.{few_of}
 use Rattle.reach_plan.specs.Span.{each_span}
 use Rattle.reach_plan.proofs.NumberLemmas.{row_inside}
 use Rattle.reach_plan.proofs.ReachLemmas.{placed_at}

@@ -1,11 +1,11 @@
 use Rattle.std.proofs.Common.{◌≡◌, ◌≤◌, ◌∙◌, ap, subst, sym, arith}
-use Rattle.grid_layout.specs.declared.boxes.ArrayBox.{ArrayBox}
-use Rattle.grid_layout.specs.declared.blocks.Blocks.{Blocks}
-use Rattle.grid_layout.specs.Grid.{blocks_at, cuts}
-use Rattle.grid_layout.specs.Layout.{AreBlocks, HasThree, axes_at, box_at, held_box_of, laid_out}
+use Rattle.move_plan.specs.of_grid_layout.declared.boxes.ArrayBox.{ArrayBox}
+use Rattle.move_plan.specs.of_grid_layout.declared.blocks.Blocks.{Blocks}
+use Rattle.move_plan.specs.of_grid_layout.Grid.{blocks_at, cuts}
+use Rattle.move_plan.specs.of_grid_layout.Layout.{AreBlocks, HasThree, axes_at, box_at, held_box_of, laid_out}
 use Rattle.reach_plan.specs.Span.{each_span}
 use Rattle.reach_plan.proofs.PieceLemmas.{components_up_to, held_three, lies_by, owners_lie}
-use Rattle.zpl_region.specs.Dim.{IsUpTo}
+use Rattle.move_plan.specs.of_zpl_region.Dim.{IsUpTo}
 use Rattle.std.specs.Prelude.{All}
 use Rattle.reach_plan.proofs.spans.owners_for.Goals as goal
 

@@ -1,6 +1,6 @@
 use Rattle.std.proofs.Common.{◌≡◌, to_z, of_z, w64, ◌+ℤ◌, ◌∙◌, ap, min, max, arith, rules}
 use Rattle.std.proofs.lemmas.Int.{ints}
-use Rattle.grid_layout.specs.Block.{block_first, block_last, block_of}
+use Rattle.move_plan.specs.of_grid_layout.Block.{block_first, block_last, block_of}
 use Rattle.reach_plan.proofs.SpanLemmas.{span_told}
 use Rattle.reach_plan.proofs.spans.span.Goals as goal
 

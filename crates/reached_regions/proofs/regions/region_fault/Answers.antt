@@ -3,7 +3,7 @@ use Rattle.zpl_tree.specs.View.{syntax_of}
 use Rattle.zpl_names.specs.Reached.{sites_at}
 use Rattle.site_faults.specs.Found.{found_in, found_of}
 use Rattle.site_faults.specs.declared.findings.Found.{Found}
-use Rattle.text_walk.specs.Meaning.{IsOneOf, all_faults}
+use Rattle.routine_walks.specs.of_text_walk.Meaning.{IsOneOf, all_faults}
 use Rattle.reached_regions.specs.Pairs.{pair_of, pairs_in}
 use Rattle.reached_regions.proofs.PairLemmas.{not-past}
 use Rattle.reached_regions.proofs.RegionLemmas.{begins, ends, goes-on, harmed}

@@ -7,7 +7,7 @@ use Rattle.name_kinds.specs.Seen.{shapes_of}
 use Rattle.site_faults.specs.Found.{found_in}
 use Rattle.site_faults.specs.Reach.{call_site_of}
 use Rattle.site_faults.specs.Walk.{state_of}
-use Rattle.text_walk.specs.Meaning.{all_faults}
+use Rattle.routine_walks.specs.of_text_walk.Meaning.{all_faults}
 use Rattle.routine_walks.specs.Texts.{routine_of, sites_over}
 use Rattle.routine_walks.proofs.TextLemmas.{found-within, no-calls, no-sites, some-calls, some-sites}
 use Rattle.reached_regions.specs.Pairs.{AddsCalls, pairs_in}

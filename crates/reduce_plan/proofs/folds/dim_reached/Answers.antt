@@ -1,7 +1,7 @@
 use Rattle.std.proofs.Common.{◌≡◌, w64, to_z, of_z, sym, ◌∙◌, subst, arith}
 use Rattle.std.proofs.lemmas.Bool.{false≢true}
 use Rattle.std.proofs.lemmas.Int.{ints}
-use Rattle.zpl_region.specs.Dim.{IsDim}
+use Rattle.grid_layout.specs.of_zpl_region.Dim.{IsDim}
 use Rattle.reduce_plan.proofs.ReachedLemmas.{alone_is_dim, told_alone, told_none}
 use Rattle.reduce_plan.proofs.folds.dim_reached.Goals as goal
 

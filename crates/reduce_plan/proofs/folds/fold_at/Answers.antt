@@ -1,9 +1,9 @@
 use Rattle.std.proofs.Common.{◌≡◌, w64, to_z, of_z, ℤ, pos, get_or, slice_get, Some, sym, ◌∙◌, ap, arith}
 use Rattle.std.proofs.lemmas.Int.{ints}
-use Rattle.zpl_region.specs.Region.{members}
-use Rattle.zpl_region.proofs.HullLemmas.{has_steps}
-use Rattle.zpl_nums.specs.Fold.{joined}
-use Rattle.zpl_arrays.specs.Array.{element}
+use Rattle.grid_layout.specs.of_zpl_region.Region.{members}
+use Rattle.grid_layout.proofs.of_zpl_region.HullLemmas.{has_steps}
+use Rattle.region_places.specs.of_zpl_nums.Fold.{joined}
+use Rattle.region_places.specs.of_zpl_arrays.Array.{element}
 use Rattle.reduce_plan.proofs.WalkLemmas.{element_is, fold_one, member_at, none_from_default, within_is_some}
 use Rattle.reduce_plan.proofs.folds.fold_at.Goals as goal
 use Rattle.reduce_plan.proofs.folds.fold_at.Goals.{in-Some, in_default}

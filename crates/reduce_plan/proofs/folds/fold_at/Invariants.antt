@@ -1,7 +1,7 @@
 use Rattle.std.proofs.Common.{◌≡◌, map, take}
-use Rattle.zpl_nums.specs.Fold.{folded}
-use Rattle.zpl_region.specs.Region.{members}
-use Rattle.zpl_arrays.specs.Array.{element}
+use Rattle.region_places.specs.of_zpl_nums.Fold.{folded}
+use Rattle.grid_layout.specs.of_zpl_region.Region.{members}
+use Rattle.region_places.specs.of_zpl_arrays.Array.{element}
 use Rattle.reduce_plan.proofs.folds.fold_at.Given as goal
 
 -- the fold over the first tuples

@@ -2,12 +2,12 @@ use Rattle.std.proofs.Common.{◌≡◌, ◌<◌, Vec, Global, w64, to_z, of_z, 
 use Rattle.std.specs.List.{filter}
 use Rattle.std.proofs.lemmas.Bool.{false≢true}
 use Rattle.std.proofs.lemmas.Int.{ints}
-use Rattle.zpl_nums.specs.Fold.{folded}
-use Rattle.zpl_region.specs.Region.{members}
-use Rattle.zpl_region.proofs.EndLemmas.{first_member}
-use Rattle.zpl_region.proofs.HullLemmas.{has_steps}
-use Rattle.zpl_arrays.specs.Array.{Array, element}
-use Rattle.zpl_arrays.specs.Fold.{agrees, partly_reduced}
+use Rattle.region_places.specs.of_zpl_nums.Fold.{folded}
+use Rattle.grid_layout.specs.of_zpl_region.Region.{members}
+use Rattle.grid_layout.proofs.of_zpl_region.EndLemmas.{first_member}
+use Rattle.grid_layout.proofs.of_zpl_region.HullLemmas.{has_steps}
+use Rattle.region_places.specs.of_zpl_arrays.Array.{Array, element}
+use Rattle.region_places.specs.of_zpl_arrays.Fold.{agrees, partly_reduced}
 use Rattle.reduce_plan.specs.Partial.{is_reached}
 use Rattle.reduce_plan.proofs.ReachedLemmas.{kept_few, kept_inside, kept_none, kept_one, reached_any}
 use Rattle.reduce_plan.proofs.WalkLemmas.{IsThrough, appended, fewer_left, left, none_from_default, nothing_more, pushed, through_ends, through_step}

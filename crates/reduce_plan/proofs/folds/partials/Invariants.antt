@@ -1,5 +1,5 @@
-use Rattle.zpl_arrays.specs.Array.{element}
-use Rattle.zpl_arrays.specs.Fold.{partly_reduced}
+use Rattle.region_places.specs.of_zpl_arrays.Array.{element}
+use Rattle.region_places.specs.of_zpl_arrays.Fold.{partly_reduced}
 use Rattle.reduce_plan.specs.Partial.{is_reached}
 use Rattle.reduce_plan.proofs.WalkLemmas.{IsThrough, left}
 use Rattle.reduce_plan.proofs.folds.partials.Given as goal

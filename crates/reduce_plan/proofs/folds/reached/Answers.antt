@@ -1,12 +1,12 @@
 use Rattle.std.proofs.Common.{◌≡◌, w64, to_z, of_z, pos, get_or, [], ◌∷◌, sym, ◌∙◌, ap, subst, arith}
 use Rattle.std.proofs.lemmas.Int.{ints}
 use Rattle.std.proofs.lemmas.List.Elements.{All-from_recursion}
-use Rattle.zpl_region.specs.declared.dims.Dim.{Dim}
-use Rattle.zpl_region.specs.declared.dims.Dim.TheVariants.{Range}
-use Rattle.zpl_region.specs.declared.regions.Region.{Region}
-use Rattle.zpl_region.specs.Dim.{IsDim}
-use Rattle.zpl_region.specs.Region.{IsPadded, members}
-use Rattle.zpl_region.proofs.HullLemmas.{has_steps}
+use Rattle.grid_layout.specs.of_zpl_region.declared.dims.Dim.{Dim}
+use Rattle.grid_layout.specs.of_zpl_region.declared.dims.Dim.TheVariants.{Range}
+use Rattle.grid_layout.specs.of_zpl_region.declared.regions.Region.{Region}
+use Rattle.grid_layout.specs.of_zpl_region.Dim.{IsDim}
+use Rattle.grid_layout.specs.of_zpl_region.Region.{IsPadded, members}
+use Rattle.grid_layout.proofs.of_zpl_region.HullLemmas.{has_steps}
 use Rattle.reduce_plan.specs.Partial.{dim_reached, reached}
 use Rattle.reduce_plan.proofs.ReachedLemmas.{members-reached, reached_padded, three_reached}
 use Rattle.reduce_plan.proofs.folds.reached.Goals as goal

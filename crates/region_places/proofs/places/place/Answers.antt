@@ -1,10 +1,10 @@
 use Rattle.std.proofs.Common.{◌≡◌, w64, to_z, of_z, pos, get_or, refl, sym, ◌∙◌, ap, subst, arith}
 use Rattle.std.proofs.lemmas.Int.{ints}
-use Rattle.zpl_region.specs.declared.dims.Dim.{Dim}
-use Rattle.zpl_region.specs.declared.dims.Dim.TheVariants.{Range}
-use Rattle.zpl_region.specs.Dim.{IsCoordinate}
-use Rattle.zpl_region.specs.Ends.{coordinate_count}
-use Rattle.zpl_region.proofs.HullLemmas.{has_steps}
+use Rattle.zpl_arrays.specs.of_zpl_region.declared.dims.Dim.{Dim}
+use Rattle.zpl_arrays.specs.of_zpl_region.declared.dims.Dim.TheVariants.{Range}
+use Rattle.zpl_arrays.specs.of_zpl_region.Dim.{IsCoordinate}
+use Rattle.zpl_arrays.specs.of_zpl_region.Ends.{coordinate_count}
+use Rattle.zpl_arrays.proofs.of_zpl_region.HullLemmas.{has_steps}
 use Rattle.zpl_arrays.specs.Array.{place_along}
 use Rattle.region_places.proofs.PlaceLemmas.{ArePlaces, coordinate_at, places_of}
 use Rattle.region_places.proofs.places.place.Goals as goal

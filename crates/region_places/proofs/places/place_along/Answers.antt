@@ -1,6 +1,6 @@
 use Rattle.std.proofs.Common.{◌≡◌, ◌<◌, ◌/◌, pos, get_or, ◌-ℤ◌, unsigned_abs, w64, to_z, of_z, sym, ◌∙◌, ap, subst, arith}
 use Rattle.std.proofs.lemmas.Int.{ints}
-use Rattle.zpl_region.specs.Ends.{coordinate_count, least_member}
+use Rattle.zpl_arrays.specs.of_zpl_region.Ends.{coordinate_count, least_member}
 use Rattle.zpl_arrays.specs.Array.{place_along}
 use Rattle.region_places.proofs.PlaceLemmas.{no_least, place_below, place_of_range, single, step_above}
 use Rattle.region_places.proofs.places.place_along.Goals as goal

@@ -1,6 +1,6 @@
 use Rattle.std.proofs.Common.{◌≡◌, ◌+◌, arith}
 use Rattle.std.proofs.lemmas.Int.{ints}
-use Rattle.zpl_region.specs.Ends.{coordinate_count}
+use Rattle.zpl_arrays.specs.of_zpl_region.Ends.{coordinate_count}
 use Rattle.region_places.proofs.PlaceLemmas.{few_coordinates, no_ones, some_ones}
 use Rattle.region_places.proofs.places.size.Goals as goal
 use Rattle.region_places.proofs.places.size.Goals.{After-abs_diff}

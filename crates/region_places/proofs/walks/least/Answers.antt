@@ -1,6 +1,6 @@
 use Rattle.std.proofs.Common.{◌≡◌, pos, arith, to_z, of_z, w64}
 use Rattle.std.proofs.lemmas.Int.{ints}
-use Rattle.zpl_region.specs.declared.dims.Dim.TheVariants.{Range}
+use Rattle.zpl_arrays.specs.of_zpl_region.declared.dims.Dim.TheVariants.{Range}
 use Rattle.region_places.proofs.WalkLemmas.{first_is, lists_of, no_column, no_plane, no_row}
 use Rattle.region_places.proofs.walks.least.Goals as goal
 

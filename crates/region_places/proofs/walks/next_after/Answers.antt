@@ -1,6 +1,6 @@
 use Rattle.std.proofs.Common.{◌≡◌, ◌+ℤ◌, pos, arith, get_or, subst, to_z, of_z, w64}
 use Rattle.std.proofs.lemmas.Int.{ints}
-use Rattle.zpl_region.specs.declared.dims.Dim.TheVariants.{Range}
+use Rattle.zpl_arrays.specs.of_zpl_region.declared.dims.Dim.TheVariants.{Range}
 use Rattle.region_places.specs.Walk.{HasAmong}
 use Rattle.region_places.proofs.WalkLemmas.{column_told, none_told, plane_told, row_told}
 use Rattle.region_places.proofs.walks.next_after.Goals as goal

@@ -8,7 +8,7 @@ use Rattle.grid_layout.specs.Grid.{processors_of}
 use Rattle.node_form.specs.Fits.{FitsRemap, IsIndexArray}
 use Rattle.grid_meaning.specs.Local.{processors}
 use Rattle.grid_meaning.specs.Remap.{Want, is_number, some_wants, wants_at}
-use Rattle.node_stages.proofs.PieceLemmas.{grid_count}
+use Rattle.row_steps.proofs.of_node_stages.PieceLemmas.{grid_count}
 use Rattle.row_steps.proofs.WalkLemmas.{collecting_ends, collecting_lacks, collecting_starts, collecting_step, fewer_left, left, walk_goes_on, walk_starts}
 use Rattle.remap_messages.specs.Asked.{given}
 use Rattle.remap_messages.proofs.CountLemmas.{few_enough, few_tuples, no_more, one_counted, owned_of, zeros}

@@ -8,7 +8,7 @@ use Rattle.grid_layout.specs.Layout.{AreBlocks, laid_out, owner_of}
 use Rattle.grid_meaning.specs.Owner.{owner_for}
 use Rattle.grid_meaning.specs.Remap.{home_where}
 use Rattle.grid_meaning.specs.Stored.{arrangement_of}
-use Rattle.node_stages.proofs.PieceLemmas.{grid_count}
+use Rattle.row_steps.proofs.of_node_stages.PieceLemmas.{grid_count}
 use Rattle.remap_messages.proofs.SourceLemmas.{place_is_member}
 use Rattle.remap_messages.proofs.sources.home.Goals as goal
 

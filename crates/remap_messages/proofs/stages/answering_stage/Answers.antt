@@ -1,5 +1,5 @@
 use Rattle.std.proofs.Common.{◌<◌, ◌≤◌, length, arith}
-use Rattle.node_stages.specs.Stage.{staged}
+use Rattle.row_steps.specs.of_node_stages.Stage.{staged}
 use Rattle.row_steps.specs.Partners.{counted}
 use Rattle.remap_messages.proofs.StageLemmas.{answer_sent_at, answer_taken}
 use Rattle.remap_messages.proofs.stages.answering_stage.Goals as goal

@@ -2,7 +2,7 @@ use Rattle.std.proofs.Common.{◌≡◌, ◌-◌, ◌*◌, ap, ◌∙◌}
 use Rattle.std.specs.Prelude.{nat_le}
 use Rattle.grid_layout.specs.Grid.{processors_of}
 use Rattle.grid_meaning.specs.Local.{processors}
-use Rattle.node_stages.proofs.PieceLemmas.{grid_count}
+use Rattle.row_steps.proofs.of_node_stages.PieceLemmas.{grid_count}
 use Rattle.remap_messages.proofs.stages.is_asking.Goals as goal
 
 pub returns : goal.returns

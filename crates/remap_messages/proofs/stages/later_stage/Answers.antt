@@ -3,9 +3,9 @@ use Rattle.std.specs.Prelude.{slice_get}
 use Rattle.grid_layout.specs.Grid.{processors_of}
 use Rattle.grid_meaning.specs.Collective.{others}
 use Rattle.grid_meaning.specs.Local.{processors}
-use Rattle.node_local.specs.Standing.{entry_of}
-use Rattle.node_stages.specs.Stage.{staged}
-use Rattle.node_stages.proofs.PieceLemmas.{grid_count}
+use Rattle.row_steps.specs.of_node_local.Standing.{entry_of}
+use Rattle.row_steps.specs.of_node_stages.Stage.{staged}
+use Rattle.row_steps.proofs.of_node_stages.PieceLemmas.{grid_count}
 use Rattle.row_steps.specs.Partners.{counted}
 use Rattle.remap_messages.specs.Stages.{answering}
 use Rattle.remap_messages.proofs.StageLemmas.{behind_at, behind_within, request_sent, request_taken_at}

@@ -1,7 +1,7 @@
 use Rattle.std.proofs.Common.{◌≡◌, ap, ◌∙◌, arith}
 use Rattle.grid_layout.specs.Grid.{processors_of}
 use Rattle.grid_meaning.specs.Local.{processors}
-use Rattle.node_stages.proofs.PieceLemmas.{grid_count}
+use Rattle.row_steps.proofs.of_node_stages.PieceLemmas.{grid_count}
 use Rattle.remap_messages.proofs.CountLemmas.{zeros}
 use Rattle.remap_messages.proofs.stages.remap_awaits.Goals as goal
 

@@ -4,7 +4,7 @@ use Rattle.std.proofs.lemmas.Bool.Decides.{nat_tests}
 use Rattle.node_form.specs.Fits.{FitsRemap}
 use Rattle.grid_meaning.specs.Collective.{others_where}
 use Rattle.grid_meaning.specs.Local.{processors}
-use Rattle.node_stages.specs.Stage.{staged}
+use Rattle.row_steps.specs.of_node_stages.Stage.{staged}
 use Rattle.row_steps.specs.Partners.{counted}
 use Rattle.row_steps.proofs.PartnerLemmas.{counted_is}
 use Rattle.remap_messages.specs.Row.{answered}

@@ -3,7 +3,7 @@ use Rattle.std.specs.Prelude.{Some}
 use Rattle.node_form.specs.Fits.{FitsRemap, storage_of}
 use Rattle.grid_meaning.specs.Owner.{tuples_of}
 use Rattle.grid_meaning.specs.Remap.{wants_at}
-use Rattle.node_local.specs.Workplace.{Workplace}
+use Rattle.row_steps.specs.of_node_local.Workplace.{Workplace}
 use Rattle.remap_messages.specs.Asked.{IsAtHome, chosen_of, given, want_of}
 use Rattle.remap_messages.specs.declared.wants.Want.{Want}
 use Rattle.remap_messages.proofs.SourceLemmas.{some_row}

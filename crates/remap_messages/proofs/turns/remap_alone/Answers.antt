@@ -4,7 +4,7 @@ use Rattle.std.specs.Option.{option_map}
 use Rattle.node_form.specs.Fits.{storage_of}
 use Rattle.grid_meaning.specs.Owner.{tuples_of}
 use Rattle.grid_meaning.specs.Remap.{wants_at}
-use Rattle.node_local.specs.Workplace.{Workplace}
+use Rattle.row_steps.specs.of_node_local.Workplace.{Workplace}
 use Rattle.remap_messages.specs.Asked.{IsAtHome, chosen_of, given, values_for, want_of}
 use Rattle.remap_messages.specs.declared.wants.Want.{Want}
 use Rattle.remap_messages.proofs.TurnLemmas as turn

@@ -7,7 +7,7 @@ use Rattle.node_form.specs.Fits.{storage_of}
 use Rattle.grid_meaning.specs.Collective.{keeping}
 use Rattle.grid_meaning.specs.Local.{processors}
 use Rattle.grid_meaning.specs.Remap.{home, is_number, tuples_in}
-use Rattle.node_local.specs.Workplace.{Workplace}
+use Rattle.row_steps.specs.of_node_local.Workplace.{Workplace}
 use Rattle.remap_messages.proofs.TurnLemmas as turn
 use Rattle.remap_messages.proofs.turns.remap_taken.Goals as goal
 

@@ -4,7 +4,7 @@ use Rattle.zpl_tree.specs.Syntax.{Program}
 use Rattle.zpl_tree.specs.Grammar.{IsProgram}
 use Rattle.zpl_meaning.specs.Program.{outcome_of}
 use Rattle.zpl_lowering.specs.Tables.{flat_tables}
-use Rattle.lock_steps.specs.Meant.{IsMeant}
+use Rattle.compiled_runs.specs.of_lock_steps.Meant.{IsMeant}
 use Rattle.zpl_claims.specs.Build.{Build}
 use Rattle.compiled_tidy.specs.Accepted.{IsAcceptedText}
 use Rattle.compiled_tidy.proofs.AcceptedLemmas.{grammar_of}

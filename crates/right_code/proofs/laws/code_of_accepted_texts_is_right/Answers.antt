@@ -5,7 +5,7 @@ use Rattle.node_form.specs.Grid.{IsGrid}
 use Rattle.zpl_claims.specs.Build.{Build}
 use Rattle.zpl_claims.specs.Compiled.{IsFaithful}
 use Rattle.zpl_claims.specs.Origin.{origin_of}
-use Rattle.zpl_compile.specs.Compile.{compiled}
+use Rattle.compiled_runs.specs.of_zpl_compile.Compile.{compiled}
 use Rattle.compiled_tidy.specs.Accepted.{IsAcceptedText}
 use Rattle.compiled_tidy.proofs.AcceptedLemmas.{grammar_of}
 use Rattle.right_code.specs.Accepted.{IsAccepted}

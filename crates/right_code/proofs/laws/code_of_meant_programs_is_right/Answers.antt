@@ -5,8 +5,8 @@ use Rattle.zpl_names.specs.Expansion.{shattered_loops}
 use Rattle.zpl_meaning.specs.Program.{outcome_of}
 use Rattle.node_form.specs.declared.tables.Tables.{Tables}
 use Rattle.flat_form.specs.Flat.{IsFlat}
-use Rattle.needs_runs.specs.Sharable.{IsSharable}
-use Rattle.pass_promises.specs.Promises.{HasLoopsUpTo, loops_in}
+use Rattle.compiled_runs.specs.of_needs_runs.Sharable.{IsSharable}
+use Rattle.owed_tables.specs.of_pass_promises.Promises.{HasLoopsUpTo, loops_in}
 use Rattle.zpl_claims.specs.Build.{Build}
 use Rattle.right_code.specs.Accepted.{IsAccepted}
 use Rattle.right_code.proofs.TypedLemmas.{is_typed}

@@ -1,5 +1,5 @@
 use Rattle.std.proofs.Common.{◌++◌, length, ◌∙◌, ap, append_assoc}
-use Rattle.value_rows.specs.Row.{misses, paired}
+use Rattle.scan_rows.specs.of_value_rows.Row.{misses, paired}
 use Rattle.row_stacks.proofs.StackLemmas.{first_rows, last_row}
 use Rattle.row_stacks.proofs.rows.pair_rows.Goals as goal
 

@@ -2,7 +2,7 @@ use Rattle.std.proofs.Common.{◌≡◌, map, unsigned_abs, to_z, of_z, w64, sym
 use Rattle.zpl_region.specs.Region.{members}
 use Rattle.zpl_region.proofs.HullLemmas.{has_steps}
 use Rattle.zpl_arrays.specs.Scan.{scanned_along}
-use Rattle.array_totals.specs.Total.{kept_values, scan_total}
+use Rattle.scan_rows.specs.of_array_totals.Total.{kept_values, scan_total}
 use Rattle.scan_rows.specs.Scan.{scanned_row}
 use Rattle.scan_rows.proofs.ScanLemmas.{scan_of_total}
 use Rattle.scan_lines.proofs.TotalLemmas as line

@@ -4,7 +4,7 @@ use Rattle.std.proofs.lemmas.List.{map_more, take_all}
 use Rattle.zpl_region.specs.Region.{members}
 use Rattle.zpl_region.proofs.EndLemmas.{length-tuple_count}
 use Rattle.zpl_region.proofs.HullLemmas.{has_steps}
-use Rattle.array_totals.specs.Total.{kept_values, scan_total}
+use Rattle.scan_rows.specs.of_array_totals.Total.{kept_values, scan_total}
 use Rattle.row_stacks.proofs.scans.push_scans.Goals as goal
 
 pub count-count-requires-clause-fits : goal.count-count-requires-clause-fits

@@ -1,6 +1,6 @@
 use Rattle.std.proofs.Common.{◌≡◌, Bool, ℤ, List, ◌++◌, map, take}
 use Rattle.zpl_region.specs.Region.{members}
-use Rattle.array_totals.specs.Total.{Total, kept_values, scan_total}
+use Rattle.scan_rows.specs.of_array_totals.Total.{Total, kept_values, scan_total}
 use Rattle.row_stacks.proofs.scans.push_scans.Given as goal
 
 abbrev pub invariant-loop-i : goal.invariant-loop-i

@@ -1,6 +1,6 @@
 use Rattle.std.proofs.Common.{◌≡◌, to_z, of_z, w64, ◌∙◌, ap₂, rules}
 use Rattle.zpl_region.proofs.HullLemmas.{has_steps}
-use Rattle.value_rows.specs.Row.{folded_row}
+use Rattle.scan_rows.specs.of_value_rows.Row.{folded_row}
 use Rattle.row_stacks.proofs.ScanLemmas.{scan_is}
 use Rattle.row_stacks.proofs.scans.scan_at.Goals as goal
 

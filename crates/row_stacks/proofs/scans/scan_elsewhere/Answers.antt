@@ -2,7 +2,7 @@ use Rattle.std.proofs.Common.{◌≡◌, ◌++◌, ◌-◌, ℤ, List, length, m
 use Rattle.std.proofs.Common.{sym, ◌∙◌, ap, ap₂, arith}
 use Rattle.std.proofs.lemmas.List.{length-map, take_all}
 use Rattle.zpl_region.specs.Region.{members}
-use Rattle.array_totals.specs.Total.{kept_values, scan_total}
+use Rattle.scan_rows.specs.of_array_totals.Total.{kept_values, scan_total}
 use Rattle.row_stacks.proofs.StackLemmas.{drop_front, take_front}
 use Rattle.row_stacks.proofs.scans.scan_elsewhere.Goals as goal
 

@@ -1,5 +1,5 @@
 use Rattle.std.proofs.Common.{[], ◌∷◌, sym, ◌∙◌}
-use Rattle.grid_meaning.specs.Collective.{TakesFrom, Last}
+use Rattle.node_stages.specs.of_grid_meaning.Collective.{TakesFrom, Last}
 use Rattle.row_steps.specs.Partners.{counted}
 use Rattle.row_steps.proofs.StageLemmas.{stage_at, taking_last}
 use Rattle.row_steps.proofs.partners.taking_stage.Goals as goal

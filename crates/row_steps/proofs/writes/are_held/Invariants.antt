@@ -1,6 +1,6 @@
 use Rattle.std.proofs.Common.{◌≡◌, drop}
 use Rattle.std.specs.Prelude.{is_some}
-use Rattle.grid_meaning.specs.Place.{values_at}
+use Rattle.node_stages.specs.of_grid_meaning.Place.{values_at}
 use Rattle.row_steps.proofs.writes.are_held.Given as goal
 
 abbrev pub invariant-loop-x : goal.invariant-loop-x

@@ -1,6 +1,6 @@
 use Rattle.std.proofs.Common.{◌≡◌, true, false, cond, sym, ap, ◌∙◌}
 use Rattle.std.specs.Prelude.{Some, None, is_some}
-use Rattle.grid_meaning.specs.Place.{with_values}
+use Rattle.node_stages.specs.of_grid_meaning.Place.{with_values}
 use Rattle.row_steps.proofs.HeldLemmas.{none_from, put_all, written_where_all_read}
 use Rattle.row_steps.proofs.writes.put_listed.Goals as goal
 

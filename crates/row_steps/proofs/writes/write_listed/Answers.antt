@@ -1,6 +1,6 @@
 use Rattle.std.proofs.Common.{rules, ◌≡◌, get_or, pos, to_z, of_z, w64, sym, ap, ◌∙◌, arith}
 use Rattle.std.specs.Prelude.{None}
-use Rattle.grid_meaning.specs.Place.{with_value}
+use Rattle.node_stages.specs.of_grid_meaning.Place.{with_value}
 use Rattle.row_steps.proofs.ListLemmas.{next_at, written_on}
 use Rattle.row_steps.proofs.writes.write_listed.Goals as goal
 

@@ -1,5 +1,5 @@
 use Rattle.std.proofs.Common.{◌≡◌, drop}
-use Rattle.grid_meaning.specs.Place.{with_values}
+use Rattle.node_stages.specs.of_grid_meaning.Place.{with_values}
 use Rattle.row_steps.proofs.writes.write_listed.Given as goal
 
 abbrev pub invariant-loop-i : goal.invariant-loop-i

@@ -1,6 +1,6 @@
 use Rattle.std.proofs.Common.{◌≡◌, sym, ◌∙◌, ap}
 use Rattle.array_terms.specs.View.{terms_of}
-use Rattle.array_values.proofs.RowLemmas.{passed_on}
+use Rattle.array_scalars.proofs.of_array_values.RowLemmas.{passed_on}
 use Rattle.scalar_lists.proofs.ListLemmas.{scalars_told, values_given, values_stop, values_trap}
 use Rattle.scalar_lists.proofs.lists.values_of.Goals as goal
 

@@ -1,7 +1,7 @@
 use Rattle.std.proofs.Common.{◌≡◌, set, get_or, below_more, get_or-set_other, get_or-set_same, ap, ◌∙◌, arith}
 use Rattle.grid_layout.specs.Grid.{processors_of}
 use Rattle.grid_meaning.specs.Local.{processors}
-use Rattle.node_stages.proofs.PieceLemmas.{grid_count}
+use Rattle.row_steps.proofs.of_node_stages.PieceLemmas.{grid_count}
 use Rattle.scan_messages.proofs.StageLemmas.{lines_of}
 use Rattle.scan_messages.proofs.stages.count_lines.Goals as goal
 

@@ -4,7 +4,7 @@ use Rattle.zpl_region.proofs.HullLemmas.{has_steps}
 use Rattle.scan_messages.proofs.LineLemmas.{heads_told}
 use Rattle.scan_messages.proofs.RowLemmas.{dims_alike}
 use Rattle.grid_meaning.specs.Scan.{line_heads}
-use Rattle.node_stages.proofs.PieceLemmas.{IsRegion-slot}
+use Rattle.row_steps.proofs.of_node_stages.PieceLemmas.{IsRegion-slot}
 use Rattle.scan_messages.proofs.stages.line_count.Goals as goal
 
 pub line_heads-requires-clause-dim : goal.line_heads-requires-clause-dim

@@ -4,9 +4,9 @@ use Rattle.std.proofs.lemmas.Bool.Decides.{nat_tests}
 use Rattle.grid_layout.specs.Grid.{processors_of}
 use Rattle.grid_meaning.specs.Collective.{others_where}
 use Rattle.grid_meaning.specs.Local.{processors}
-use Rattle.node_stages.specs.Partners.{taking}
-use Rattle.node_stages.specs.Stage.{staged}
-use Rattle.node_stages.proofs.PieceLemmas.{grid_count}
+use Rattle.row_steps.specs.of_node_stages.Partners.{taking}
+use Rattle.row_steps.specs.of_node_stages.Stage.{staged}
+use Rattle.row_steps.proofs.of_node_stages.PieceLemmas.{grid_count}
 use Rattle.row_steps.specs.Partners.{counted}
 use Rattle.row_steps.proofs.PartnerLemmas.{counted_is}
 use Rattle.scan_messages.proofs.StageLemmas.{lines_of, only_takes, sent_at, stages_of, stages_told, taken_at, taken_within}

@@ -11,10 +11,10 @@ use Rattle.zpl_meaning.proofs.VisitLemmas.{Laws}
 use Rattle.zpl_meaning.specs.Program.{outcome_of}
 use Rattle.flat_form.specs.Act.{flat_run}
 use Rattle.zpl_lowering.specs.Tables.{flat_tables}
-use Rattle.lowering_runs.specs.Shown.{Shows}
-use Rattle.lowering_runs.proofs.WrongLemmas.{never_wrong}
+use Rattle.served_places.specs.of_lowering_runs.Shown.{Shows}
+use Rattle.served_places.proofs.of_lowering_runs.WrongLemmas.{never_wrong}
 use Rattle.meaning_ranks.proofs.PlaceLemmas.{found_routine}
-use Rattle.lowering_fits.proofs.BracketLemmas.{LimitsAreTold}
+use Rattle.lowered_flat.proofs.of_lowering_fits.BracketLemmas.{LimitsAreTold}
 use Rattle.lowered_flat.specs.Apart.{NamesStandApart}
 use Rattle.lowered_flat.proofs.ToldLemmas.{frame_told, read_within}
 use Rattle.shown_programs.specs.Text.{IsShownProgram}

@@ -1,6 +1,6 @@
 use Rattle.std.proofs.Common.{◌≡◌, drop, map}
 use Rattle.zpl_tree.specs.View.{exprs_of}
-use Rattle.zpl_names.specs.Faults.{all_fit}
+use Rattle.name_kinds.specs.of_zpl_names.Faults.{all_fit}
 use Rattle.name_kinds.specs.Seen.{formal_of}
 use Rattle.site_faults.specs.Reach.{reach_of}
 use Rattle.site_faults.proofs.calls.all_fit.Given as goal

@@ -1,7 +1,7 @@
 use Rattle.std.proofs.Common.{ap, ap₂, not, ◌&&◌, ◌∙◌}
 use Rattle.zpl_tree.specs.View.{expr_of}
-use Rattle.zpl_names.specs.Ranks.{is_above_zero}
-use Rattle.zpl_names.specs.Sites.{Actual}
+use Rattle.name_kinds.specs.of_zpl_names.Ranks.{is_above_zero}
+use Rattle.name_kinds.specs.of_zpl_names.Sites.{Actual}
 use Rattle.site_faults.specs.Reach.{reach_of}
 use Rattle.site_faults.specs.Whole.{is_integer_type, rank_at}
 use Rattle.site_faults.proofs.WholeLemmas.{part-integer, rank-at}

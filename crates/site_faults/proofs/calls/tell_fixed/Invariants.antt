@@ -1,7 +1,7 @@
 use Rattle.std.proofs.Common.{◌≡◌, drop, map}
 use Rattle.zpl_tree.specs.View.{exprs_of}
-use Rattle.zpl_names.specs.Accepted as kind
-use Rattle.zpl_names.specs.Faults.{fixed_actuals}
+use Rattle.name_kinds.specs.of_zpl_names.Accepted as kind
+use Rattle.name_kinds.specs.of_zpl_names.Faults.{fixed_actuals}
 use Rattle.name_kinds.specs.Seen.{formal_of}
 use Rattle.site_faults.specs.Findings.{tells}
 use Rattle.site_faults.specs.Reach.{reach_of}

@@ -1,5 +1,5 @@
 use Rattle.std.proofs.Common.{ap, refl, sym, ◌∙◌}
-use Rattle.zpl_names.specs.Accepted as kind
+use Rattle.name_kinds.specs.of_zpl_names.Accepted as kind
 use Rattle.name_kinds.specs.Seen.{formal_of}
 use Rattle.site_faults.specs.Findings.{tells}
 use Rattle.site_faults.specs.Reach.{reach_of}

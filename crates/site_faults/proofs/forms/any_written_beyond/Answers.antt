@@ -1,6 +1,6 @@
 use Rattle.std.proofs.Common.{ap, refl, ◌∙◌}
 use Rattle.zpl_tree.specs.View.{name_of}
-use Rattle.zpl_names.specs.Faults.{is_flood_written}
+use Rattle.name_kinds.specs.of_zpl_names.Faults.{is_flood_written}
 use Rattle.site_faults.specs.Flood as flood
 use Rattle.site_faults.specs.Reach.{reach_of}
 use Rattle.site_faults.proofs.FormTold.{any-end, any-map, any-step}

@@ -1,7 +1,7 @@
 use Rattle.std.proofs.Common.{◌≡◌, ◌||◌, drop}
 use Rattle.std.specs.List.{list_any}
 use Rattle.zpl_tree.specs.View.{name_of}
-use Rattle.zpl_names.specs.Faults.{is_flood_written}
+use Rattle.name_kinds.specs.of_zpl_names.Faults.{is_flood_written}
 use Rattle.site_faults.specs.Reach.{reach_of}
 use Rattle.site_faults.proofs.forms.any_written_beyond.Given as goal
 

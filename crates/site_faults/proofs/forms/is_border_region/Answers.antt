@@ -1,7 +1,7 @@
 use Rattle.std.proofs.Common.{ap, refl, sym, ◌∙◌}
 use Rattle.zpl_tree.specs.View.{base_of, posts_of}
 use Rattle.zpl_tree.specs.declared.regions.Rexpr.{out-Rexpr}
-use Rattle.zpl_names.specs.Faults.{is_border_region}
+use Rattle.name_kinds.specs.of_zpl_names.Faults.{is_border_region}
 use Rattle.name_kinds.proofs.RegionLemmas.{inner_of-parts}
 use Rattle.site_faults.proofs.FormTold.{border-post, border-pre, border-there}
 use Rattle.site_faults.proofs.forms.is_border_region.Goals as goal

@@ -1,6 +1,6 @@
 use Rattle.std.proofs.Common.{ap, map, refl, ◌∙◌}
 use Rattle.zpl_tree.specs.View.{item_of}
-use Rattle.zpl_names.specs.Faults.{has_flood, is_under_mask, item_rank, lacks_region, shape_at}
+use Rattle.name_kinds.specs.of_zpl_names.Faults.{has_flood, is_under_mask, item_rank, lacks_region, shape_at}
 use Rattle.site_faults.specs.Reach.{reach_of}
 use Rattle.site_faults.proofs.FormTold.{any-end, any-map, any-step}
 use Rattle.site_faults.proofs.forms.look_at_items.Goals as goal

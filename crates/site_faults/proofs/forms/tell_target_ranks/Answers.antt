@@ -1,9 +1,9 @@
 use Rattle.std.proofs.Common.{refl, ap, ◌∙◌, map}
 use Rattle.std.specs.List.{flat_map}
 use Rattle.zpl_tree.specs.View.{name_of}
-use Rattle.zpl_names.specs.Accepted as kind
-use Rattle.zpl_names.specs.Faults.{at_if, kind_at}
-use Rattle.zpl_names.specs.Ranks.{array_rank, ranks_clash}
+use Rattle.name_kinds.specs.of_zpl_names.Accepted as kind
+use Rattle.name_kinds.specs.of_zpl_names.Faults.{at_if, kind_at}
+use Rattle.name_kinds.specs.of_zpl_names.Ranks.{array_rank, ranks_clash}
 use Rattle.site_faults.specs.Reach.{reach_of}
 use Rattle.site_faults.proofs.FindingLemmas.{loop-end, loop-step}
 use Rattle.site_faults.proofs.forms.tell_target_ranks.Goals as goal

@@ -1,9 +1,9 @@
 use Rattle.std.proofs.Common.{◌≡◌, drop, map}
 use Rattle.std.specs.List.{flat_map}
 use Rattle.zpl_tree.specs.View.{name_of}
-use Rattle.zpl_names.specs.Accepted as kind
-use Rattle.zpl_names.specs.Faults.{unless_taken}
-use Rattle.zpl_names.specs.Scope.{is_array}
+use Rattle.name_kinds.specs.of_zpl_names.Accepted as kind
+use Rattle.name_kinds.specs.of_zpl_names.Faults.{unless_taken}
+use Rattle.name_kinds.specs.of_zpl_names.Scope.{is_array}
 use Rattle.site_faults.specs.Findings.{tells}
 use Rattle.site_faults.specs.Reach.{reach_of}
 use Rattle.site_faults.specs.Walk.{state_of}

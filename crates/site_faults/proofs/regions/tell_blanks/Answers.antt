@@ -1,7 +1,7 @@
 use Rattle.std.proofs.Common.{ap, ◌∙◌, cond, ◌&&◌, []}
 use Rattle.zpl_tree.specs.View.{dim_of, dims_of}
-use Rattle.zpl_names.specs.Accepted as kind
-use Rattle.zpl_names.specs.Faults.{blanks, dim_at}
+use Rattle.name_kinds.specs.of_zpl_names.Accepted as kind
+use Rattle.name_kinds.specs.of_zpl_names.Faults.{blanks, dim_at}
 use Rattle.site_faults.specs.Regions.{is_blank}
 use Rattle.site_faults.proofs.FindingLemmas.{loop-end, loop-step}
 use Rattle.site_faults.proofs.RegionTold.{blanks-step, blanks-none}

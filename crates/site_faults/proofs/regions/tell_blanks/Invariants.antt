@@ -1,7 +1,7 @@
 use Rattle.std.proofs.Common.{◌≡◌, drop, cond, []}
 use Rattle.zpl_tree.specs.View.{dims_of}
-use Rattle.zpl_names.specs.Accepted as kind
-use Rattle.zpl_names.specs.Faults.{blanks}
+use Rattle.name_kinds.specs.of_zpl_names.Accepted as kind
+use Rattle.name_kinds.specs.of_zpl_names.Faults.{blanks}
 use Rattle.site_faults.specs.Findings.{tells}
 use Rattle.site_faults.specs.Walk.{state_of}
 use Rattle.site_faults.proofs.regions.tell_blanks.Given as goal

@@ -1,10 +1,10 @@
 use Rattle.std.proofs.Common.{ap, not, sym, ◌∙◌}
 use Rattle.zpl_tree.specs.View.{dir_of, exprs_of, name_of}
 use Rattle.zpl_tree.proofs.Views.{dir_of-Vector}
-use Rattle.zpl_names.specs.Accepted as kind
-use Rattle.zpl_names.specs.Faults.{at_if}
-use Rattle.zpl_names.specs.Scope.{is_direction}
-use Rattle.zpl_names.specs.Sites.{AtDir}
+use Rattle.name_kinds.specs.of_zpl_names.Accepted as kind
+use Rattle.name_kinds.specs.of_zpl_names.Faults.{at_if}
+use Rattle.name_kinds.specs.of_zpl_names.Scope.{is_direction}
+use Rattle.name_kinds.specs.of_zpl_names.Sites.{AtDir}
 use Rattle.site_faults.specs.Findings.{after, tells}
 use Rattle.site_faults.specs.Reach.{reach_of}
 use Rattle.site_faults.specs.Walk.{state_of}

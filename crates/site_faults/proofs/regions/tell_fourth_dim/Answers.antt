@@ -1,7 +1,7 @@
 use Rattle.std.proofs.Common.{ap, sym, true, ◌∙◌}
 use Rattle.zpl_tree.specs.View.{dim_of}
-use Rattle.zpl_names.specs.Accepted as kind
-use Rattle.zpl_names.specs.Faults.{at_if, dim_at}
+use Rattle.name_kinds.specs.of_zpl_names.Accepted as kind
+use Rattle.name_kinds.specs.of_zpl_names.Faults.{at_if, dim_at}
 use Rattle.site_faults.specs.Findings.{tells}
 use Rattle.site_faults.specs.Walk.{state_of}
 use Rattle.site_faults.proofs.FindingLemmas.{tells-none}

@@ -1,5 +1,5 @@
 use Rattle.std.proofs.Common.{ap, sym, ◌∙◌}
-use Rattle.zpl_names.specs.Accepted as kind
+use Rattle.name_kinds.specs.of_zpl_names.Accepted as kind
 use Rattle.site_faults.specs.Findings.{tells}
 use Rattle.site_faults.specs.Walk.{state_of}
 use Rattle.site_faults.proofs.FindingLemmas.{tells-none}

@@ -1,8 +1,8 @@
 use Rattle.std.proofs.Common.{refl, ap, ◌∙◌}
 use Rattle.zpl_tree.specs.View.{dir_of, posts_of}
-use Rattle.zpl_names.specs.Accepted as kind
-use Rattle.zpl_names.specs.Faults.{dir_at, post_clashes}
-use Rattle.zpl_names.specs.Ranks.{dir_rank, ranks_clash}
+use Rattle.name_kinds.specs.of_zpl_names.Accepted as kind
+use Rattle.name_kinds.specs.of_zpl_names.Faults.{dir_at, post_clashes}
+use Rattle.name_kinds.specs.of_zpl_names.Ranks.{dir_rank, ranks_clash}
 use Rattle.site_faults.specs.Reach.{reach_of}
 use Rattle.site_faults.proofs.FindingLemmas.{loop-end, loop-step}
 use Rattle.site_faults.proofs.regions.tell_post_clashes.Goals as goal

@@ -1,7 +1,7 @@
 use Rattle.std.proofs.Common.{◌≡◌, drop}
 use Rattle.zpl_tree.specs.View.{posts_of}
-use Rattle.zpl_names.specs.Accepted as kind
-use Rattle.zpl_names.specs.Faults.{post_clashes}
+use Rattle.name_kinds.specs.of_zpl_names.Accepted as kind
+use Rattle.name_kinds.specs.of_zpl_names.Faults.{post_clashes}
 use Rattle.site_faults.specs.Findings.{tells}
 use Rattle.site_faults.specs.Reach.{reach_of}
 use Rattle.site_faults.specs.Walk.{state_of}

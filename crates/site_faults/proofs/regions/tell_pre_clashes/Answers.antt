@@ -1,5 +1,5 @@
 use Rattle.std.proofs.Common.{◌∙◌, ap}
-use Rattle.zpl_names.specs.Ranks.{direction_rank}
+use Rattle.name_kinds.specs.of_zpl_names.Ranks.{direction_rank}
 use Rattle.site_faults.specs.Reach.{reach_of}
 use Rattle.site_faults.proofs.RegionTold.{pre-end, pre-step}
 use Rattle.site_faults.proofs.regions.tell_pre_clashes.Goals as goal

@@ -1,6 +1,6 @@
 use Rattle.std.proofs.Common.{◌≡◌, drop, map, Some}
 use Rattle.zpl_tree.specs.View.{pre_of}
-use Rattle.zpl_names.specs.Accepted as kind
+use Rattle.name_kinds.specs.of_zpl_names.Accepted as kind
 use Rattle.site_faults.specs.Findings.{tells}
 use Rattle.site_faults.specs.Reach.{reach_of}
 use Rattle.site_faults.specs.Regions.{clashes_behind}

@@ -1,9 +1,9 @@
 use Rattle.std.proofs.Common.{refl, ap, ◌∙◌, map, not}
 use Rattle.std.specs.List.{flat_map}
 use Rattle.zpl_tree.specs.View.{name_of, pre_of}
-use Rattle.zpl_names.specs.Accepted as kind
-use Rattle.zpl_names.specs.Faults.{kind_at, unless_taken}
-use Rattle.zpl_names.specs.Scope.{is_direction}
+use Rattle.name_kinds.specs.of_zpl_names.Accepted as kind
+use Rattle.name_kinds.specs.of_zpl_names.Faults.{kind_at, unless_taken}
+use Rattle.name_kinds.specs.of_zpl_names.Scope.{is_direction}
 use Rattle.site_faults.specs.Reach.{reach_of}
 use Rattle.site_faults.proofs.FindingLemmas.{loop-end, loop-step}
 use Rattle.site_faults.proofs.regions.tell_pres.Goals as goal

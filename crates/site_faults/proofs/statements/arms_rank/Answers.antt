@@ -1,7 +1,7 @@
 use Rattle.std.proofs.Common.{ap, ◌∙◌}
 use Rattle.zpl_tree.specs.View.{expr_of}
 use Rattle.zpl_tree.specs.declared.statements.Arm.{out-Arm}
-use Rattle.zpl_names.specs.Sites.{test_rank}
+use Rattle.name_kinds.specs.of_zpl_names.Sites.{test_rank}
 use Rattle.site_faults.specs.Reach.{reach_of}
 use Rattle.site_faults.proofs.StatementTold.{arms-end, arms-step}
 use Rattle.site_faults.proofs.statements.arms_rank.Goals as goal

@@ -1,7 +1,7 @@
 use Rattle.std.proofs.Common.{◌≡◌, drop}
 use Rattle.zpl_tree.specs.View.{arms_of}
-use Rattle.zpl_names.specs.Ranks.{first_rank}
-use Rattle.zpl_names.specs.Sites.{arms_rank}
+use Rattle.name_kinds.specs.of_zpl_names.Ranks.{first_rank}
+use Rattle.name_kinds.specs.of_zpl_names.Sites.{arms_rank}
 use Rattle.site_faults.specs.Reach.{reach_of}
 use Rattle.site_faults.proofs.statements.arms_rank.Given as goal
 

@@ -1,7 +1,7 @@
 use Rattle.std.proofs.Common.{ap, sym, ◌∙◌}
 use Rattle.zpl_tree.specs.View.{expr_of, item_of}
-use Rattle.zpl_names.specs.Faults.{item_rank}
-use Rattle.zpl_names.specs.Sites.{Printed}
+use Rattle.name_kinds.specs.of_zpl_names.Faults.{item_rank}
+use Rattle.name_kinds.specs.of_zpl_names.Sites.{Printed}
 use Rattle.site_faults.specs.Reach.{reach_of}
 use Rattle.site_faults.specs.Whole.{rank_at}
 use Rattle.site_faults.proofs.WholeLemmas.{rank-at}

@@ -1,6 +1,6 @@
 use Rattle.std.proofs.Common.{ap, ap₂, not, ◌&&◌, ◌∙◌}
-use Rattle.zpl_names.specs.Accepted as kind
-use Rattle.zpl_names.specs.Faults.{at_if}
+use Rattle.name_kinds.specs.of_zpl_names.Accepted as kind
+use Rattle.name_kinds.specs.of_zpl_names.Faults.{at_if}
 use Rattle.site_faults.specs.Findings.{tells}
 use Rattle.site_faults.specs.Walk.{state_of}
 use Rattle.site_faults.proofs.StatementTold.{broken-told, prefix-there}

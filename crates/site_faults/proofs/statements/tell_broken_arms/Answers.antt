@@ -1,8 +1,8 @@
 use Rattle.std.proofs.Common.{ap, ◌∙◌}
 use Rattle.zpl_tree.specs.View.{expr_of}
 use Rattle.zpl_tree.specs.declared.statements.Arm.{out-Arm}
-use Rattle.zpl_names.specs.Accepted as kind
-use Rattle.zpl_names.specs.Faults.{broken_test}
+use Rattle.name_kinds.specs.of_zpl_names.Accepted as kind
+use Rattle.name_kinds.specs.of_zpl_names.Faults.{broken_test}
 use Rattle.site_faults.specs.Findings.{tells}
 use Rattle.site_faults.specs.Walk.{state_of}
 use Rattle.site_faults.specs.Reach.{reach_of}

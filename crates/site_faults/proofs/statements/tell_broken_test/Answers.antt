@@ -1,7 +1,7 @@
 use Rattle.std.proofs.Common.{ap, ap₂, not, refl, sym, ◌&&◌, ◌||◌, ◌∙◌}
 use Rattle.zpl_tree.specs.View.{expr_of}
-use Rattle.zpl_names.specs.Ranks.{ranks_clash}
-use Rattle.zpl_names.specs.Sites.{Test}
+use Rattle.name_kinds.specs.of_zpl_names.Ranks.{ranks_clash}
+use Rattle.name_kinds.specs.of_zpl_names.Sites.{Test}
 use Rattle.name_kinds.proofs.PartLemmas.{part-elementwise}
 use Rattle.site_faults.specs.Reach.{reach_of}
 use Rattle.site_faults.specs.Whole.{rank_at}

@@ -1,6 +1,6 @@
 use Rattle.std.proofs.Common.{ap, ◌∙◌}
 use Rattle.zpl_tree.specs.View.{expr_of}
-use Rattle.zpl_names.specs.Sites.{Test}
+use Rattle.name_kinds.specs.of_zpl_names.Sites.{Test}
 use Rattle.site_faults.specs.Reach.{reach_of}
 use Rattle.site_faults.specs.Whole.{rank_at}
 use Rattle.site_faults.proofs.WholeLemmas.{rank-at}

@@ -5,7 +5,7 @@ use Rattle.zpl_tree.specs.Syntax as plain
 use Rattle.zpl_tree.specs.View.{base_of, bracket_of, dims_of, dir_of, expr_of, exprs_of, form_of, inner_of, posts_of, pre_of}
 use Rattle.zpl_tree.specs.declared.regions.Rexpr.{out-Rexpr}
 use Rattle.zpl_tree.proofs.Views.{dir_of-Vector, form_of-Call, form_of-Remap, inner_of-Dims}
-use Rattle.zpl_names.specs.Sites as sites
+use Rattle.name_kinds.specs.of_zpl_names.Sites as sites
 use Rattle.name_kinds.specs.Part.{call_part, part_of, remap_part}
 use Rattle.name_kinds.specs.Reach.{scope_of}
 use Rattle.name_kinds.proofs.PartLemmas.{part-own}

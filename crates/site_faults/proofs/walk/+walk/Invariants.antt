@@ -3,7 +3,7 @@
 use Rattle.std.proofs.Common.{◌≡◌, ◌+◌, ◌*◌, drop, max}
 use Rattle.zpl_tree.specs.declared.expressions.Expr.{size-Expr}
 use Rattle.zpl_tree.specs.View.{exprs_of, dims_of, posts_of}
-use Rattle.zpl_names.specs.Sites.{actuals_sites, components_sites, dims_sites, exprs_sites, posts_sites}
+use Rattle.name_kinds.specs.of_zpl_names.Sites.{actuals_sites, components_sites, dims_sites, exprs_sites, posts_sites}
 use Rattle.site_faults.specs.Findings.{walked}
 use Rattle.site_faults.specs.Reach.{reach_of}
 use Rattle.site_faults.specs.Walk.{state_of}

@@ -2,7 +2,7 @@ use Rattle.std.proofs.Common.{◌≡◌, sym, subst}
 use Rattle.zpl_tree.specs.Syntax.{Program}
 use Rattle.zpl_tree.specs.View.{syntax_of}
 use Rattle.code_layout.specs.Room.{HasRoom}
-use Rattle.zpl_compile.specs.Compilable.{IsCompiledTo}
+use Rattle.list_claims.specs.of_zpl_compile.Compilable.{IsCompiledTo}
 use Rattle.program_code.specs.Outcome.{IsUncompiled}
 use Rattle.call_claims.specs.Accepted.{IsAccepted, IsAcceptedUnder}
 use Rattle.call_claims.specs.Command.{build_of}

@@ -1,6 +1,6 @@
 use Rattle.std.proofs.Common.{ap, sym, ◌∙◌}
 use Rattle.zpl_tree.specs.View.{base_type_of, name_of}
-use Rattle.zpl_names.specs.Sites.{AtBase}
+use Rattle.site_faults.specs.of_zpl_names.Sites.{AtBase}
 use Rattle.site_faults.specs.Findings.{after}
 use Rattle.site_faults.specs.Walk.{state_of}
 use Rattle.text_walk.proofs.StatementLemmas.{other-told, quiet-base}

@@ -1,7 +1,7 @@
 use Rattle.std.proofs.Common.{ap, ◌∙◌}
 use Rattle.std.specs.List.{fold}
 use Rattle.zpl_tree.proofs.Views.{dir_of-Vector}
-use Rattle.zpl_names.specs.Sites.{dir_sites}
+use Rattle.site_faults.specs.of_zpl_names.Sites.{dir_sites}
 use Rattle.site_faults.specs.Findings.{after}
 use Rattle.site_faults.specs.Reach.{reach_of}
 use Rattle.site_faults.specs.Walk.{state_of}

@@ -2,7 +2,7 @@ use Rattle.std.proofs.Common.{ap, map, sym, ◌∙◌}
 use Rattle.zpl_tree.specs.Syntax as plain
 use Rattle.zpl_tree.specs.View.{prefix_of, statement_of}
 use Rattle.zpl_tree.proofs.Views.{statement_of-Block}
-use Rattle.zpl_names.specs.Faults as faults
+use Rattle.site_faults.specs.of_zpl_names.Faults as faults
 use Rattle.text_walk.proofs.procedures.body_returns.Goals as goal
 
 pub returns-in-Block : goal.returns-in-Block

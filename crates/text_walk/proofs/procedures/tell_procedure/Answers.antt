@@ -1,7 +1,7 @@
 use Rattle.std.proofs.Common.{ap, ap₂, not, sym, ◌&&◌, ◌∙◌}
 use Rattle.zpl_tree.specs.View.{procedure_of}
-use Rattle.zpl_names.specs.Accepted as kind
-use Rattle.zpl_names.specs.Faults.{at_if}
+use Rattle.site_faults.specs.of_zpl_names.Accepted as kind
+use Rattle.site_faults.specs.of_zpl_names.Faults.{at_if}
 use Rattle.site_faults.specs.Findings.{tells}
 use Rattle.site_faults.specs.Walk.{state_of}
 use Rattle.text_walk.proofs.StatementLemmas.{answers-map, procedure-told}

@@ -4,7 +4,7 @@ use Rattle.std.proofs.lemmas.List.Sums.{fold-append}
 use Rattle.zpl_tree.specs.Syntax as plain
 use Rattle.zpl_tree.specs.View.{base_type_of, prefix_of, statement_of, stmt_of, stmts_of}
 use Rattle.zpl_tree.proofs.Views.{statement_of-Block}
-use Rattle.zpl_names.specs.Sites as sites
+use Rattle.site_faults.specs.of_zpl_names.Sites as sites
 use Rattle.site_faults.specs.Findings.{after}
 use Rattle.site_faults.specs.Reach.{reach_of}
 use Rattle.site_faults.specs.Walk.{state_of}

@@ -5,7 +5,7 @@ use Rattle.zpl_tree.specs.Syntax as plain
 use Rattle.zpl_tree.specs.View.{arms_of, else_of, expr_of, head_of, prefix_of, statement_of, stmts_of}
 use Rattle.zpl_tree.specs.declared.statements.Arm.{out-Arm}
 use Rattle.zpl_tree.proofs.Views.{statement_of-Block, statement_of-Choice, statement_of-For, statement_of-Repeat, statement_of-While}
-use Rattle.zpl_names.specs.Sites as sites
+use Rattle.site_faults.specs.of_zpl_names.Sites as sites
 use Rattle.site_faults.specs.Findings.{after}
 use Rattle.site_faults.specs.Reach.{reach_of}
 use Rattle.site_faults.specs.Walk.{state_of}

@@ -2,7 +2,7 @@
 -- the same.
 use Rattle.std.proofs.Common.{◌≡◌, ◌+◌, ◌*◌, drop}
 use Rattle.zpl_tree.specs.View.{arms_of, stmts_of}
-use Rattle.zpl_names.specs.Sites.{arms_sites, stmts_sites}
+use Rattle.site_faults.specs.of_zpl_names.Sites.{arms_sites, stmts_sites}
 use Rattle.site_faults.specs.Findings.{walked}
 use Rattle.site_faults.specs.Reach.{reach_of}
 use Rattle.site_faults.specs.Walk.{state_of}

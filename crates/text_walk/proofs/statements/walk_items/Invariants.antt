@@ -1,7 +1,7 @@
 use Rattle.std.proofs.Common.{◌≡◌, drop, map}
 use Rattle.std.specs.List.{flat_map}
 use Rattle.zpl_tree.specs.View.{item_of}
-use Rattle.zpl_names.specs.Sites.{item_sites}
+use Rattle.site_faults.specs.of_zpl_names.Sites.{item_sites}
 use Rattle.site_faults.specs.Findings.{walked}
 use Rattle.site_faults.specs.Reach.{reach_of}
 use Rattle.site_faults.specs.Walk.{state_of}

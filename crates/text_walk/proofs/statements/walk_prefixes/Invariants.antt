@@ -1,6 +1,6 @@
 use Rattle.std.proofs.Common.{◌≡◌, drop, map}
 use Rattle.zpl_tree.specs.View.{prefix_of}
-use Rattle.zpl_names.specs.Sites.{prefixes_sites, under_prefixes}
+use Rattle.site_faults.specs.of_zpl_names.Sites.{prefixes_sites, under_prefixes}
 use Rattle.site_faults.specs.Findings.{walked}
 use Rattle.site_faults.specs.Reach.{reach_of}
 use Rattle.site_faults.specs.Walk.{state_of}

@@ -2,8 +2,8 @@ use Rattle.std.proofs.Common.{None, ap, ap₂, sym, ◌≡◌, ◌∷◌, ◌∙
 use Rattle.std.specs.List.{fold}
 use Rattle.zpl_tree.specs.View.{expr_of, exprs_of, form_of, name_of}
 use Rattle.zpl_tree.proofs.Views.{form_of-Call}
-use Rattle.zpl_names.specs.Faults.{kind_at}
-use Rattle.zpl_names.specs.Sites as sites
+use Rattle.site_faults.specs.of_zpl_names.Faults.{kind_at}
+use Rattle.site_faults.specs.of_zpl_names.Sites as sites
 use Rattle.site_faults.specs.Findings.{after}
 use Rattle.site_faults.specs.Reach.{reach_of}
 use Rattle.site_faults.specs.Walk.{state_of}

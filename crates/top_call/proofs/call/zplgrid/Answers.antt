@@ -1,8 +1,8 @@
 use Rattle.std.proofs.Common.{◌≡◌, map, string_bytes, refl, ap, sym, ◌∙◌, subst}
 use Rattle.call_claims.specs.Call.{call_of}
 use Rattle.call_claims.specs.Stream.{stream_of}
-use Rattle.call_answers.specs.declared.answers.Answer.TheVariants as answer
-use Rattle.call_answers.proofs.CallLemmas.{call_stops}
+use Rattle.mean_call.specs.of_call_answers.declared.answers.Answer.TheVariants as answer
+use Rattle.mean_call.proofs.of_call_answers.CallLemmas.{call_stops}
 use Rattle.top_call.specs.Call.{IsUnknown}
 use Rattle.top_call.proofs.UnknownLemmas.{none_fetched, tells_usage, usage_read}
 use Rattle.top_call.proofs.WordLemmas.{is_some, of_exec, of_gen, of_list, of_mean, of_run, of_time}

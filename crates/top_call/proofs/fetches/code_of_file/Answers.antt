@@ -4,9 +4,9 @@ use Rattle.call_claims.specs.Call.{call_of}
 use Rattle.call_claims.specs.Command.{build_of}
 use Rattle.call_words.specs.Reading.{asked_in}
 use Rattle.call_claims.specs.Source.{Source}
-use Rattle.call_answers.proofs.FetchLemmas.{not_fetched, on_err, on_ok}
-use Rattle.call_answers.specs.Fetched.{IsWholeText}
-use Rattle.text_code.proofs.TextLemmas.{text_fetches_none}
+use Rattle.mean_call.proofs.of_call_answers.FetchLemmas.{not_fetched, on_err, on_ok}
+use Rattle.mean_call.specs.of_call_answers.Fetched.{IsWholeText}
+use Rattle.gen_call.proofs.of_text_code.TextLemmas.{text_fetches_none}
 use Rattle.top_call.proofs.FileLemmas.{no_code, unfetched, unfetched_not_put}
 use Rattle.top_call.proofs.fetches.code_of_file.Goals as goal
 

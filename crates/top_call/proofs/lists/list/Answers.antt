@@ -1,17 +1,17 @@
 use Rattle.std.proofs.Common.{◌≡◌, ◌≢◌, inl, inr, sym, ◌∙◌, ap, subst, arith}
 use Rattle.call_claims.specs.Call.{call_of}
 use Rattle.call_claims.specs.Stream.{stream_of}
-use Rattle.list_claims.specs.Cause.{Cause, Lists}
-use Rattle.list_claims.specs.Cause.Cause.{list, no_memory}
+use Rattle.gen_call.specs.of_list_claims.Cause.{Cause, Lists}
+use Rattle.gen_call.specs.of_list_claims.Cause.Cause.{list, no_memory}
 use Rattle.call_claims.specs.Command.{build_of}
 use Rattle.call_claims.specs.Decided.{IsDecided}
-use Rattle.list_claims.specs.Listing.{IsMadeOf, TakesOutput}
+use Rattle.gen_call.specs.of_list_claims.Listing.{IsMadeOf, TakesOutput}
 use Rattle.call_claims.specs.declared.status.TheConstants.{PUT_FAILED}
-use Rattle.call_answers.specs.Answers.{status_of, told_of}
-use Rattle.call_answers.specs.Work.{execution_in}
-use Rattle.call_answers.proofs.CallLemmas.{answered, call_stops, failed_put, fetches_counted}
-use Rattle.call_answers.proofs.CallLemmas.{puts_counted, status_caused, work_other}
-use Rattle.call_answers.proofs.CallLemmas.FailedPut.{in_work, in_telling}
+use Rattle.mean_call.specs.of_call_answers.Answers.{status_of, told_of}
+use Rattle.mean_call.specs.of_call_answers.Work.{execution_in}
+use Rattle.mean_call.proofs.of_call_answers.CallLemmas.{answered, call_stops, failed_put, fetches_counted}
+use Rattle.mean_call.proofs.of_call_answers.CallLemmas.{puts_counted, status_caused, work_other}
+use Rattle.mean_call.proofs.of_call_answers.CallLemmas.FailedPut.{in_work, in_telling}
 use Rattle.call_words.specs.Reading.{asked_in}
 use Rattle.top_call.specs.Call.{IsListed}
 use Rattle.top_call.proofs.FileLemmas.{on_some}

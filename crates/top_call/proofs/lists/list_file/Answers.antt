@@ -1,7 +1,7 @@
 use Rattle.std.proofs.Common.{[], sym, ◌∙◌, ap}
 use Rattle.call_claims.specs.Call.{call_of}
 use Rattle.call_claims.specs.Command.{build_of}
-use Rattle.call_answers.specs.Answers.{status_of}
+use Rattle.mean_call.specs.of_call_answers.Answers.{status_of}
 use Rattle.call_words.specs.Reading.{asked_in}
 use Rattle.top_call.proofs.ListLemmas.{list_caused, list_none, listing_cut}
 use Rattle.top_call.proofs.ListLemmas.{listing_done, listing_taken}

@@ -2,14 +2,14 @@ use Rattle.std.proofs.Common.{◌≡◌, inl, inr, sym, subst, arith}
 use Rattle.call_claims.specs.Call.{call_of}
 use Rattle.call_claims.specs.Stream.{stream_of}
 use Rattle.call_claims.proofs.MetLemmas.{is_met}
-use Rattle.call_answers.specs.Answers.{told_of}
-use Rattle.call_answers.specs.Work.{execution_in, ran_of}
-use Rattle.call_answers.proofs.CallLemmas.{answered, call_stops, failed_put, fetches_counted}
-use Rattle.call_answers.proofs.CallLemmas.{puts_counted, status_caused, work_other}
-use Rattle.call_answers.proofs.CallLemmas.FailedPut.{in_work, in_telling}
+use Rattle.mean_call.specs.of_call_answers.Answers.{told_of}
+use Rattle.mean_call.specs.of_call_answers.Work.{execution_in, ran_of}
+use Rattle.mean_call.proofs.of_call_answers.CallLemmas.{answered, call_stops, failed_put, fetches_counted}
+use Rattle.mean_call.proofs.of_call_answers.CallLemmas.{puts_counted, status_caused, work_other}
+use Rattle.mean_call.proofs.of_call_answers.CallLemmas.FailedPut.{in_work, in_telling}
 use Rattle.call_words.specs.Reading.{asked_in}
-use Rattle.run_claims.specs.Cause.{Cause}
-use Rattle.run_claims.specs.Cause.Cause.{no_memory}
+use Rattle.gen_call.specs.of_run_claims.Cause.{Cause}
+use Rattle.gen_call.specs.of_run_claims.Cause.Cause.{no_memory}
 use Rattle.top_call.specs.Call.{IsRan}
 use Rattle.top_call.proofs.KnownLemmas.{run_known}
 use Rattle.top_call.proofs.RunLemmas.{caused, cut, made_for, printed}

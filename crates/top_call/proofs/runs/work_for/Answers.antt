@@ -1,5 +1,5 @@
 use Rattle.call_words.specs.Reading.{asked_in}
-use Rattle.grid_call.proofs.WorkLemmas.{work_back}
+use Rattle.gen_call.proofs.of_grid_call.WorkLemmas.{work_back}
 use Rattle.top_call.specs.Work.IsRunWork.{made}
 use Rattle.top_call.proofs.runs.work_for.Goals as goal
 

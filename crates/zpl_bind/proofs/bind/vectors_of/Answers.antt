@@ -1,6 +1,6 @@
 use Rattle.std.proofs.Common.{subst, map, [], ◌∷◌}
-use Rattle.zpl_binding.specs.Outcome.{failures}
-use Rattle.zpl_binding.specs.Vectors.{vector_of}
+use Rattle.zpl_parts.specs.of_zpl_binding.Outcome.{failures}
+use Rattle.zpl_parts.specs.of_zpl_binding.Vectors.{vector_of}
 use Rattle.zpl_parts.specs.View.{part_of}
 use Rattle.zpl_bind.specs.Fault.{IsAmong}
 use Rattle.zpl_bind.specs.Known.{known_in}

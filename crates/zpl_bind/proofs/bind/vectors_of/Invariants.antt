@@ -1,6 +1,6 @@
 use Rattle.std.proofs.Common.{◌≡◌, ◌++◌, drop, map}
-use Rattle.zpl_binding.specs.Outcome.{Gives}
-use Rattle.zpl_binding.specs.Vectors.{vector_of}
+use Rattle.zpl_parts.specs.of_zpl_binding.Outcome.{Gives}
+use Rattle.zpl_parts.specs.of_zpl_binding.Vectors.{vector_of}
 use Rattle.zpl_parts.specs.View.{part_of}
 use Rattle.zpl_bind.specs.Known.{known_in}
 use Rattle.zpl_bind.specs.Storages.{vectors_among}

@@ -2,10 +2,10 @@ use mir.Val.{to_z, of_z}
 use Rattle.std.proofs.Common.{w64, rules, ◌≡◌, ap, sym, ◌∙◌, subst, refl, Option, None, List, ℕ}
 use Rattle.std.specs.Option.{option_map}
 use Rattle.zpl_tree.specs.View.{define_of}
-use Rattle.zpl_binding.specs.Outcome as plain
-use Rattle.zpl_binding.specs.Outcome.{Outcome, Gives}
-use Rattle.zpl_binding.specs.Constants.{config_value, taken}
-use Rattle.zpl_binding.specs.Settings.{setting_of}
+use Rattle.zpl_parts.specs.of_zpl_binding.Outcome as plain
+use Rattle.zpl_parts.specs.of_zpl_binding.Outcome.{Outcome, Gives}
+use Rattle.zpl_parts.specs.of_zpl_binding.Constants.{config_value, taken}
+use Rattle.zpl_parts.specs.of_zpl_binding.Settings.{setting_of}
 use Rattle.zpl_bind.specs.Fault.{Computes}
 use Rattle.zpl_bind.specs.Known.{settings_in}
 use Rattle.zpl_bind.specs.Tables.{computed, listed}

@@ -1,7 +1,7 @@
 use Rattle.std.proofs.Common.{◌≡◌, ◌≤◌, take, map, length}
 use Rattle.zpl_tree.specs.View.{pre_of}
-use Rattle.zpl_binding.specs.Outcome.{Gives}
-use Rattle.zpl_binding.specs.Regions.{before}
+use Rattle.zpl_parts.specs.of_zpl_binding.Outcome.{Gives}
+use Rattle.zpl_parts.specs.of_zpl_binding.Regions.{before}
 use Rattle.zpl_bind.specs.Known.{IsBuilt, known_in}
 use Rattle.zpl_bind.proofs.regions.before.Given as goal
 

@@ -1,7 +1,7 @@
 use Rattle.std.proofs.Common.{◌≡◌, drop}
 use Rattle.zpl_tree.specs.View.{posts_of}
-use Rattle.zpl_binding.specs.Outcome.{Gives}
-use Rattle.zpl_binding.specs.Regions.{behind}
+use Rattle.zpl_parts.specs.of_zpl_binding.Outcome.{Gives}
+use Rattle.zpl_parts.specs.of_zpl_binding.Regions.{behind}
 use Rattle.zpl_bind.specs.Known.{IsBuilt, known_in}
 use Rattle.zpl_bind.proofs.regions.behind.Given as goal
 

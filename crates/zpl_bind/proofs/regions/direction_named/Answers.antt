@@ -1,8 +1,8 @@
 use Rattle.std.proofs.Common.{sym, ap, ◌∙◌, subst, refl, []}
 use Rattle.std.specs.Prelude.{unwrap_or}
-use Rattle.zpl_binding.specs.Bound.{IsVector}
-use Rattle.zpl_binding.specs.Outcome.{Gives}
-use Rattle.zpl_binding.specs.Vectors.{three_components}
+use Rattle.zpl_parts.specs.of_zpl_binding.Bound.{IsVector}
+use Rattle.zpl_parts.specs.of_zpl_binding.Outcome.{Gives}
+use Rattle.zpl_parts.specs.of_zpl_binding.Vectors.{three_components}
 use Rattle.zpl_bind.specs.Tables.{listed}
 use Rattle.zpl_bind.proofs.TableLemmas.{outcome-found}
 use Rattle.zpl_bind.proofs.RegionLemmas.{found-or-holds}

@@ -1,7 +1,7 @@
 use Rattle.std.proofs.Common.{sym, ap, ◌∙◌, subst, refl, arith}
 use Rattle.zpl_region.specs.Region.{IsWithinLimit}
-use Rattle.zpl_binding.specs.Outcome as plain
-use Rattle.zpl_binding.specs.Outcome.{Gives}
+use Rattle.zpl_parts.specs.of_zpl_binding.Outcome as plain
+use Rattle.zpl_parts.specs.of_zpl_binding.Outcome.{Gives}
 use Rattle.zpl_bind.proofs.RegionLemmas.{limited-within, limited-past, built-from, built-region, formed-none, formed-steps}
 use Rattle.zpl_bind.proofs.regions.formed.Goals as goal
 

@@ -1,7 +1,7 @@
 use Rattle.std.proofs.Common.{sym, ap, ◌∙◌, subst, refl}
 use Rattle.zpl_region.specs.Region.{IsWithinLimit}
-use Rattle.zpl_binding.specs.Outcome as plain
-use Rattle.zpl_binding.specs.Outcome.{Gives}
+use Rattle.zpl_parts.specs.of_zpl_binding.Outcome as plain
+use Rattle.zpl_parts.specs.of_zpl_binding.Outcome.{Gives}
 use Rattle.zpl_bind.proofs.RegionLemmas.{limited-within, limited-past, built-from}
 use Rattle.zpl_bind.proofs.regions.limited.Goals as goal
 

@@ -3,8 +3,8 @@ use mir.Val.{SFits}
 use Rattle.std.proofs.lemmas.Int.{ints, to_z-of_z}
 use Rattle.std.specs.Prelude.{unwrap_or, is_some}
 use Rattle.zpl_tree.specs.View.{name_of}
-use Rattle.zpl_binding.specs.Outcome.{Outcome, Gives, and_then}
-use Rattle.zpl_binding.specs.Regions.{no_region, region_named, index_of, is_region_name, limited, region_over}
+use Rattle.zpl_parts.specs.of_zpl_binding.Outcome.{Outcome, Gives, and_then}
+use Rattle.zpl_parts.specs.of_zpl_binding.Regions.{no_region, region_named, index_of, is_region_name, limited, region_over}
 use Rattle.zpl_region.specs.declared.regions.Region.{Region}
 use Rattle.zpl_bind.specs.Fault.{Computes}
 use Rattle.zpl_region.specs.Hull.{all_from}

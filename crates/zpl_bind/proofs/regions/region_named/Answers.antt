@@ -1,7 +1,7 @@
 use Rattle.std.proofs.Common.{sym, ap, ◌∙◌}
 use Rattle.std.specs.Prelude.{unwrap_or}
-use Rattle.zpl_binding.specs.Outcome.{Gives}
-use Rattle.zpl_binding.specs.Regions.{no_region}
+use Rattle.zpl_parts.specs.of_zpl_binding.Outcome.{Gives}
+use Rattle.zpl_parts.specs.of_zpl_binding.Regions.{no_region}
 use Rattle.zpl_bind.specs.Known.{IsBuilt}
 use Rattle.zpl_bind.specs.Tables.{listed}
 use Rattle.zpl_bind.proofs.TableLemmas.{outcome-found}

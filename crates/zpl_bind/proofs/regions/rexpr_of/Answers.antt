@@ -2,8 +2,8 @@ use Rattle.std.proofs.Common.{◌≡◌, ap, ap₂, sym, ◌∙◌, [], map, sub
 use Rattle.zpl_region.specs.declared.regions.Region.{Region}
 use Rattle.zpl_tree.specs.Syntax as plain
 use Rattle.zpl_tree.specs.View.{base_of, name_of, posts_of, pre_of}
-use Rattle.zpl_binding.specs.Outcome.{Outcome, Gives}
-use Rattle.zpl_binding.specs.Regions.{before, behind, inner_of}
+use Rattle.zpl_parts.specs.of_zpl_binding.Outcome.{Outcome, Gives}
+use Rattle.zpl_parts.specs.of_zpl_binding.Regions.{before, behind, inner_of}
 use Rattle.zpl_bind.specs.Fault.{Computes}
 use Rattle.zpl_bind.specs.Known.{known_in}
 use Rattle.zpl_bind.proofs.RegionLemmas.{named-form, plain-name, before-passes, passed}

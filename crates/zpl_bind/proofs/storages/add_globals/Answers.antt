@@ -1,7 +1,7 @@
 use Rattle.std.proofs.Common.{subst}
 use Rattle.zpl_tree.specs.View.{decl_of}
-use Rattle.zpl_binding.specs.Outcome.{failures}
-use Rattle.zpl_binding.specs.Storages.{shaped_in}
+use Rattle.zpl_parts.specs.of_zpl_binding.Outcome.{failures}
+use Rattle.zpl_parts.specs.of_zpl_binding.Storages.{shaped_in}
 use Rattle.zpl_bind.specs.Fault.{IsAmong}
 use Rattle.zpl_bind.specs.Known.{known_in}
 use Rattle.zpl_bind.specs.Storages.{borders_in, storages_over}

@@ -1,8 +1,8 @@
 use Rattle.std.proofs.Common.{◌≡◌, ◌++◌, drop, map}
 use Rattle.std.specs.List.{flat_map}
 use Rattle.zpl_tree.specs.View.{decl_of}
-use Rattle.zpl_binding.specs.Outcome.{Gives}
-use Rattle.zpl_binding.specs.Storages.{shaped_in}
+use Rattle.zpl_parts.specs.of_zpl_binding.Outcome.{Gives}
+use Rattle.zpl_parts.specs.of_zpl_binding.Storages.{shaped_in}
 use Rattle.zpl_bind.specs.Known.{known_in}
 use Rattle.zpl_bind.specs.Storages.{borders_in, storages_over}
 use Rattle.zpl_bind.proofs.storages.add_globals.Given as goal

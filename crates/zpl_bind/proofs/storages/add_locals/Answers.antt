@@ -1,6 +1,6 @@
 use Rattle.std.proofs.Common.{subst}
 use Rattle.zpl_tree.specs.View.{decl_of}
-use Rattle.zpl_binding.specs.Outcome.{failures}
+use Rattle.zpl_parts.specs.of_zpl_binding.Outcome.{failures}
 use Rattle.zpl_bind.specs.Fault.{IsAmong}
 use Rattle.zpl_bind.specs.Known.{known_in}
 use Rattle.zpl_bind.specs.Storages.{borders_in, storages_over, shaped_locals}

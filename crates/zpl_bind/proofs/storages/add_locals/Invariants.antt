@@ -1,7 +1,7 @@
 use Rattle.std.proofs.Common.{◌≡◌, ◌++◌, drop, map}
 use Rattle.std.specs.List.{flat_map}
 use Rattle.zpl_tree.specs.View.{decl_of}
-use Rattle.zpl_binding.specs.Outcome.{Gives}
+use Rattle.zpl_parts.specs.of_zpl_binding.Outcome.{Gives}
 use Rattle.zpl_bind.specs.Storages.{shaped_locals}
 use Rattle.zpl_bind.specs.Known.{known_in}
 use Rattle.zpl_bind.specs.Storages.{borders_in, storages_over}

@@ -1,5 +1,5 @@
 use Rattle.zpl_tree.specs.View.{var_of}
-use Rattle.zpl_binding.specs.Storages.{shaped_by}
+use Rattle.zpl_parts.specs.of_zpl_binding.Storages.{shaped_by}
 use Rattle.zpl_bind.specs.Few.{IsFewBracket}
 use Rattle.zpl_bind.specs.Known.{known_in}
 use Rattle.zpl_bind.specs.Storages.{borders_in}

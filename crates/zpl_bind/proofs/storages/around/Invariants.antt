@@ -1,7 +1,7 @@
 use Rattle.std.proofs.Common.{◌≡◌, drop, filter}
 use Rattle.std.specs.Str.{bytes_eq}
 use Rattle.zpl_region.specs.Hull.{hull}
-use Rattle.zpl_binding.specs.Storages.{widened}
+use Rattle.zpl_parts.specs.of_zpl_binding.Storages.{widened}
 use Rattle.zpl_bind.specs.Known.{known_in}
 use Rattle.zpl_bind.specs.Storages.{IsAround, borders_in}
 use Rattle.zpl_bind.proofs.storages.around.Given as goal

@@ -5,7 +5,7 @@ use Rattle.zpl_region.specs.declared.dims.Dim.{Dim}
 use Rattle.zpl_region.specs.declared.dims.Dim.TheVariants.{Range}
 use Rattle.zpl_region.specs.Dim.{dim_outside_of}
 use Rattle.zpl_region.proofs.RegionLemmas.{formed_is}
-use Rattle.zpl_binding.specs.Vectors.{is_component}
+use Rattle.zpl_parts.specs.of_zpl_binding.Vectors.{is_component}
 use Rattle.zpl_bind.proofs.StorageLemmas.{components-fit, each-fit}
 use Rattle.zpl_bind.proofs.storages.outside_of.Goals as goal
 

@@ -1,5 +1,5 @@
 use Rattle.zpl_tree.specs.View.{inner_of}
-use Rattle.zpl_binding.specs.Storages.{shape_borders}
+use Rattle.zpl_parts.specs.of_zpl_binding.Storages.{shape_borders}
 use Rattle.std.proofs.Common.{refl}
 use Rattle.zpl_bind.specs.Known.{known_in}
 use Rattle.zpl_bind.specs.Storages.{borders_in}

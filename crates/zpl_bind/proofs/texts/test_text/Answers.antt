@@ -1,9 +1,9 @@
 use Rattle.std.proofs.Common.{◌≡◌, [], ◌∷◌, sym, ap, ◌∙◌, subst, Contains}
 use Rattle.std.specs.Option.{option_map}
 use Rattle.zpl_tree.specs.View.{base_type_of}
-use Rattle.zpl_binding.specs.Outcome.{UnknownConfig, ConfigType}
-use Rattle.zpl_binding.specs.Settings.{value_fault}
-use Rattle.zpl_binding.proofs.ListLemmas.{head-member}
+use Rattle.zpl_parts.specs.of_zpl_binding.Outcome.{UnknownConfig, ConfigType}
+use Rattle.zpl_parts.specs.of_zpl_binding.Settings.{value_fault}
+use Rattle.zpl_parts.proofs.of_zpl_binding.ListLemmas.{head-member}
 use Rattle.zpl_bind.specs.Tables.{found, listed}
 use Rattle.zpl_bind.specs.Texts.{bases_of, type_fault}
 use Rattle.zpl_bind.proofs.TextLemmas.{found-base}

@@ -1,8 +1,8 @@
 use Rattle.std.proofs.Common.{◌≡◌, ℕ, List, [], ◌∷◌, ◌++◌, map, take, sym, ap, ap₂, ◌∙◌, subst, true, false, Contains, Vec, Global}
 use Rattle.std.specs.Prelude.{is_some}
 use Rattle.std.proofs.lemmas.List.{map-append}
-use Rattle.zpl_binding.specs.Outcome.{TwiceSet}
-use Rattle.zpl_binding.specs.Settings.{is_set}
+use Rattle.zpl_parts.specs.of_zpl_binding.Outcome.{TwiceSet}
+use Rattle.zpl_parts.specs.of_zpl_binding.Settings.{is_set}
 use Rattle.zpl_bind.specs.Fault.{IsAmong}
 use Rattle.zpl_bind.specs.Lists.{settings_of}
 use Rattle.zpl_bind.specs.Tables.{listed}

@@ -3,7 +3,7 @@ use Rattle.zpl_bind.specs.Known.{settings_in}
 use Rattle.zpl_bind.specs.Lists.{settings_of}
 use Rattle.zpl_bind.specs.Tables.{IsTable, listed}
 use Rattle.zpl_bind.specs.Texts.{bases_of, text_faults}
-use Rattle.zpl_binding.specs.Settings.{twice_set}
+use Rattle.zpl_parts.specs.of_zpl_binding.Settings.{twice_set}
 use Rattle.zpl_bind.proofs.texts.texts_of.Given as goal
 
 abbrev pub invariant-loop-pair : goal.invariant-loop-pair

@@ -3,8 +3,8 @@ use mir.Val.{SFits}
 use Rattle.std.proofs.lemmas.Int.{ints, to_z-of_z}
 use Rattle.std.specs.Prelude.{unwrap_or}
 use Rattle.zpl_tree.specs.View.{form_of}
-use Rattle.zpl_binding.specs.Constants.{value_of}
-use Rattle.zpl_binding.specs.Outcome.{Gives}
+use Rattle.zpl_parts.specs.of_zpl_binding.Constants.{value_of}
+use Rattle.zpl_parts.specs.of_zpl_binding.Outcome.{Gives}
 use Rattle.zpl_bind.specs.Tables.{computed, listed}
 use Rattle.zpl_bind.proofs.TableLemmas.{outcome-found}
 use Rattle.zpl_bind.proofs.values.+value_of.Goals as goal

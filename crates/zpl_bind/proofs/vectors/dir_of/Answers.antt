@@ -3,8 +3,8 @@ use Rattle.std.specs.Prelude.{unwrap_or}
 use Rattle.zpl_tree.specs.Syntax as plain
 use Rattle.zpl_tree.specs.View.{dir_of as seen_dir, exprs_of}
 use Rattle.zpl_tree.proofs.Views.{dir_of-Vector}
-use Rattle.zpl_binding.specs.Outcome.{Gives}
-use Rattle.zpl_binding.specs.Vectors.{three_components, dir_of}
+use Rattle.zpl_parts.specs.of_zpl_binding.Outcome.{Gives}
+use Rattle.zpl_parts.specs.of_zpl_binding.Vectors.{three_components, dir_of}
 use Rattle.zpl_bind.specs.Tables.{listed, computed}
 use Rattle.zpl_bind.proofs.TableLemmas.{outcome-found}
 use Rattle.zpl_bind.proofs.vectors.dir_of.Goals as goal

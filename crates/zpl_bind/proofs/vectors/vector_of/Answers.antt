@@ -1,6 +1,6 @@
 use mir.Val.{to_z, of_z}
 use Rattle.std.proofs.Common.{◌≡◌, ◌&&◌, set, w64, rules, sym, ap, ◌∙◌}
-use Rattle.zpl_binding.specs.Vectors.{is_component}
+use Rattle.zpl_parts.specs.of_zpl_binding.Vectors.{is_component}
 use Rattle.zpl_bind.specs.Tables.{listed, computed}
 use Rattle.zpl_bind.proofs.VectorLemmas.{more-so-far}
 use Rattle.zpl_bind.proofs.vectors.vector_of.Goals as goal

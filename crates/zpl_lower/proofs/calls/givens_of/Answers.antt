@@ -1,6 +1,6 @@
 use Rattle.std.proofs.Common.{map, arith}
 use Rattle.lower_frames.specs.Frames.{given_of}
-use Rattle.lower_places.specs.View.{where_of}
+use Rattle.lower_frames.specs.of_lower_places.View.{where_of}
 use Rattle.zpl_lower.proofs.GivenLemmas.{givens_end}
 use Rattle.zpl_lower.proofs.calls.givens_of.Goals as goal
 

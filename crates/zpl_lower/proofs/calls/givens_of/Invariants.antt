@@ -3,7 +3,7 @@ use Rattle.zpl_tree.specs.View.{exprs_of}
 use Rattle.name_kinds.specs.Seen.{formal_of}
 use Rattle.zpl_lowering.specs.Statement.{given_to}
 use Rattle.lower_frames.specs.Frames.{IsGiven, given_of}
-use Rattle.lower_places.specs.View.{where_of}
+use Rattle.lower_frames.specs.of_lower_places.View.{where_of}
 use Rattle.zpl_lower.proofs.calls.givens_of.Given as goal
 
 abbrev pub invariant-loop-at : goal.invariant-loop-at

@@ -7,8 +7,8 @@ use Rattle.zpl_lowering.specs.Lowered.{phased}
 use Rattle.zpl_lowering.specs.Slate.{Placed}
 use Rattle.zpl_lowering.specs.Statement.{value_exprs}
 use Rattle.lower_draft.specs.Drafted.{grown}
-use Rattle.lower_operators.specs.View.{all_placed}
-use Rattle.lower_places.specs.View.{where_of}
+use Rattle.lower_statements.specs.of_lower_operators.View.{all_placed}
+use Rattle.lower_frames.specs.of_lower_places.View.{where_of}
 use Rattle.lower_statements.proofs.RowLemmas.{values_grown}
 use Rattle.zpl_lower.proofs.calls.push_actuals.Goals as goal
 

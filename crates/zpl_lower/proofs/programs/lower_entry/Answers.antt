@@ -2,7 +2,7 @@ use Rattle.std.proofs.Common.{ap, refl, sym, ◌∙◌, [], arith}
 use Rattle.zpl_lowering.specs.Program.{entry_code}
 use Rattle.array_places.specs.View.{setup_of}
 use Rattle.lower_draft.specs.Drafted.{grown}
-use Rattle.lower_places.specs.View.{currents_of}
+use Rattle.lower_frames.specs.of_lower_places.View.{currents_of}
 use Rattle.zpl_lower.specs.Programs.{entry_at}
 use Rattle.zpl_lower.proofs.CallLemmas.{none_named, reads_long, routine_within}
 use Rattle.zpl_lower.proofs.ProgramLemmas.{called, entry_is, entry_nothing, entry_steps}

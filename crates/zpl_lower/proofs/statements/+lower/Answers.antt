@@ -15,8 +15,8 @@ use Rattle.zpl_lowering.specs.Where.{line_of, reach_of}
 use Rattle.array_places.specs.View.{setup_of}
 use Rattle.lower_draft.specs.Drafted.{grown}
 use Rattle.lower_frames.specs.Frames.{entered_code, framed_of, given_of}
-use Rattle.lower_places.specs.View.{currents_of}
-use Rattle.lower_points.specs.Fit.{IsFitStmt}
+use Rattle.lower_frames.specs.of_lower_places.View.{currents_of}
+use Rattle.lower_statements.specs.of_lower_points.Fit.{IsFitStmt}
 use Rattle.lower_statements.specs.Counters.{counter_of}
 use Rattle.lower_statements.specs.Prefixes.{in_place}
 use Rattle.lower_statements.specs.Tests.{test_at}

@@ -6,7 +6,7 @@ use Rattle.zpl_tree.specs.View.{stmts_of}
 use Rattle.zpl_tree.specs.declared.statements.Stmt.{size-Stmt}
 use Rattle.zpl_lowering.specs.Statement.{lowered_all}
 use Rattle.lower_draft.specs.Drafted.{grown}
-use Rattle.lower_points.specs.Fit.{AreFitStmts}
+use Rattle.lower_statements.specs.of_lower_points.Fit.{AreFitStmts}
 use Rattle.zpl_lower.specs.Runs.{context_of}
 use Rattle.zpl_lower.proofs.DepthLemmas.{arms_room, deepest, room_for, width}
 use Rattle.zpl_lower.proofs.statements.+lower.Given as goal

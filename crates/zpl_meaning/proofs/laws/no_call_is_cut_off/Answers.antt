@@ -1,4 +1,4 @@
-use Rattle.zpl_names.specs.Accepted.{Recursion, DeepCalls}
+use Rattle.zpl_binding.specs.of_zpl_names.Accepted.{Recursion, DeepCalls}
 use Rattle.zpl_meaning.proofs.DepthLemmas.{depth_is_enough}
 use Rattle.zpl_meaning.proofs.laws.no_call_is_cut_off.Goals as goal
 

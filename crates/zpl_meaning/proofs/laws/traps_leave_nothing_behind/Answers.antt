@@ -1,5 +1,5 @@
 use Rattle.std.proofs.Common.{◌+◌, ◌∷◌, ap}
-use Rattle.zpl_names.specs.Counts.{expr_nodes}
+use Rattle.zpl_binding.specs.of_zpl_names.Counts.{expr_nodes}
 use Rattle.zpl_meaning.specs.Outcome.{counting}
 use Rattle.zpl_meaning.specs.Statement.{nodes_under}
 use Rattle.zpl_meaning.proofs.TrapLemmas.{single_traps, trapped}

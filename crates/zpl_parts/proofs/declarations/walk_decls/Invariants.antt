@@ -1,6 +1,6 @@
 use Rattle.std.proofs.Common.{◌≡◌, ◌++◌, drop, map}
 use Rattle.std.specs.List.{flat_map}
-use Rattle.zpl_tree.specs.View.{decl_of}
+use Rattle.zpl_binding.specs.of_zpl_tree.View.{decl_of}
 use Rattle.zpl_parts.specs.View.{seen}
 use Rattle.zpl_parts.specs.Walk.{decl_parts}
 use Rattle.zpl_parts.proofs.declarations.walk_decls.Given as goal

@@ -1,6 +1,6 @@
 use Rattle.std.proofs.Common.{◌≡◌, ◌++◌, drop, map}
 use Rattle.std.specs.List.{flat_map}
-use Rattle.zpl_tree.specs.View.{define_of}
+use Rattle.zpl_binding.specs.of_zpl_tree.View.{define_of}
 use Rattle.zpl_parts.specs.View.{seen}
 use Rattle.zpl_parts.specs.Walk.{define_parts}
 use Rattle.zpl_parts.proofs.declarations.walk_defines.Given as goal

@@ -1,9 +1,9 @@
 use Rattle.std.proofs.Common.{arith, ap, ◌∙◌, ◌≡◌, map}
 use Rattle.std.proofs.lemmas.Grind.{common_steps}
-use Rattle.zpl_tree.specs.View.{base_of, pre_of, posts_of, dir_of, dims_of, exprs_of, expr_of, form_of, inner_of, name_of}
-use Rattle.zpl_tree.specs.Syntax as plain
-use Rattle.zpl_tree.proofs.Views.{dir_of-Vector, form_of-Call, form_of-Remap, inner_of-Dims, rexpr_of-parts}
-use Rattle.zpl_tree.specs.declared.regions.Rexpr.{out-Rexpr}
+use Rattle.zpl_binding.specs.of_zpl_tree.View.{base_of, pre_of, posts_of, dir_of, dims_of, exprs_of, expr_of, form_of, inner_of, name_of}
+use Rattle.zpl_binding.specs.of_zpl_tree.Syntax as plain
+use Rattle.zpl_binding.proofs.of_zpl_tree.Views.{dir_of-Vector, form_of-Call, form_of-Remap, inner_of-Dims, rexpr_of-parts}
+use Rattle.zpl_binding.specs.of_zpl_tree.declared.regions.Rexpr.{out-Rexpr}
 use Rattle.zpl_parts.proofs.expressions.+walk_expression.Goals as goal
 
 pub walk_dir-returns-in_ok-put_vector-in-Vector : goal.walk_dir-returns-in_ok-put_vector-in-Vector

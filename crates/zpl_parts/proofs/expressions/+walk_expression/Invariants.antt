@@ -1,7 +1,7 @@
 -- How deep what is walked is, and then how far a function stands above those that it passes the
 -- same.
 use Rattle.std.proofs.Common.{◌≡◌, ◌++◌, ◌+◌, ◌*◌, drop}
-use Rattle.zpl_tree.specs.View.{exprs_of, dims_of, posts_of}
+use Rattle.zpl_binding.specs.of_zpl_tree.View.{exprs_of, dims_of, posts_of}
 use Rattle.zpl_parts.specs.View.{seen}
 use Rattle.zpl_parts.specs.Walk.{exprs_parts, dims_parts, posts_parts}
 use Rattle.zpl_parts.proofs.expressions.+walk_expression.Given as goal

@@ -1,10 +1,10 @@
 use Rattle.std.proofs.Common.{arith, ap, ◌∙◌, ◌≡◌}
 use Rattle.std.proofs.lemmas.Grind.{common_steps}
-use Rattle.zpl_tree.specs.View.{arm_of, arms_of, expr_of, head_of, statement_of, stmts_of}
-use Rattle.zpl_tree.specs.Syntax as plain
-use Rattle.zpl_tree.specs.declared.statements.Arm.{out-Arm}
-use Rattle.zpl_tree.specs.declared.statements.Form.TheVariants.{If}
-use Rattle.zpl_tree.proofs.Views.{arm_of-parts, statement_of-Block, statement_of-For, statement_of-If, statement_of-If_else, statement_of-Repeat, statement_of-While}
+use Rattle.zpl_binding.specs.of_zpl_tree.View.{arm_of, arms_of, expr_of, head_of, statement_of, stmts_of}
+use Rattle.zpl_binding.specs.of_zpl_tree.Syntax as plain
+use Rattle.zpl_binding.specs.of_zpl_tree.declared.statements.Arm.{out-Arm}
+use Rattle.zpl_binding.specs.of_zpl_tree.declared.statements.Form.TheVariants.{If}
+use Rattle.zpl_binding.proofs.of_zpl_tree.Views.{arm_of-parts, statement_of-Block, statement_of-For, statement_of-If, statement_of-If_else, statement_of-Repeat, statement_of-While}
 use Rattle.zpl_parts.proofs.statements.+walk_statement.Goals as goal
 
 pub walk_arm-returns : goal.walk_arm-returns

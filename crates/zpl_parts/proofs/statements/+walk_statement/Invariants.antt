@@ -1,5 +1,5 @@
 use Rattle.std.proofs.Common.{◌≡◌, ◌++◌, drop}
-use Rattle.zpl_tree.specs.View.{stmts_of, arms_of}
+use Rattle.zpl_binding.specs.of_zpl_tree.View.{stmts_of, arms_of}
 use Rattle.zpl_parts.specs.View.{seen}
 use Rattle.zpl_parts.specs.Walk.{stmts_parts, arms_parts}
 use Rattle.zpl_parts.proofs.statements.+walk_statement.Given as goal

@@ -1,6 +1,6 @@
 use Rattle.std.proofs.Common.{◌≡◌, ◌++◌, drop, map}
 use Rattle.std.specs.List.{flat_map}
-use Rattle.zpl_tree.specs.View.{prefix_of}
+use Rattle.zpl_binding.specs.of_zpl_tree.View.{prefix_of}
 use Rattle.zpl_parts.specs.View.{seen}
 use Rattle.zpl_parts.specs.Walk.{prefix_parts}
 use Rattle.zpl_parts.proofs.statements.walk_prefixes.Given as goal

@@ -1,8 +1,8 @@
 use Rattle.std.proofs.Common.{◌≡◌, ◌<◌, unsigned_abs, to_z, of_z, w64, sym, ◌∙◌, ap, subst, arith, rules}
 use Rattle.std.proofs.lemmas.Int.{ints}
-use Rattle.zpl_region.specs.declared.dims.Dim.TheVariants.{Range}
-use Rattle.zpl_region.specs.Dim.{IsDim, coordinates}
-use Rattle.zpl_region.specs.Ends.{coordinate_count, first_of}
+use Rattle.region_places.specs.of_zpl_region.declared.dims.Dim.TheVariants.{Range}
+use Rattle.region_places.specs.of_zpl_region.Dim.{IsDim, coordinates}
+use Rattle.region_places.specs.of_zpl_region.Ends.{coordinate_count, first_of}
 use Rattle.array_lines.proofs.AxisLemmas.{along_range, axis_range, first_none, first_some}
 use Rattle.array_lines.proofs.axes.Axis.of.Goals as goal
 use Rattle.array_lines.proofs.axes.Axis.of.Goals.{After-unsigned_abs, in-Some, in-None}

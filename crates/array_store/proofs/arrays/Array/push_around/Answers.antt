@@ -1,7 +1,7 @@
 use Rattle.std.proofs.Common.{◌≡◌, ◌++◌, subst}
 use Rattle.std.specs.Result.{OnOk}
-use Rattle.zpl_region.specs.declared.dims.Dim.TheVariants.{Flood}
-use Rattle.zpl_arrays.specs.Around.{around_source}
+use Rattle.zpl_meaning.specs.of_zpl_region.declared.dims.Dim.TheVariants.{Flood}
+use Rattle.zpl_meaning.specs.of_zpl_arrays.Around.{around_source}
 use Rattle.array_store.proofs.ReadLemmas.{read_where}
 use Rattle.array_store.proofs.arrays.Array.push_around.Goals as goal
 

@@ -1,8 +1,8 @@
 use Rattle.std.proofs.Common.{◌≡◌, ◌++◌, pos, ap, subst}
 use Rattle.std.specs.Result.{OnOk}
-use Rattle.zpl_region.specs.declared.dims.Dim.TheVariants.{Flood}
-use Rattle.zpl_arrays.specs.Array.{element}
-use Rattle.array_lines.specs.Read.{read_at}
+use Rattle.zpl_meaning.specs.of_zpl_region.declared.dims.Dim.TheVariants.{Flood}
+use Rattle.zpl_meaning.specs.of_zpl_arrays.Array.{element}
+use Rattle.array_writes.specs.of_array_lines.Read.{read_at}
 use Rattle.array_writes.specs.Write.{still}
 use Rattle.array_writes.proofs.PlaceLemmas.{same_on_members, stays}
 use Rattle.array_store.proofs.arrays.Array.push_here.Goals as goal

@@ -1,7 +1,7 @@
 use Rattle.std.proofs.Common.{◌≡◌, ◌++◌, subst}
 use Rattle.std.specs.Result.{OnOk}
-use Rattle.zpl_region.specs.declared.dims.Dim.TheVariants.{Flood}
-use Rattle.zpl_region.specs.Region.{tuple_moved}
+use Rattle.zpl_meaning.specs.of_zpl_region.declared.dims.Dim.TheVariants.{Flood}
+use Rattle.zpl_meaning.specs.of_zpl_region.Region.{tuple_moved}
 use Rattle.array_store.proofs.ReadLemmas.{read_where}
 use Rattle.array_store.proofs.arrays.Array.push_shifted.Goals as goal
 

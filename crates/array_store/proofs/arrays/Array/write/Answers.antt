@@ -1,8 +1,8 @@
 use Rattle.std.proofs.Common.{ℤ, List, map, ◌∙◌, ap, arith}
 use Rattle.std.proofs.lemmas.List.{with_items_is}
-use Rattle.zpl_region.specs.Region.{members}
-use Rattle.zpl_region.proofs.HullLemmas.{has_steps}
-use Rattle.zpl_arrays.specs.Array.{Array, IsArray}
+use Rattle.zpl_meaning.specs.of_zpl_region.Region.{members}
+use Rattle.zpl_meaning.proofs.of_zpl_region.HullLemmas.{has_steps}
+use Rattle.zpl_meaning.specs.of_zpl_arrays.Array.{Array, IsArray}
 use Rattle.zpl_meaning.specs.Statement.{written}
 use Rattle.array_writes.specs.declared.puts.Change.TheVariants.{Set}
 use Rattle.array_writes.specs.Write.{place_at, put_each}

@@ -1,9 +1,9 @@
 use Rattle.std.proofs.Common.{◌≡◌, length, replicate, ℤ, List, pos, ◌∙◌, ap, arith}
 use Rattle.std.proofs.lemmas.List.{length-replicate}
-use Rattle.zpl_region.specs.Region.{members}
-use Rattle.zpl_region.proofs.EndLemmas.{length-tuple_count}
-use Rattle.zpl_region.proofs.HullLemmas.{has_steps}
-use Rattle.zpl_arrays.specs.Array.{Array}
+use Rattle.zpl_meaning.specs.of_zpl_region.Region.{members}
+use Rattle.zpl_meaning.proofs.of_zpl_region.EndLemmas.{length-tuple_count}
+use Rattle.zpl_meaning.proofs.of_zpl_region.HullLemmas.{has_steps}
+use Rattle.zpl_meaning.specs.of_zpl_arrays.Array.{Array}
 use Rattle.array_store.proofs.ReadLemmas.{zeros}
 use Rattle.array_store.proofs.arrays.Array.zero.Goals as goal
 use Rattle.array_store.proofs.arrays.Array.zero.Goals.{After-loop}

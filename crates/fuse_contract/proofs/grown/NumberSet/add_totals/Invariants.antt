@@ -1,6 +1,6 @@
 use Rattle.std.proofs.Common.{◌≡◌, fold, take}
 use Rattle.std.specs.Prelude.{flat_map}
-use Rattle.code_parts.specs.Uses.{accumulated_by}
+use Rattle.temp_norm.specs.of_code_parts.Uses.{accumulated_by}
 use Rattle.fuse_contract.specs.Joining.{with_number}
 use Rattle.fuse_contract.proofs.grown.NumberSet.add_totals.Given as goal
 

@@ -1,5 +1,5 @@
 use Rattle.std.proofs.Common.{◌≡◌, false, take}
-use Rattle.code_parts.specs.Uses.{share}
+use Rattle.temp_norm.specs.of_code_parts.Uses.{share}
 use Rattle.fuse_contract.proofs.grown.NumberSet.shares.Given as goal
 
 abbrev pub invariant-loop-i : goal.invariant-loop-i

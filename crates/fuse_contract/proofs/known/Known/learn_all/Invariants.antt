@@ -1,5 +1,5 @@
 use Rattle.std.proofs.Common.{List, ◌++◌, take}
-use Rattle.node_form.specs.declared.arrays.Item.{Item}
+use Rattle.temp_norm.specs.of_node_form.declared.arrays.Item.{Item}
 use Rattle.fuse_contract.specs.Known.{IsKnown}
 use Rattle.fuse_contract.proofs.known.Known.learn_all.Given as goal
 

@@ -1,5 +1,5 @@
 use Rattle.std.proofs.Common.{take}
-use Rattle.code_parts.specs.Uses.{arrays_of_items}
+use Rattle.plan_form.specs.of_code_parts.Uses.{arrays_of_items}
 use Rattle.last_writes.specs.Last.{AreNoted}
 use Rattle.last_writes.proofs.numbers.Noted.note_items.Given as goal
 

@@ -1,6 +1,6 @@
 use Rattle.std.proofs.Common.{take}
 use Rattle.std.specs.Prelude.{flat_map}
-use Rattle.code_parts.specs.Uses.{put_by}
+use Rattle.plan_form.specs.of_code_parts.Uses.{put_by}
 use Rattle.last_writes.specs.Last.{AreNoted}
 use Rattle.last_writes.proofs.numbers.Noted.note_puts.Given as goal
 

@@ -1,9 +1,9 @@
 use Rattle.std.proofs.Common.{rules, ◌≡◌, ◌∷◌, [], ◌++◌, List, length, map, sym, ap, ◌∙◌, arith}
 use Rattle.std.specs.Vec.Iter.{into_iter_items}
-use Rattle.flat_form.specs.Row.{member_coded, member_words}
+use Rattle.zpl_lowering.specs.of_flat_form.Row.{member_coded, member_words}
 use Rattle.lower_draft.specs.Inline.{member_of}
 use Rattle.lower_draft.specs.declared.rows.FlatMember.{FlatMember}
-use Rattle.node_form.specs.declared.members.Member.{Member}
+use Rattle.zpl_lowering.specs.of_node_form.declared.members.Member.{Member}
 use Rattle.lower_draft.proofs.PushLemmas.{coded_behind, end_coded, end_with, next_coded, next_with}
 use Rattle.lower_draft.proofs.PushLemmas.{nothing_left, with_all}
 use Rattle.lower_draft.proofs.draft.Draft.add_members.Goals as goal

@@ -1,6 +1,6 @@
 use Rattle.std.proofs.Common.{◌≡◌, [], length, map}
 use Rattle.std.specs.Vec.Iter.{into_iter_items, into_iter_len}
-use Rattle.flat_form.specs.Row.{member_coded, member_words}
+use Rattle.zpl_lowering.specs.of_flat_form.Row.{member_coded, member_words}
 use Rattle.lower_draft.specs.Inline.{member_of}
 use Rattle.lower_draft.proofs.PushLemmas.{coded_behind, with_all}
 use Rattle.lower_draft.proofs.draft.Draft.add_members.Given as goal

@@ -1,6 +1,6 @@
 use Rattle.std.proofs.Common.{◌≡◌, [], length, map}
 use Rattle.std.specs.Vec.Iter.{into_iter_items, into_iter_len}
-use Rattle.flat_form.specs.Row.{part_coded, part_words}
+use Rattle.zpl_lowering.specs.of_flat_form.Row.{part_coded, part_words}
 use Rattle.lower_draft.specs.Inline.{part_of}
 use Rattle.lower_draft.proofs.PushLemmas.{coded_behind, with_all}
 use Rattle.lower_draft.proofs.draft.Draft.add_parts.Given as goal

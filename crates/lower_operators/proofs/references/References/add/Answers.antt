@@ -1,7 +1,7 @@
 use Rattle.std.proofs.Common.{◌≡◌, Bool, true, false, ℤ, List, [], ◌∷◌, refl, ap, ◌∙◌, map, ◌&&◌}
 use Rattle.std.specs.Ordering.{int_eq}
 use Rattle.std.proofs.Math.Dec.{eqb}
-use Rattle.zpl_lowering.specs.Reference.{is_same, is_same_vector}
+use Rattle.lower_regions.specs.of_zpl_lowering.Reference.{is_same, is_same_vector}
 use Rattle.lower_operators.specs.declared.references.Reference.{Reference}
 use Rattle.lower_operators.specs.contracts.references.ReferencePartialEq.TheImpl.{eq-value as reference_eq}
 use Rattle.lower_operators.specs.Once.{reference_of, with_reference}

@@ -1,7 +1,7 @@
 use Rattle.std.proofs.Common.{◌≡◌, drop, map}
-use Rattle.zpl_lowering.specs.Lowered.{rows_alone}
-use Rattle.zpl_lowering.specs.Reference.{need_of}
-use Rattle.lower_draft.specs.Drafted.{grown}
+use Rattle.lower_regions.specs.of_zpl_lowering.Lowered.{rows_alone}
+use Rattle.lower_regions.specs.of_zpl_lowering.Reference.{need_of}
+use Rattle.lower_regions.specs.of_lower_draft.Drafted.{grown}
 use Rattle.lower_operators.specs.Once.{reference_of}
 use Rattle.lower_operators.proofs.references.References.push_needs.Given as goal
 

@@ -1,5 +1,5 @@
 use Rattle.std.proofs.Common.{sym, ◌∙◌, ap}
-use Rattle.zpl_arrays.specs.Array.{Array}
+use Rattle.grid_meaning.specs.of_zpl_arrays.Array.{Array}
 use Rattle.node_local.specs.Reading.{is_flat}
 use Rattle.node_local.proofs.StoreLemmas.{boxed_flat, not_boxed}
 use Rattle.node_local.proofs.stores.FlatStore.boxed_value.Goals as goal

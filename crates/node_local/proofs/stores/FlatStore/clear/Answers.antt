@@ -1,7 +1,7 @@
 use Rattle.std.proofs.Common.{◌≡◌, length, replicate, pos, ap, sym, ◌∙◌, rules}
 use Rattle.std.proofs.lemmas.List.{with_items_is}
-use Rattle.zpl_arrays.specs.Array.{Array}
-use Rattle.zpl_region.proofs.EndLemmas.{length-tuple_count}
+use Rattle.grid_meaning.specs.of_zpl_arrays.Array.{Array}
+use Rattle.grid_meaning.proofs.of_zpl_region.EndLemmas.{length-tuple_count}
 use Rattle.grid_meaning.specs.Room.{zeros_at}
 use Rattle.node_local.proofs.StoreLemmas.{boxed_steps, zeros_of}
 use Rattle.node_local.proofs.stores.FlatStore.clear.Goals as goal

@@ -1,6 +1,6 @@
 use Rattle.std.proofs.Common.{◌≡◌, pos, arith}
-use Rattle.zpl_region.specs.declared.dims.Dim.{Dim}
-use Rattle.zpl_region.specs.declared.dims.Dim.TheVariants.{Range}
+use Rattle.grid_meaning.specs.of_zpl_region.declared.dims.Dim.{Dim}
+use Rattle.grid_meaning.specs.of_zpl_region.declared.dims.Dim.TheVariants.{Range}
 use Rattle.node_local.proofs.StoreLemmas.{counts_of}
 use Rattle.node_local.proofs.stores.FlatStore.of_box.Goals as goal
 

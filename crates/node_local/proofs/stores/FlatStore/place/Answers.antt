@@ -1,6 +1,6 @@
 use Rattle.std.proofs.Common.{◌≡◌, ◌∙◌, ap, get_or, pos, arith, w64, to_z, of_z}
 use Rattle.std.proofs.lemmas.Int.{ints}
-use Rattle.zpl_arrays.specs.Array.{Array}
+use Rattle.grid_meaning.specs.of_zpl_arrays.Array.{Array}
 use Rattle.node_local.specs.Store.{place_in}
 use Rattle.node_local.proofs.StoreLemmas.{place_of_tuple}
 use Rattle.node_local.proofs.stores.FlatStore.place.Goals as goal

@@ -3,9 +3,9 @@ use Rattle.std.proofs.lemmas.Int.{ints, to_z-of_z}
 use Rattle.std.specs.Prelude.{FitsSigned}
 use mir.Syntax.{w64}
 use mir.Val.{to_z, of_z}
-use Rattle.zpl_arrays.specs.Array.{Array}
-use Rattle.zpl_region.specs.Hull.{IsBoxed}
-use Rattle.grid_layout.specs.Layout.{HasWideBounds}
+use Rattle.grid_meaning.specs.of_zpl_arrays.Array.{Array}
+use Rattle.grid_meaning.specs.of_zpl_region.Hull.{IsBoxed}
+use Rattle.grid_meaning.specs.of_grid_layout.Layout.{HasWideBounds}
 use Rattle.grid_meaning.specs.Place.{moved_by}
 use Rattle.node_local.specs.Store.{StandsFor}
 use Rattle.node_local.proofs.StoreLemmas.{held_stands, moved_three}

@@ -1,7 +1,7 @@
 use Rattle.std.proofs.Common.{◌≡◌, ◌∙◌, sym, ap, length, replicate, pos, rules}
-use Rattle.zpl_region.specs.Ends.{tuple_count}
+use Rattle.grid_meaning.specs.of_zpl_region.Ends.{tuple_count}
 use Rattle.std.proofs.lemmas.List.{length-replicate}
-use Rattle.zpl_region.proofs.EndLemmas.{length-tuple_count}
+use Rattle.grid_meaning.proofs.of_zpl_region.EndLemmas.{length-tuple_count}
 use Rattle.node_local.proofs.StoreLemmas.{boxed_steps, zeros_of}
 use Rattle.node_local.proofs.stores.FlatStore.zeros.Goals as goal
 

@@ -1,5 +1,5 @@
 use Rattle.std.proofs.Common.{rules, ◌≡◌, get_or, sym, ap, ◌∙◌, pos, to_z, of_z, w64, arith}
-use Rattle.grid_meaning.specs.Collective.{first_word}
+use Rattle.node_stages.specs.of_grid_meaning.Collective.{first_word}
 use Rattle.node_messages.specs.Agreement.{join_of, own_of}
 use Rattle.node_messages.proofs.KeptLemmas.{fold_further}
 use Rattle.node_messages.proofs.agreements.Agreement.joined_values.Goals as goal

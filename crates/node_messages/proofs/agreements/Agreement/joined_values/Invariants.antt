@@ -1,6 +1,6 @@
 use Rattle.std.proofs.Common.{◌≡◌, map, drop}
 use Rattle.std.specs.Prelude.{fold}
-use Rattle.grid_meaning.specs.Collective.{first_word}
+use Rattle.node_stages.specs.of_grid_meaning.Collective.{first_word}
 use Rattle.node_local.specs.Standing.{entry_of}
 use Rattle.node_messages.specs.Agreement.{join_of, own_of}
 use Rattle.node_messages.proofs.agreements.Agreement.joined_values.Given as goal

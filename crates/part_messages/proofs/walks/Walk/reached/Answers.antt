@@ -7,7 +7,7 @@ use Rattle.zpl_arrays.specs.Fold.{agrees}
 use Rattle.grid_layout.specs.Layout.{laid_out, own_first, own_last}
 use Rattle.grid_meaning.specs.Owner.{tuples_of}
 use Rattle.grid_meaning.specs.Stored.{arrangement_of}
-use Rattle.node_stages.proofs.PieceLemmas.{IsRegion-slot}
+use Rattle.exchange_messages.proofs.of_node_stages.PieceLemmas.{IsRegion-slot}
 use Rattle.part_messages.proofs.walks.Walk.reached.Goals as goal
 
 pub reachable-requires-clause-target : goal.reachable-requires-clause-target

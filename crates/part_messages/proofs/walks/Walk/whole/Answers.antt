@@ -1,6 +1,6 @@
 use Rattle.std.proofs.Common.{sym, ◌∙◌}
 use Rattle.zpl_region.specs.Region.{members}
-use Rattle.node_stages.proofs.PieceLemmas.{IsRegion-slot}
+use Rattle.exchange_messages.proofs.of_node_stages.PieceLemmas.{IsRegion-slot}
 use Rattle.part_messages.proofs.AheadLemmas.{all_kept}
 use Rattle.part_messages.proofs.walks.Walk.whole.Goals as goal
 

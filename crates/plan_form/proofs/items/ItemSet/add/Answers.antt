@@ -1,7 +1,7 @@
 use Rattle.std.proofs.Common.{◌≡◌, ◌∙◌, ap, sym, refl, map, Bool, true, false, ◌&&◌, ◌==◌}
 use Rattle.std.specs.Cmp.Lexicographic.{pointwise}
 use Rattle.std.specs.Ordering.{int_eq}
-use Rattle.code_parts.specs.Uses.{is_item}
+use Rattle.flat_passes.specs.of_code_parts.Uses.{is_item}
 use Rattle.plan_form.specs.Units.{with_item}
 use Rattle.plan_form.specs.Items.{item_of}
 use Rattle.plan_form.specs.declared.items.ItemKey.{ItemKey}

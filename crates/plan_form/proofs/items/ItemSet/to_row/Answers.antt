@@ -1,6 +1,6 @@
 use Rattle.std.proofs.Common.{◌≡◌, ◌∙◌, ap, rules, sym, take, ◌++◌, [], ◌∷◌, Some, List, ℕ, ◌+◌}
 use Rattle.std.specs.Prelude.{slice_get}
-use Rattle.node_form.specs.declared.arrays.Item.{Item}
+use Rattle.flat_passes.specs.of_node_form.declared.arrays.Item.{Item}
 use Rattle.plan_form.proofs.ItemLemmas.{taken_more}
 use Rattle.plan_form.proofs.items.ItemSet.to_row.Goals as goal
 

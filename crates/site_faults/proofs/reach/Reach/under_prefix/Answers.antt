@@ -1,7 +1,7 @@
 use Rattle.std.proofs.Common.{◌≡◌, Option, Some, None, option_map, is_some, ap, ap₂, refl, ◌∙◌}
 use Rattle.zpl_tree.specs.View.{mask_of, inner_of}
 use Rattle.zpl_tree.specs.declared.statements.Mask.{Mask}
-use Rattle.zpl_names.specs.Shapes.{current_over, inner_shape, with_current}
+use Rattle.name_kinds.specs.of_zpl_names.Shapes.{current_over, inner_shape, with_current}
 use Rattle.name_kinds.specs.Reach.{scope_of}
 use Rattle.name_kinds.specs.Seen.{shapes_of}
 use Rattle.site_faults.specs.Reach.{reach_of}

@@ -1,6 +1,6 @@
 use Rattle.std.proofs.Common.{subst}
 use Rattle.zpl_tree.specs.View.{decl_of}
-use Rattle.zpl_binding.specs.Declarations.{with_decl}
+use Rattle.zpl_parts.specs.of_zpl_binding.Declarations.{with_decl}
 use Rattle.zpl_bind.specs.Fault.{IsAmong}
 use Rattle.zpl_bind.specs.Known.{known_failures, known_in, settings_in}
 use Rattle.zpl_bind.proofs.KnownLemmas.{decls-fail, told-err}

@@ -1,6 +1,6 @@
 use Rattle.std.proofs.Common.{◌≡◌, drop, map}
 use Rattle.zpl_tree.specs.View.{region_of}
-use Rattle.zpl_binding.specs.Declarations.{with_all, with_region}
+use Rattle.zpl_parts.specs.of_zpl_binding.Declarations.{with_all, with_region}
 use Rattle.zpl_bind.specs.Known.{IsKnown, known_in}
 use Rattle.zpl_bind.proofs.known.Known.add_regions.Given as goal
 

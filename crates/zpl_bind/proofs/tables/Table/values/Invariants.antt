@@ -1,5 +1,5 @@
 use Rattle.std.proofs.Common.{◌≡◌, ◌++◌, drop, map}
-use Rattle.zpl_binding.specs.Outcome.{Gives}
+use Rattle.zpl_parts.specs.of_zpl_binding.Outcome.{Gives}
 use Rattle.zpl_bind.specs.Tables.{computed}
 use Rattle.zpl_bind.proofs.tables.Table.values.Given as goal
 

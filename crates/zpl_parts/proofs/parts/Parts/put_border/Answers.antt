@@ -1,5 +1,5 @@
 use Rattle.std.proofs.Common.{◌≡◌, ◌++◌, [], map, sym, ap, ◌∙◌, if◌then◌else◌, true, false}
-use Rattle.zpl_tree.specs.View.{pre_of, base_of, posts_of, name_of}
+use Rattle.zpl_binding.specs.of_zpl_tree.View.{pre_of, base_of, posts_of, name_of}
 use Rattle.zpl_parts.specs.View.{seen}
 use Rattle.zpl_parts.specs.Walk.{border_parts}
 use Rattle.zpl_parts.proofs.PartLemmas.{append-nothing, border-behind, border-last, the_border}

@@ -1,0 +1,1 @@
+pub use Rattle.node_form.proofs as of_node_form
