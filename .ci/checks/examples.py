@@ -1,9 +1,10 @@
 #!/usr/bin/env python3
 """Each example prints, is refused with, or traps with what the comment at its head says.
 
-Run it at the top of the repository: .ci/checks/examples.py. The program is built once, by `rt try`, and run for each example.
-A comment has a line `Prints:`, `Refused:` or `Traps:`, and below it, indented by two more, what is told, line by line. The command,
-where it isn't `run`, stands in a line `Command: WORD` before that, and words behind the file in a line `Words: WORD ..`.
+Run it at the top of the repository, where the program is built: .ci/checks/examples.py.
+A comment has a line `Prints:`, `Refused:` or `Traps:`, and below it, indented by two more, what is told, line by line; `--` alone is an
+empty line. The command, where it isn't `run`, stands in a line `Command: WORD` before that, and words behind the file in a line
+`Words: WORD ..`.
 
 A run of a listing is a text in examples/listings, with such lines and `Listing: FILE`; a line `Order: ITEM ..` has the text of its order,
 and a line `Status: N` the status where that isn't 0.
@@ -16,7 +17,7 @@ import subprocess
 import sys
 import tempfile
 
-CRATE = "crates/zplgrid"
+PROGRAM = os.path.abspath("crates/zplgrid/out/zplgrid")
 STATUSES = {"Prints:": 0, "Refused:": 4, "Traps:": 7}
 
 
@@ -28,7 +29,7 @@ def told_in(text):
         if status is None and body.strip() in STATUSES:
             status = STATUSES[body.strip()]
             indent = len(body) - len(body.lstrip()) + 2
-        elif status is not None and body.startswith(" " * indent):
+        elif status is not None and (body.startswith(" " * indent) or line == "--"):
             wanted.append(body[indent:])
         elif status is not None:
             break
@@ -47,78 +48,49 @@ def words_in(text, command):
 
 
 def case_of(path):
-    """The name of an example's case: no two examples have one."""
+    """The name under which an example's file lies where it is run: no two examples have one."""
     return os.path.relpath(path, "examples").replace("/", "-")
 
 
-def sections(output):
-    """What each case told, line by line, and its status."""
-    found, lines = {}, []
-    for line in output.splitlines():
-        ended = re.match(r"case=(\S+) run=\S+ status=(\d+)", line)
-        if line.startswith("== "):
-            lines = []
-        elif ended:
-            found[ended[1]] = (lines, int(ended[2]))
-            lines = []
-        else:
-            lines.append(line)
-    return found
-
-
-def add_case(place, name, text, words):
-    """Adds a case: the file that it is run on, and the words."""
+def told_by(place, text, name, words):
+    """What the program tells where it is run with these words, on a copy of the text under the name, and its status."""
     shutil.copy(text, f"{place}/{name}")
-    with open(f"{place}/{name}.args", "w", encoding="utf-8") as file:
-        file.write("".join(f"{word}\n" for word in words))
+    ran = subprocess.run([PROGRAM, *(name if word == "{}" else word for word in words)], cwd=place, stdin=subprocess.DEVNULL,
+                         stdout=subprocess.PIPE, stderr=subprocess.STDOUT, text=True, check=False)
+    return ran.stdout.splitlines(), ran.returncode
 
 
-def add_program(place, path):
-    """Adds the case of a program, and says what it has to tell, and its status."""
+def of_program(place, path):
+    """What the program tells of an example and its status, and what the example's comment says of both."""
     with open(path, encoding="utf-8") as file:
         text = file.read()
-    add_case(place, case_of(path), path, words_in(text, "run"))
     wanted, status = told_in(text)
     settings = wanted[:1] and wanted[0].startswith("settings refused: ")
-    return wanted, 5 if settings else status
+    return told_by(place, path, case_of(path), words_in(text, "run")), (wanted, 5 if settings else status)
 
 
-def add_listing(place, data, path):
-    """The same of a run of a listing, whose order goes into the folder of data."""
+def of_listing(place, path):
+    """The same of a run of a listing."""
     with open(path, encoding="utf-8") as file:
         text = file.read()
     name, order = case_of(path), line_in(text, "Order")
     words = words_in(text, "exec")
     if order is not None:
-        with open(f"{data}/{name}.order", "w", encoding="utf-8") as file:
+        with open(f"{place}/{name}.order", "w", encoding="utf-8") as file:
             file.write(order)
         words.append(f"order={name}.order")
-    add_case(place, name, f"{os.path.dirname(path)}/{line_in(text, 'Listing')}", words)
-    return told_in(text)[0], int(line_in(text, "Status") or 0)
+    listing = f"{os.path.dirname(path)}/{line_in(text, 'Listing')}"
+    return told_by(place, listing, name, words), (told_in(text)[0], int(line_in(text, "Status") or 0))
 
 
 def main():
-    programs = sorted(glob.glob("examples/**/*.zpl", recursive=True))
-    runs = sorted(glob.glob("examples/listings/*.txt"))
-    place, data = tempfile.mkdtemp(), tempfile.mkdtemp()
-    try:
-        wanted = {path: add_program(place, path) for path in programs}
-        wanted.update((path, add_listing(place, data, path)) for path in runs)
-        orders = [word for name in sorted(os.listdir(data)) for word in ("--data", f"{name}={data}/{name}")]
-        ran = subprocess.run(["rt", "try", "--cases", place] + orders, cwd=CRATE, stdin=subprocess.DEVNULL,
-                             stdout=subprocess.PIPE, stderr=subprocess.STDOUT, text=True, check=False)
-    finally:
-        shutil.rmtree(place)
-        shutil.rmtree(data)
-    found, wrong = sections(ran.stdout), 0
-    for path, (lines, status) in wanted.items():
-        told, ended = found.get(case_of(path), ([], None))
-        if told != lines or ended != status:
-            wrong += 1
-            print(f"{path}: told {told} with status {ended}, its comment says {lines} and {status}")
-    if not found:
-        print(ran.stdout)
-    print(f"{len(wanted) - wrong} examples are as their comments say, {wrong} aren't")
+    with tempfile.TemporaryDirectory() as place:
+        found = {path: of_program(place, path) for path in sorted(glob.glob("examples/**/*.zpl", recursive=True))}
+        found.update((path, of_listing(place, path)) for path in sorted(glob.glob("examples/listings/*.txt")))
+    wrong = [path for path, (told, wanted) in found.items() if told != wanted]
+    for path in wrong:
+        print(f"{path}: told {found[path][0]}, its comment says {found[path][1]}")
+    print(f"{len(found) - len(wrong)} examples are as their comments say, {len(wrong)} aren't")
     return 1 if wrong else 0
 
 

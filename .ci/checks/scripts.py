@@ -4,15 +4,19 @@
 Run it at the top of the repository, once the program is built: .ci/checks/scripts.py. Compared are
 
 - the calls that README.md and the pages of docs/ show: a line set in by four that begins with `$ ./` and the name of a script or
-  of the program is run, and the lines below it, set in as far, are what it puts and tells;
-- a listing that docs/LISTING.md shows with comments, and its file;
+  of a program, or with `$ echo`, is run, and the lines below it, set in as far, are what it puts and tells. What a call writes
+  behind `>` the later ones of its page find;
+- a listing that docs/LISTING.md shows with comments, and its file; the program at the head of docs/LANGUAGE.md, and its file;
 - the texts of `why`: docs/LANGUAGE.md and docs/LISTING.md have a row with them for each fault, and no other, and the names are
   those that the definitions of the program's texts have;
 - what `why` says of examples with lines `Hint:` in the comment at their head, and of some words that are no command;
-- the statements that docs/LANGUAGE.md shows as examples of faults and traps, and what is told of them;
+- the statements that docs/LANGUAGE.md shows as examples of faults and traps, and what is told of them, and that `why` says more of each
+  clash of ranks and of flood dimensions;
 - the lines that docs/LISTING.md says break a rule of listings;
 - the messages and words of forms, as docs/COSTS.md reckons them;
-- what `costs --lines` adds up and what `exec` reports, and the ticks that `picture` draws and that `time` tells.
+- what `costs --lines` adds up and what `exec` reports, and the ticks that `picture` draws and that `time` tells;
+- the table that `costs` writes to a file; what `picture` tells of runs that are stuck, and that it draws some ticks alone; the line of
+  `gridtrace` for a link without room.
 
 Each script says how it is called, with --help.
 """
@@ -27,7 +31,7 @@ import tempfile
 
 SCRIPTS = ["show", "why", "costs", "picture"]
 PROGRAMS = ["zplgrid", "gridtrace"]
-SHOWN = [*SCRIPTS, *PROGRAMS]
+SHOWN = ("echo ", *(f"./{it} " for it in [*SCRIPTS, *PROGRAMS]))
 NAMES = {"call_claims": r'(?:judged_name|bind_name|trap_name) \S+ = codes "([^"]+)"|settings_text \(codes "(\w+)"\)',
          "list_claims": r'whole_text \(codes "(\w+)"\)', "exec_claims": r'(?:kind_name \S+|idle_name) = codes "(\w+)"|listing_refused_text \(codes "(\w+)"\)'}
 # what is told of no run of the program: it would be an instruction that names what isn't in a table
@@ -51,7 +55,9 @@ CALLS = [
     ("exec examples/sum.zpl", "this is a program"),
     ("run examples/listings/ring.lst", "this is a listing"),
     ("mean examples/mistakes/shifts.zpl", "examples/mistakes/shifts.zpl:14:3: reference outside storage"),
-    ("exec examples/listings/crossed.lst links=1", "processor 0: Idle"),
+    ("exec examples/listings/unheld.lst", "processor 0 is at instruction 1"),
+    ("exec examples/listings/crossed.lst links=1", "examples/listings/crossed.lst:21:1: Idle"),
+    ("exec examples/listings/crossed.lst links=1", "processor 0 is at instruction 3, and waits for room on its link to processor 1"),
     ("exec examples/listings/ring.lst order=examples/sum.zpl", "examples/sum.zpl:1:1: this is no item of an order"),
 ]
 
@@ -59,6 +65,11 @@ CALLS = [
 def read(path):
     with open(path, encoding="utf-8") as file:
         return file.read()
+
+
+def written(path):
+    """The text of a file that a script was to write, and none where it didn't."""
+    return read(path) if os.path.exists(path) else ""
 
 
 def told_by(words):
@@ -74,7 +85,7 @@ def calls_in(path):
     for line in read(path).splitlines():
         if line.startswith("    $ "):
             said = []
-            if line[6:].startswith(tuple(f"./{it} " for it in SHOWN)):
+            if line[6:].startswith(SHOWN):
                 found.append((line[6:], said))
         elif line.startswith("    ") and said is not None:
             said.append(line[4:].rstrip())
@@ -85,18 +96,22 @@ def calls_in(path):
 
 def wrong_calls():
     for path in ["README.md", *sorted(glob.glob("docs/*.md"))]:
-        for call, shown in calls_in(path):
-            # a picture that a page has is drawn beside it, and compared
-            drawn = re.search(r"--(?:svg|out) (\S+)", call)
-            told = told_by(call.replace(drawn[1], drawn[1] + ".new") if drawn else call)
-            yield told != shown and f"{path}: {call}\n  shown: {shown}\n  told:  {told}"
-            if drawn:
-                yield read(drawn[1]) != read(drawn[1] + ".new") and f"{path}: {call} draws something else than {drawn[1]}"
-                os.remove(drawn[1] + ".new")
+        with tempfile.TemporaryDirectory() as folder:
+            own = set()
+            for call, shown in calls_in(path):
+                # the files that calls write stand in a folder of their own
+                own |= set(re.findall(r"> (\w+\.\w+)", call))
+                ran = re.sub(r"(?<![\w/.])(\w+\.\w+)\b", lambda it: f"{folder}/{it[1]}" if it[1] in own else it[1], call)
+                # a picture that a page has is drawn there too, and compared
+                drawn = re.search(r"--(?:svg|out) (\S+)", call)
+                told = told_by(ran.replace(drawn[1], f"{folder}/drawn") if drawn else ran)
+                yield told != shown and f"{path}: {call}\n  shown: {shown}\n  told:  {told}"
+                if drawn:
+                    yield read(drawn[1]) != written(f"{folder}/drawn") and f"{path}: {call} draws something else than {drawn[1]}"
 
 
 def wrong_helps():
-    for script in SCRIPTS:
+    for script in [*SCRIPTS, "build"]:
         ran = subprocess.run([f"./{script}", "--help"], capture_output=True)
         yield (ran.returncode != 0 or not ran.stdout) and f"./{script} --help says nothing"
 
@@ -106,6 +121,10 @@ def wrong_listings():
     for path, shown in re.findall(r"`(examples/listings/\w+\.lst)`, with comments.*?```\n(.*?)```", read("docs/LISTING.md"), re.DOTALL):
         plain = "".join(re.sub(r"\s*--.*", "", line) + "\n" for line in shown.splitlines())
         yield plain != read(path) and f"docs/LISTING.md shows {path} otherwise than it is"
+    # the program at the head of the page on the language, without its comments
+    shown = re.search(r"## A program\n\n.*`(examples/\w+/\w+\.zpl)`:\n\n((?: {4}.*\n)+)", read("docs/LANGUAGE.md"))
+    plain = [re.sub(r"\s*--.*", "", line[4:]) for line in shown[2].splitlines()]
+    yield plain != [it for it in read(shown[1]).splitlines() if not it.startswith("--")] and f"docs/LANGUAGE.md shows {shown[1]} otherwise than it is"
 
 
 # ---- the texts of `why`
@@ -206,7 +225,7 @@ def wrong_examples():
         for frame, told, statement in examples_in():
             with open(f"{folder}/example.zpl", "w", encoding="utf-8") as file:
                 file.write(f"program example;\n{frame}procedure example();\nbegin\n{statement}\nend;\n")
-            found = told_by(["./zplgrid", "mean", f"{folder}/example.zpl"])
+            found = told_by(["./why", "mean", f"{folder}/example.zpl"])
             yield not (found and found[0].startswith(told)) and f"docs/LANGUAGE.md: {statement} has {found}, not {told}"
 
 
@@ -252,13 +271,35 @@ def wrong_traces():
             yield ticks and f": {ticks[1]} ticks, " not in read(f"{folder}/run.svg") and f"./picture {path} draws other ticks than {ticks[1]}: {told}"
 
 
+# ---- files that scripts write
+def wrong_files():
+    """The table in a file is the one that is shown, each set of letters by itself; of a stuck run it is told for whom a processor waits."""
+    with tempfile.TemporaryDirectory() as folder:
+        told = told_by(["./costs", "examples/costs/fold.zpl", "--grids", "1,4", "--letters", "each", "--csv", f"{folder}/costs.csv"])
+        rows = [it.split(",") for it in written(f"{folder}/costs.csv").splitlines()]
+        shown = [[*it.split()[:8], letters] for it in told[1:] for letters in it.split()[8:]]
+        yield (rows[:1] != [told[0].split()] or sorted(rows[1:]) != sorted(shown)) and f"./costs --csv has {rows}, and its table {told}"
+        for name, wanted in (("idle", "instruction 3: waits for 1"), ("tag", "instruction 3: stuck Tag"), ("unheld", "instruction 1: stuck Unheld")):
+            told = told_by(["./picture", f"examples/listings/{name}.lst", "--out", f"{folder}/{name}.svg"])
+            yield f"processor 0 at {wanted}" not in told and f"./picture {name}.lst tells {told}"
+            drawn = wanted.split(": ")[1]
+            yield f">{drawn}, at " not in written(f"{folder}/{name}.svg") and f"./picture {name}.lst doesn't draw that it {drawn}"
+        told = told_by(["./picture", "examples/listings/ring.lst", "--ticks", "5..20", "--out", f"{folder}/part.svg"])
+        yield told[-1:] != ["drawn are the ticks from 5 to 20"] and f"./picture --ticks tells {told}"
+        # processor 0 goes ahead, until its link is full
+        with open(f"{folder}/ahead.txt", "w", encoding="ascii") as file:
+            file.write("0x8\n")
+        told = told_by(["./gridtrace", "examples/listings/crossed.lst", "links=1", f"order={folder}/ahead.txt"])
+        yield "8 0 3 waits for room to 1" not in told and f"./gridtrace crossed.lst tells {told}"
+
+
 def main():
     for program in PROGRAMS:
         if not os.access(f"crates/{program}/out/{program}", os.X_OK):
             print(f"{program} isn't built: ./build first")
             return 1
     count = wrong = 0
-    for check in (wrong_calls, wrong_helps, wrong_listings, wrong_texts, wrong_hints, wrong_examples, wrong_rules, wrong_costs, wrong_traces):
+    for check in (wrong_calls, wrong_helps, wrong_listings, wrong_texts, wrong_hints, wrong_examples, wrong_rules, wrong_costs, wrong_traces, wrong_files):
         for it in check():
             count += 1
             if it:

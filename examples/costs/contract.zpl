@@ -1,4 +1,4 @@
--- `f` makes one loop of three, and then no other statement names `Square`: with `c` it is a cell, and no array.
+-- `f` makes one loop of two, and then no other statement names `Square`: with `c` it is a cell, and no array.
 -- Prints:
 --   17 20 25 32
 program contract;

@@ -16,8 +16,7 @@ procedure greatest(X : [Row] integer) : integer;
 begin
   return max<<X;
 end;
-procedure swap(var a, b : integer);
-var old : integer;
+procedure swap(var a, b : integer); var old : integer;
 begin
   old := a;
   a := b;
