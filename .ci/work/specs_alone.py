@@ -155,8 +155,8 @@ def is_use(item):
     return re.match(HEAD + r"(pub(\([^)]*\))? )?use\b", item)
 
 
-def types_used(item, body):
-    """A `use` of the types that the file still names, or that it hands on."""
+def types_used(item, body, crates):
+    """A `use` of the types that the file still names, or of the types and crates that it hands on."""
     found = re.match(r"(pub(?:\([^)]*\))? )?use ([^;]*);", item.strip())
     is_pub, path = found.group(1) or "", found.group(2)
     group = re.match(r"(.*?)(?:::)?\{(.*)\}\s*$", path, re.S)
@@ -165,25 +165,25 @@ def types_used(item, body):
     kept = []
     for name in names:
         own, shown = name.split(" as ")[0].split("::")[-1].strip(), name.split(" as ")[-1].split("::")[-1].strip()
-        if own[:1].isupper() and (is_pub or re.search(rf"\b{shown}\b", body)):
+        if (own[:1].isupper() or own in crates) and (is_pub or re.search(rf"\b{shown}\b", body)):
             kept.append(name)
     if not kept:
         return ""
     return f"{is_pub}use {before}::{{{', '.join(kept)}}};" if before else f"{is_pub}use {kept[0]};"
 
 
-def stripped(text):
+def stripped(text, crates):
     """A source file without functions and comments."""
     found = [re.sub(r"^\s*//[^\n]*\n?", "", it, flags=re.M).strip("\n") for it in without_functions(text)]
     body = "\n".join(it for it in found if not is_use(it))
-    return "\n".join(types_used(it, body) if is_use(it) else it for it in found) + "\n"
+    return "\n".join(types_used(it, body, crates) if is_use(it) else it for it in found) + "\n"
 
 
-def copy_sources(name, out):
+def copy_sources(name, out, crates):
     for at, _, files in os.walk(f"crates/{name}/src"):
         for file in files:
             with open(f"{at}/{file}", encoding="utf-8") as source:
-                text = stripped(source.read())
+                text = stripped(source.read(), crates)
             if file in ("lib.rt", "main.rt") and "#![tactic(auto)]" not in text:
                 text = "#![tactic(auto)]\n" + text
             os.makedirs(f"{out}/{at}", exist_ok=True)
@@ -197,8 +197,8 @@ def copy_lemmas(name, out):
     if not os.path.exists(lib):
         return
     with open(lib, encoding="utf-8") as file:
-        left = [it.split()[-1] for it in file if it.startswith("pub mod ")]
-    taken = []
+        lines = file.readlines()
+    left, taken = [it.split()[-1] for it in lines if it.startswith("pub mod ")], []
     while left:
         module = left.pop()
         path = f"crates/{name}/proofs/{module}.antt"
@@ -207,12 +207,12 @@ def copy_lemmas(name, out):
         taken.append(module)
         with open(path, encoding="utf-8") as file:
             left += re.findall(rf"use Rattle\.{name}\.proofs\.(\w+)", file.read())
-    if taken:
-        os.makedirs(f"{out}/crates/{name}/proofs")
+    os.makedirs(f"{out}/crates/{name}/proofs")
     for module in taken:
         shutil.copy(f"crates/{name}/proofs/{module}.antt", f"{out}/crates/{name}/proofs")
-    with open(f"{out}/crates/{name}/proofs/Lib.antt", "w", encoding="utf-8") if taken else open(os.devnull, "w") as file:
+    with open(f"{out}/crates/{name}/proofs/Lib.antt", "w", encoding="utf-8") as file:
         file.writelines(f"pub mod {module}\n" for module in sorted(taken))
+        file.writelines(it for it in lines if it.startswith("pub use "))
 
 
 # ---- libraries that are built already
@@ -261,7 +261,7 @@ def main():
     for name in order:
         if os.path.isdir(f"crates/{name}/specs"):
             shutil.copytree(f"crates/{name}/specs", f"{out}/crates/{name}/specs")
-        copy_sources(name, out)
+        copy_sources(name, out, of)
         copy_lemmas(name, out)
     lacking = take_over(os.path.abspath(copy), out, order, of) if copy else order
     print(f"{len(order)} crates, of which {len(lacking)} are to be built: {' '.join(lacking)}")
