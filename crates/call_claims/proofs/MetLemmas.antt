@@ -2,7 +2,7 @@
 use Rattle.std.proofs.Common.{ℕ, ◌≤◌, Bool, List, [], ◌∷◌, Option, Some, None, subst, arith}
 use Rattle.std.specs.Option.{option_map}
 use Rattle.zpl_claims.specs.declared.options.Options.{Options}
-use Rattle.call_claims.specs.Words.{Word, Order, Turns, Report, Links, Latency, Grid, Letters, Sets}
+use Rattle.call_claims.specs.Words.{Word, Order, Turns, Report, Checked, Save, Links, Latency, Grid, Letters, Sets}
 use Rattle.call_claims.specs.Words.{IsWord, first_asked}
 use Rattle.call_claims.specs.Command.{Asked, AddAll, IsWorded, asked_more, once}
 use Rattle.call_claims.specs.Command.AddAll.{no_more, one_more}
@@ -28,6 +28,16 @@ with_report : (asked : Asked) (told : Option Bool) → CanBeMet asked
     → AreMet (option_map (λ report. record asked { report = report }) told)
 with_report asked None met = tt
 with_report asked (Some report) met = record { links = met.links; turns = met.turns; latency = met.latency }
+
+with_checked : (asked : Asked) (told : Option Bool) → CanBeMet asked
+    → AreMet (option_map (λ checked. record asked { checked = checked }) told)
+with_checked asked None met = tt
+with_checked asked (Some checked) met = record { links = met.links; turns = met.turns; latency = met.latency }
+
+with_save : (asked : Asked) (told : Option Bool) → CanBeMet asked
+    → AreMet (option_map (λ save. record asked { save = save }) told)
+with_save asked None met = tt
+with_save asked (Some save) met = record { links = met.links; turns = met.turns; latency = met.latency }
 
 with_links : (asked : Asked) (before : Option ℕ) (capacity : ℕ) → 1 ≤ capacity → CanBeMet asked
     → AreMet (option_map (λ links. record asked { links = links }) (once before capacity))
@@ -56,6 +66,8 @@ with_word : (asked : Asked) (text : List ℕ) (word : Word) → IsWord text word
 with_word asked text (Order file) is met = with_order asked (once asked.order file) met
 with_word asked text (Turns n) is met = with_turns asked asked.turns n is.within met
 with_word asked text Report is met = with_report asked (first_asked asked.report) met
+with_word asked text Checked is met = with_checked asked (first_asked asked.checked) met
+with_word asked text Save is met = with_save asked (first_asked asked.save) met
 with_word asked text (Links capacity) is met =
     with_links asked asked.links capacity is.links.some met
 with_word asked text (Latency ticks) is met =

@@ -11,7 +11,7 @@ use Rattle.zpl_text.specs.Kinds.{IsWord as IsWordText}
 use Rattle.zpl_claims.specs.of_zpl_binding.Settings.{Setting}
 use Rattle.call_claims.specs.Words.{AreFactors, IsFactor, IsNumber, IsTurnsWord, IsSettingWord, IsWord, Word, Order}
 use Rattle.call_claims.specs.Words.AreFactors.{last_factor, one_factor}
-use Rattle.call_claims.specs.Words.{AreLetters, Turns, Report, Links, Latency, Grid, Letters, Sets, grid_of, with_letters}
+use Rattle.call_claims.specs.Words.{AreLetters, Turns, Report, Checked, Save, Links, Latency, Grid, Letters, Sets, grid_of, with_letters}
 use Rattle.zpl_claims.specs.Build.{no_options}
 use Rattle.zpl_claims.specs.declared.options.Options.{Options}
 use Rattle.call_claims.specs.Command.{Asked, Adds, AddAll, Asks, IsCommandOf, IsWorded, asked_more}
@@ -82,6 +82,8 @@ abbrev pub sets : Word → Option Setting
 sets (Order file) = None
 sets (Turns n) = None
 sets Report = None
+sets Checked = None
+sets Save = None
 sets (Links capacity) = None
 sets (Latency ticks) = None
 sets (Grid grid) = None
@@ -92,6 +94,8 @@ pub sets_are : (text : List ℕ) (word : Word) → IsWord text word → setting_
 sets_are text (Order file) is = ap setting_in is
 sets_are text (Turns n) is = turns_word text n is
 sets_are text Report is = ap setting_in is
+sets_are text Checked is = ap setting_in is
+sets_are text Save is = ap setting_in is
 sets_are text (Links capacity) is = ap setting_in is.split
 sets_are text (Latency ticks) is = ap setting_in is.split
 sets_are text (Grid grid) is = ap setting_in is.split
@@ -104,6 +108,8 @@ abbrev letter : Word → ℕ
 letter (Order file) = 111
 letter (Turns n) = 116
 letter Report = 114
+letter Checked = 99
+letter Save = 115
 letter (Links capacity) = 108
 letter (Latency ticks) = 108
 letter (Grid grid) = 103
@@ -115,6 +121,8 @@ begins : (text : List ℕ) (word : Word) → sets word ≡ None → IsWord text 
 begins text (Order file) none is = ap (λ t. get_or t 0 0) is
 begins text (Turns n) none is = ap (λ t. get_or t 0 0) is.split
 begins text Report none is = ap (λ t. get_or t 0 0) is
+begins text Checked none is = ap (λ t. get_or t 0 0) is
+begins text Save none is = ap (λ t. get_or t 0 0) is
 begins text (Links capacity) none is = ap (λ t. get_or t 0 0) is.split
 begins text (Latency ticks) none is = ap (λ t. get_or t 0 0) is.split
 begins text (Grid grid) none is = ap (λ t. get_or t 0 0) is.split
@@ -205,6 +213,8 @@ same_word text (Order f) (Order g) none e a b = ap Order (ap (drop 6) (sym a ∙
 same_word text (Turns n) (Turns m) none e a b =
     ap Turns (number_is_one a.digits b.digits n m (ap (drop 6) (sym a.split ∙ b.split)) a.number b.number)
 same_word text Report Report none e a b = refl
+same_word text Checked Checked none e a b = refl
+same_word text Save Save none e a b = refl
 same_word text (Links n) (Links m) none e a b =
     ap Links (number_is_one a.digits b.digits n m (ap (drop 6) (sym a.split ∙ b.split)) a.links.number b.links.number)
 same_word text (Latency n) (Latency m) none e a b =
@@ -270,6 +280,38 @@ same_word text (Links n) (Order g) none e a b = absurd (omega (arith, e))
 same_word text (Links n) (Turns m) none e a b = absurd (omega (arith, e))
 same_word text (Links n) Report none e a b = absurd (omega (arith, e))
 same_word text (Links n) (Sets s) none e a b = absurd (omega (arith, e))
+same_word text Checked (Order g) none e a b = absurd (omega (arith, e))
+same_word text (Order f) Checked none e a b = absurd (omega (arith, e))
+same_word text Checked (Turns m) none e a b = absurd (omega (arith, e))
+same_word text (Turns n) Checked none e a b = absurd (omega (arith, e))
+same_word text Checked Report none e a b = absurd (omega (arith, e))
+same_word text Report Checked none e a b = absurd (omega (arith, e))
+same_word text Checked (Links m) none e a b = absurd (omega (arith, e))
+same_word text (Links n) Checked none e a b = absurd (omega (arith, e))
+same_word text Checked (Latency m) none e a b = absurd (omega (arith, e))
+same_word text (Latency n) Checked none e a b = absurd (omega (arith, e))
+same_word text Checked (Grid h) none e a b = absurd (omega (arith, e))
+same_word text (Grid g) Checked none e a b = absurd (omega (arith, e))
+same_word text Checked (Letters y) none e a b = absurd (omega (arith, e))
+same_word text (Letters x) Checked none e a b = absurd (omega (arith, e))
+same_word text Checked (Sets s) none e a b = absurd (omega (arith, e))
+same_word text Save (Order g) none e a b = absurd (omega (arith, e))
+same_word text (Order f) Save none e a b = absurd (omega (arith, e))
+same_word text Save (Turns m) none e a b = absurd (omega (arith, e))
+same_word text (Turns n) Save none e a b = absurd (omega (arith, e))
+same_word text Save Report none e a b = absurd (omega (arith, e))
+same_word text Report Save none e a b = absurd (omega (arith, e))
+same_word text Save (Links m) none e a b = absurd (omega (arith, e))
+same_word text (Links n) Save none e a b = absurd (omega (arith, e))
+same_word text Save (Latency m) none e a b = absurd (omega (arith, e))
+same_word text (Latency n) Save none e a b = absurd (omega (arith, e))
+same_word text Save (Grid h) none e a b = absurd (omega (arith, e))
+same_word text (Grid g) Save none e a b = absurd (omega (arith, e))
+same_word text Save (Letters y) none e a b = absurd (omega (arith, e))
+same_word text (Letters x) Save none e a b = absurd (omega (arith, e))
+same_word text Save (Sets s) none e a b = absurd (omega (arith, e))
+same_word text Checked Save none e a b = absurd (omega (arith, e))
+same_word text Save Checked none e a b = absurd (omega (arith, e))
 same_word text (Sets s) other none e a b = absurd (let no : ⊥ = cc in no)
 
 the_setting : (word : Word) (setting : Setting) → sets word ≡ Some setting → word ≡ Sets setting
@@ -277,6 +319,8 @@ the_setting (Sets s) setting e = ap Sets (let same : s ≡ setting = cc in same)
 the_setting (Order file) setting e = absurd (let no : ⊥ = cc in no)
 the_setting (Turns n) setting e = absurd (let no : ⊥ = cc in no)
 the_setting Report setting e = absurd (let no : ⊥ = cc in no)
+the_setting Checked setting e = absurd (let no : ⊥ = cc in no)
+the_setting Save setting e = absurd (let no : ⊥ = cc in no)
 the_setting (Links capacity) setting e = absurd (let no : ⊥ = cc in no)
 the_setting (Latency ticks) setting e = absurd (let no : ⊥ = cc in no)
 the_setting (Grid grid) setting e = absurd (let no : ⊥ = cc in no)

@@ -2,28 +2,32 @@
 --
 --   Asked, AskFor          what the words behind the file ask for
 --   IsWorded, IsCommandOf  words of one command, by its name and by what it takes
---   IsList, IsMean, IsRun, IsExec, IsTime, IsGen
+--   IsList, IsMean, IsRun, IsExec, IsTime, IsCheck, IsResume, IsGen
 --   IsNoCommand            words that are none of these
 --   Asks                   what holds of the file of a command and of what is asked for
-use Rattle.std.specs.Prelude.{◌≡◌, ℕ, Bool, true, false, List, [], ◌∷◌, ◌++◌, codes, Option, Some, None}
+use Rattle.std.specs.Prelude.{◌≡◌, ℕ, Bool, true, false, IsTrue, List, [], ◌∷◌, ◌++◌, codes, Option, Some, None}
 use Rattle.std.specs.Option.{option_map}
 use Rattle.zpl_claims.specs.of_zpl_binding.Settings.{Setting}
 use Rattle.zpl_claims.specs.Build.{Build, no_options, one_processor}
 use Rattle.zpl_claims.specs.declared.options.Options.{Options}
-use Rattle.call_claims.specs.Words.{Word, Order, Turns, Report, Links, Latency, Grid, Letters, Sets}
+use Rattle.call_claims.specs.Words.{Word, Order, Turns, Report, Checked, Save, Links, Latency, Grid}
+use Rattle.call_claims.specs.Words.{Letters, Sets}
 use Rattle.call_claims.specs.Words.{IsSeed, IsWord, first_asked}
 use Rattle.call_claims.specs.declared.limits.TheConstants.{MOST_TURNS}
 
 -- ---- what the words behind the file ask for
 -- The file of an order of turns, how many turns may be given (round the processors behind the
 -- order, or in each loop of the meaning), and how many messages a link holds, each where a word
--- tells it; whether a report is wanted; for how many ticks a message is on its way, the grid of
--- processors, and the optimisations, where a word tells them; and what configs are set to, in the
--- order of the words.
+-- tells it; whether a report is wanted, whether code is run only where it is sound, and whether a
+-- grid that may go on is saved; for how many ticks a message is on its way, the grid of processors,
+-- and the optimisations, where a word tells them; and what configs are set to, in the order of the
+-- words.
 pub record Asked : Type 0 where
   pub order : Option (List ℕ)
   pub turns : Option ℕ
   pub report : Bool
+  pub checked : Bool
+  pub save : Bool
   pub links : Option ℕ
   pub latency : Option ℕ
   pub grid : Option (List ℕ)
@@ -35,6 +39,8 @@ nothing_asked = record {
   order = None;
   turns = None;
   report = false;
+  checked = false;
+  save = false;
   links = None;
   latency = None;
   grid = None;
@@ -56,6 +62,10 @@ asked_more asked (Turns n) =
     option_map (λ turns. record asked { turns = turns }) (once asked.turns n)
 asked_more asked Report =
     option_map (λ report. record asked { report = report }) (first_asked asked.report)
+asked_more asked Checked =
+    option_map (λ checked. record asked { checked = checked }) (first_asked asked.checked)
+asked_more asked Save =
+    option_map (λ save. record asked { save = save }) (first_asked asked.save)
 asked_more asked (Links capacity) =
     option_map (λ links. record asked { links = links }) (once asked.links capacity)
 asked_more asked (Latency ticks) =
@@ -145,6 +155,8 @@ pub record ListTakes (asked : Asked) : Type 0 where
   pub no_order : asked.order ≡ None
   pub no_turns : asked.turns ≡ None
   pub no_report : asked.report ≡ false
+  pub no_checked : asked.checked ≡ false
+  pub no_save : asked.save ≡ false
   pub no_latency : asked.latency ≡ None
 
 abbrev pub IsList : List (List ℕ) → List ℕ → Asked → Type 0
@@ -155,6 +167,8 @@ IsList = IsCommandOf (codes "list") ListTakes
 pub record MeanTakes (asked : Asked) : Type 0 where
   pub no_order : asked.order ≡ None
   pub no_report : asked.report ≡ false
+  pub no_checked : asked.checked ≡ false
+  pub no_save : asked.save ≡ false
   pub no_links : asked.links ≡ None
   pub no_latency : asked.latency ≡ None
   pub no_grid : asked.grid ≡ None
@@ -166,13 +180,28 @@ IsMean = IsCommandOf (codes "mean") MeanTakes
 -- ---- run FILE [grid=AxBxC] [opt=LETTERS] [order=FILE] [turns=N] [report] [links=C]
 -- [name:=value ..]
 pub record RunTakes (asked : Asked) : Type 0 where
+  pub no_checked : asked.checked ≡ false
+  pub no_save : asked.save ≡ false
   pub no_latency : asked.latency ≡ None
 
 abbrev pub IsRun : List (List ℕ) → List ℕ → Asked → Type 0
 IsRun = IsCommandOf (codes "run") RunTakes
 
--- ---- exec FILE [order=FILE] [turns=N] [report] [links=C]
+-- ---- exec FILE [order=FILE] [turns=N] [report] [links=C] [checked] [save]
+-- A grid is saved of a run without a report, over links that hold any number of messages, of code
+-- that isn't checked.
+pub record SavesAlone (asked : Asked) : Type 0 where
+  pub no_report : asked.report ≡ false
+  pub no_links : asked.links ≡ None
+  pub no_checked : asked.checked ≡ false
+
+-- Checked code is run over such links too.
+pub record GoTogether (asked : Asked) : Type 0 where
+  pub unbounded : IsTrue asked.checked → asked.links ≡ None
+  pub alone : IsTrue asked.save → SavesAlone asked
+
 pub record ExecTakes (asked : Asked) : Type 0 where
+  pub together : GoTogether asked
   pub no_settings : asked.settings ≡ []
   pub no_latency : asked.latency ≡ None
   pub no_grid : asked.grid ≡ None
@@ -185,6 +214,8 @@ IsExec = IsCommandOf (codes "exec") ExecTakes
 -- Links hold any number of messages.
 pub record TimeTakes (asked : Asked) : Type 0 where
   pub no_report : asked.report ≡ false
+  pub no_checked : asked.checked ≡ false
+  pub no_save : asked.save ≡ false
   pub no_links : asked.links ≡ None
   pub no_settings : asked.settings ≡ []
   pub no_grid : asked.grid ≡ None
@@ -193,11 +224,43 @@ pub record TimeTakes (asked : Asked) : Type 0 where
 abbrev pub IsTime : List (List ℕ) → List ℕ → Asked → Type 0
 IsTime = IsCommandOf (codes "time") TimeTakes
 
+-- ---- check FILE
+pub record CheckTakes (asked : Asked) : Type 0 where
+  pub no_order : asked.order ≡ None
+  pub no_turns : asked.turns ≡ None
+  pub no_report : asked.report ≡ false
+  pub no_checked : asked.checked ≡ false
+  pub no_save : asked.save ≡ false
+  pub no_links : asked.links ≡ None
+  pub no_settings : asked.settings ≡ []
+  pub no_latency : asked.latency ≡ None
+  pub no_grid : asked.grid ≡ None
+  pub no_letters : asked.options ≡ None
+
+abbrev pub IsCheck : List (List ℕ) → List ℕ → Asked → Type 0
+IsCheck = IsCommandOf (codes "check") CheckTakes
+
+-- ---- resume FILE [order=FILE] [turns=N] [report]
+-- Links hold any number of messages.
+pub record ResumeTakes (asked : Asked) : Type 0 where
+  pub no_checked : asked.checked ≡ false
+  pub no_save : asked.save ≡ false
+  pub no_links : asked.links ≡ None
+  pub no_settings : asked.settings ≡ []
+  pub no_latency : asked.latency ≡ None
+  pub no_grid : asked.grid ≡ None
+  pub no_letters : asked.options ≡ None
+
+abbrev pub IsResume : List (List ℕ) → List ℕ → Asked → Type 0
+IsResume = IsCommandOf (codes "resume") ResumeTakes
+
 -- ---- gen N [opt=LETTERS] [turns=N]
 -- The program is drawn from a number, and runs on grids that no word tells.
 pub record GenTakes (asked : Asked) : Type 0 where
   pub no_order : asked.order ≡ None
   pub no_report : asked.report ≡ false
+  pub no_checked : asked.checked ≡ false
+  pub no_save : asked.save ≡ false
   pub no_links : asked.links ≡ None
   pub no_latency : asked.latency ≡ None
   pub no_grid : asked.grid ≡ None
@@ -216,6 +279,8 @@ pub record IsNoCommand (words : List (List ℕ)) : Type 0 where
   pub no_run : IsNoCommandOf (codes "run") RunTakes words
   pub no_exec : IsNoCommandOf (codes "exec") ExecTakes words
   pub no_time : IsNoCommandOf (codes "time") TimeTakes words
+  pub no_check : IsNoCommandOf (codes "check") CheckTakes words
+  pub no_resume : IsNoCommandOf (codes "resume") ResumeTakes words
   pub no_gen : (n : ℕ) (asked : Asked) → ¬ IsGen words n asked
 
 -- ---- a call of a command

@@ -143,13 +143,15 @@ pub record IsSettingWord (word : List ℕ) (setting : Setting) : Type 0 where
   pub split : word ≡ setting.name ++ (codes ":=" ++ setting.value)
 
 -- the file of the order of turns, whatever its name holds; how many turns may be given; that a
--- report is wanted; how many messages a link holds; for how many ticks one is on its way; the grid
--- of processors, by its factors with 0 for each absent one; the optimisations; and what a config is
--- set to
+-- report is wanted; that code is run only where it is sound; that a grid which may go on is saved;
+-- how many messages a link holds; for how many ticks one is on its way; the grid of processors, by
+-- its factors with 0 for each absent one; the optimisations; and what a config is set to
 pub data Word : Type 0 where
   Order : (file : List ℕ) → Word
   Turns : (n : ℕ) → Word
   Report : Word
+  Checked : Word
+  Save : Word
   Links : (capacity : ℕ) → Word
   Latency : (ticks : ℕ) → Word
   Grid : (grid : List ℕ) → Word
@@ -160,6 +162,8 @@ abbrev pub IsWord : List ℕ → Word → Type 0
 IsWord text (Order file) = text ≡ codes "order=" ++ file
 IsWord text (Turns n) = IsTurnsWord text n
 IsWord text Report = text ≡ codes "report"
+IsWord text Checked = text ≡ codes "checked"
+IsWord text Save = text ≡ codes "save"
 IsWord text (Links capacity) = IsLinksWord text capacity
 IsWord text (Latency ticks) = IsLatencyWord text ticks
 IsWord text (Grid grid) = IsGridWord text grid

@@ -14,8 +14,8 @@ use Rattle.call_claims.proofs.OneLemmas.{adds_one, set_word, sets_are, word_is_o
 use Rattle.call_words.specs.Reading.{asked_with, word_in}
 use Rattle.call_words.specs.declared.asked.Asked.{Asked as Read}
 use Rattle.call_words.specs.declared.words.Word.{Word}
-use Rattle.call_words.specs.declared.words.Word.TheVariants.{Order, Turns, Report, Links, Latency, Grid}
-use Rattle.call_words.specs.declared.words.Word.TheVariants.{Letters}
+use Rattle.call_words.specs.declared.words.Word.TheVariants.{Order, Turns, Report, Checked, Save, Links}
+use Rattle.call_words.specs.declared.words.Word.TheVariants.{Latency, Grid, Letters}
 
 -- ---- one word
 pub set_adds : (asked : Read) (text : List ℕ) (setting : Setting) (settings : List Setting)
@@ -36,6 +36,10 @@ sets_none settings text (Turns n) is =
     ap (λ s. settings ++ one_or_none s) (sets_are text (word_in (Turns n)) is) ∙ append-nil settings
 sets_none settings text Report is =
     ap (λ s. settings ++ one_or_none s) (sets_are text (word_in Report) is) ∙ append-nil settings
+sets_none settings text Checked is =
+    ap (λ s. settings ++ one_or_none s) (sets_are text (word_in Checked) is) ∙ append-nil settings
+sets_none settings text Save is =
+    ap (λ s. settings ++ one_or_none s) (sets_are text (word_in Save) is) ∙ append-nil settings
 sets_none settings text (Links capacity) is =
     ap (λ s. settings ++ one_or_none s) (sets_are text (word_in (Links capacity)) is) ∙ append-nil settings
 sets_none settings text (Latency ticks) is =

@@ -3,8 +3,9 @@ use Rattle.std.specs.Prelude.{◌≡◌, ℕ, List, ◌++◌, codes, map, string
 use Rattle.std.specs.Option.{option_map}
 use Rattle.call_claims.specs.of_zpl_binding.Settings.{Setting}
 use Rattle.call_claims.specs.Command as claims
-use Rattle.call_claims.specs.Command.{IsExec, IsGen, IsList, IsMean, IsRun, IsTime, ExecTakes}
-use Rattle.call_claims.specs.Command.{GenTakes, ListTakes, MeanTakes, RunTakes, TimeTakes}
+use Rattle.call_claims.specs.Command.{IsCheck, IsExec, IsGen, IsList, IsMean, IsResume, IsRun, IsTime}
+use Rattle.call_claims.specs.Command.{CheckTakes, ExecTakes, GenTakes, ListTakes, MeanTakes}
+use Rattle.call_claims.specs.Command.{ResumeTakes, RunTakes, TimeTakes}
 use Rattle.call_claims.specs.Setting.{settings_among}
 use Rattle.call_claims.specs.Words as words
 use Rattle.call_words.specs.declared.asked.Asked.{Asked}
@@ -14,13 +15,15 @@ use Rattle.call_words.specs.declared.commands.FileCommand.{FileCommand}
 use Rattle.call_words.specs.declared.commands.Verb.{Verb}
 use Rattle.call_words.specs.declared.commands.Verb.TheVariants as verb
 use Rattle.call_words.specs.declared.words.Word.{Word}
-use Rattle.call_words.specs.declared.words.Word.TheVariants.{Order, Turns, Report, Links, Latency, Grid}
-use Rattle.call_words.specs.declared.words.Word.TheVariants.{Letters}
+use Rattle.call_words.specs.declared.words.Word.TheVariants.{Order, Turns, Report, Checked, Save, Links}
+use Rattle.call_words.specs.declared.words.Word.TheVariants.{Latency, Grid, Letters}
 
 abbrev pub word_in : Word → words.Word
 word_in (Order file) = words.Order file.now
 word_in (Turns n) = words.Turns n
 word_in Report = words.Report
+word_in Checked = words.Checked
+word_in Save = words.Save
 word_in (Links capacity) = words.Links capacity
 word_in (Latency ticks) = words.Latency ticks
 word_in (Grid grid) = words.Grid grid
@@ -38,6 +41,8 @@ asked_with asked settings = record {
   order = option_map (λ file. file.now) asked.order;
   turns = asked.turns;
   report = asked.report;
+  checked = asked.checked;
+  save = asked.save;
   links = asked.links;
   latency = asked.latency;
   grid = asked.grid;
@@ -56,6 +61,8 @@ name_of verb.Mean = codes "mean"
 name_of verb.Run = codes "run"
 name_of verb.Exec = codes "exec"
 name_of verb.Time = codes "time"
+name_of verb.Check = codes "check"
+name_of verb.Resume = codes "resume"
 name_of verb.Gen = codes "gen"
 
 abbrev pub Takes : Verb → claims.Asked → Type 0
@@ -64,6 +71,8 @@ Takes verb.Mean asked = MeanTakes asked
 Takes verb.Run asked = RunTakes asked
 Takes verb.Exec asked = ExecTakes asked
 Takes verb.Time asked = TimeTakes asked
+Takes verb.Check asked = CheckTakes asked
+Takes verb.Resume asked = ResumeTakes asked
 Takes verb.Gen asked = GenTakes asked
 
 -- what the second word of such a command is: the name of a file, whatever it holds; or a number
@@ -78,6 +87,8 @@ IsCommandIn verb.Mean of c = c ≡ command.Mean of
 IsCommandIn verb.Run of c = c ≡ command.Run of
 IsCommandIn verb.Exec of c = c ≡ command.Exec of
 IsCommandIn verb.Time of c = c ≡ command.Time of
+IsCommandIn verb.Check of c = c ≡ command.Check of
+IsCommandIn verb.Resume of c = c ≡ command.Resume of
 IsCommandIn verb.Gen of c = (n : ℕ) × words.IsSeed of.file.now n
     × (c ≡ command.Gen (record { seed = n; asked = of.asked }))
 
@@ -88,4 +99,6 @@ IsRead words (command.Mean of) = IsMean words of.file.now (asked_in of.asked)
 IsRead words (command.Run of) = IsRun words of.file.now (asked_in of.asked)
 IsRead words (command.Exec of) = IsExec words of.file.now (asked_in of.asked)
 IsRead words (command.Time of) = IsTime words of.file.now (asked_in of.asked)
+IsRead words (command.Check of) = IsCheck words of.file.now (asked_in of.asked)
+IsRead words (command.Resume of) = IsResume words of.file.now (asked_in of.asked)
 IsRead words (command.Gen of) = IsGen words of.seed (asked_in of.asked)

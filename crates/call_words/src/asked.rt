@@ -23,6 +23,10 @@ pub struct Asked<'a> {
     pub turns: Option<u64>,
     /// Whether a report is wanted.
     pub report: bool,
+    /// Whether code is run only where it is sound.
+    pub checked: bool,
+    /// Whether a grid that may go on is saved.
+    pub save: bool,
     /// The most messages on a link, where a word tells them.
     pub links: Option<u32>,
     /// For how many ticks a message is on its way, where a word tells it.
@@ -85,6 +89,8 @@ pub fn asked_of(words: &[String]) -> Option<Asked<'_>>
         order: None,
         turns: None,
         report: false,
+        checked: false,
+        save: false,
         links: None,
         latency: None,
         grid: None,
@@ -142,6 +148,20 @@ fn with_word<'a>(asked: Asked<'a>, word: Word<'a>) -> Option<Asked<'a>>
         Word::Report => match asked.report {
             false => Some(Asked {
                 report: true,
+                ..asked
+            }),
+            true => None,
+        },
+        Word::Checked => match asked.checked {
+            false => Some(Asked {
+                checked: true,
+                ..asked
+            }),
+            true => None,
+        },
+        Word::Save => match asked.save {
+            false => Some(Asked {
+                save: true,
                 ..asked
             }),
             true => None,

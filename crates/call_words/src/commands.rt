@@ -1,6 +1,6 @@
 //! The commands.
 ghost use Rattle.std.specs.Prelude.{◌≢◌, ◌≡◌, ◌∷◌, ℕ, map, MatchBool, MatchOption, string_bytes};
-ghost use Rattle.call_claims.specs.Command.{IsNoCommand};
+ghost use Rattle.call_claims.specs.Command.{GoTogether, IsNoCommand, ResumeTakes};
 ghost use Rattle.call_claims.specs.Words.{IsSeed};
 ghost use Rattle.call_words.specs.Reading.{asked_in, name_of, IsCommandIn, IsRead, IsSecond};
 ghost use Rattle.call_words.specs.Reading.{Takes};
@@ -39,10 +39,15 @@ pub enum Command<'a> {
     /// `run FILE`, then `grid=AxBxC`, `opt=LETTERS`, `order=FILE`, `turns=N`, `report`, `links=C`
     /// and settings.
     Run(FileCommand<'a>),
-    /// `exec FILE`, then `order=FILE`, `turns=N`, `report` and `links=C`.
+    /// `exec FILE`, then `order=FILE`, `turns=N`, `report`, `links=C`, `checked` and `save`:
+    /// `checked` not with `links=C`, and `save` with none of `report`, `links=C` and `checked`.
     Exec(FileCommand<'a>),
     /// `time FILE`, then `order=FILE`, `turns=N` and `latency=L`.
     Time(FileCommand<'a>),
+    /// `check FILE`.
+    Check(FileCommand<'a>),
+    /// `resume FILE`, then `order=FILE`, `turns=N` and `report`.
+    Resume(FileCommand<'a>),
     /// `gen N`, then `opt=LETTERS` and `turns=N`.
     Gen(GenCommand<'a>),
 }
@@ -55,6 +60,8 @@ enum Verb {
     Run,
     Exec,
     Time,
+    Check,
+    Resume,
     Gen,
 }
 
@@ -118,6 +125,12 @@ fn verb_of(word: &[u8]) -> Option<Verb>
     if word == b"time".as_slice() {
         return Some(Verb::Time);
     }
+    if word == b"check".as_slice() {
+        return Some(Verb::Check);
+    }
+    if word == b"resume".as_slice() {
+        return Some(Verb::Resume);
+    }
     if word == b"gen".as_slice() {
         return Some(Verb::Gen);
     }
@@ -134,39 +147,76 @@ fn takes(verb: Verb, asked: Asked<'_>) -> bool
             asked.order.is_none()
                 && asked.turns.is_none()
                 && !asked.report
+                && !asked.checked
+                && !asked.save
                 && asked.latency.is_none()
         }
         Verb::Mean => {
             asked.order.is_none()
                 && !asked.report
+                && !asked.checked
+                && !asked.save
                 && asked.links.is_none()
                 && asked.latency.is_none()
                 && asked.grid.is_none()
                 && asked.options.is_none()
         }
-        Verb::Run => asked.latency.is_none(),
+        Verb::Run => !asked.checked && !asked.save && asked.latency.is_none(),
         Verb::Exec => {
             sets_nothing(asked.words)
+                && go_together(asked)
                 && asked.latency.is_none()
                 && asked.grid.is_none()
                 && asked.options.is_none()
         }
         Verb::Time => {
             !asked.report
+                && !asked.checked
+                && !asked.save
                 && asked.links.is_none()
                 && sets_nothing(asked.words)
                 && asked.grid.is_none()
                 && asked.options.is_none()
         }
+        Verb::Check => asked.turns.is_none()
+            && asked.order.is_none()
+            && !asked.report
+            && is_plain(asked),
+        Verb::Resume => is_plain(asked),
         Verb::Gen => {
             asked.order.is_none()
                 && !asked.report
+                && !asked.checked
+                && !asked.save
                 && asked.links.is_none()
                 && asked.latency.is_none()
                 && asked.grid.is_none()
                 && sets_nothing(asked.words)
         }
     }
+}
+
+/// Whether `checked` stands without `links=C`, and `save` without these and `report`.
+fn go_together(asked: Asked<'_>) -> bool
+    ensures { MatchBool result
+        (GoTogether (asked_in asked.entry)) (¬ GoTogether (asked_in asked.entry)) }
+{
+    (!asked.checked || asked.links.is_none())
+        && (!asked.save || !asked.report && asked.links.is_none() && !asked.checked)
+}
+
+/// Whether no more is asked for than an order, turns and a report.
+fn is_plain(asked: Asked<'_>) -> bool
+    ensures { MatchBool result
+        (ResumeTakes (asked_in asked.entry)) (¬ ResumeTakes (asked_in asked.entry)) }
+{
+    !asked.checked
+        && !asked.save
+        && asked.links.is_none()
+        && sets_nothing(asked.words)
+        && asked.latency.is_none()
+        && asked.grid.is_none()
+        && asked.options.is_none()
 }
 
 /// The command of this name, or None where it is one of a number and the second word is none.
@@ -180,6 +230,8 @@ fn command_with<'a>(verb: Verb, of: FileCommand<'a>) -> Option<Command<'a>>
         Verb::Run => Some(Command::Run(of)),
         Verb::Exec => Some(Command::Exec(of)),
         Verb::Time => Some(Command::Time(of)),
+        Verb::Check => Some(Command::Check(of)),
+        Verb::Resume => Some(Command::Resume(of)),
         Verb::Gen => match seed_of(of.file.as_bytes()) {
             Some(seed) => Some(Command::Gen(GenCommand {
                 seed,

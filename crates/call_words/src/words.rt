@@ -21,6 +21,10 @@ pub enum Word<'a> {
     Turns(u64),
     /// A report is wanted.
     Report,
+    /// Code is run only where it is sound.
+    Checked,
+    /// A grid that may go on is saved.
+    Save,
     /// The most messages on a link.
     Links(u32),
     /// For how many ticks a message is on its way.
@@ -40,6 +44,12 @@ pub fn word_of(text: &str) -> Option<Word<'_>>
 {
     if text == "report" {
         return Some(Word::Report);
+    }
+    if text == "checked" {
+        return Some(Word::Checked);
+    }
+    if text == "save" {
+        return Some(Word::Save);
     }
     if let Some(file) = order_of(text) {
         return Some(Word::Order(file));
