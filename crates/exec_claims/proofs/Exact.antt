@@ -12,17 +12,20 @@ use Rattle.call_claims.specs.declared.status.TheConstants.{TURN_LIMIT}
 use Rattle.call_claims.specs.Command.{Asked, ExecTakes}
 use Rattle.call_claims.proofs.OneLemmas.{as_asked}
 use Rattle.grid_runs.specs.Run.{Run, GoesOnTo, IsLimitedAt}
-use Rattle.exec_claims.specs.Cause.{RunCause, OrderCause, OrderFileCause, ListingCause}
-use Rattle.exec_claims.specs.Cause.{ListingFileCause, Cause, Source, run_of}
+use Rattle.exec_claims.specs.Cause.{RunCause, OrderCause, OrderFileCause, CheckFails, CodeCause, ListingCause}
+use Rattle.exec_claims.specs.Cause.{ListedCause, ListingFileCause, Cause, Source, run_of}
 use Rattle.exec_claims.specs.Cause.RunCause.{done, trap, turn_limit, stuck, idle}
 use Rattle.exec_claims.specs.Cause.OrderCause.{bad_item, ran}
 use Rattle.exec_claims.specs.Cause.TextCause.{unreadable, too_long, work}
+use Rattle.exec_claims.specs.Cause.CheckFails.{unsound, too_large}
+use Rattle.exec_claims.specs.Cause.CodeCause.{fails, passes}
 use Rattle.exec_claims.specs.Cause.ListingCause.{bad_line, bad_table, listed}
 use Rattle.exec_claims.specs.Cause.Cause.{no_memory, exec}
 use Rattle.exec_claims.specs.Decided.{IsOrderText, HasRun, RunsTo, IsDoneAt, IsTrapAt}
 use Rattle.exec_claims.specs.Decided.{IsStuckOrIdleAt, HasNoListing, ExecsNoListing}
 use Rattle.exec_claims.specs.declared.status.TheConstants.{ORDER_REFUSED, LISTING_REFUSED, STUCK}
 use Rattle.exec_claims.proofs.RunStatus.{IsRunStatus, is_done, is_limit, is_stuck, is_trapped}
+use Rattle.exec_claims.proofs.CheckLemmas.{fails_other}
 use Rattle.exec_claims.proofs.OneCause.{cause_one, text_short, texts_same}
 use Rattle.grid_order.specs.Reading.{reading}
 use Rattle.grid_meaning.specs.Grid.{processors}
@@ -129,18 +132,24 @@ module _ (call : Call) (code : Tables) (asked : Asked) (turns : ℕ) where
 
 -- ---- files of listings
 module _ (call : Call) (ex : Execution) (file : List ℕ) (asked : Asked) where
+  not_run : {code : Tables} {n : ℕ} {told : List ℕ} → CheckFails code n told → IsRunStatus n → ⊥
+  not_run (unsound at f) s = s.sound refl
+  not_run (too_large f) s = s.small refl
+
   listing_run : (source : Source call file) {n : ℕ} {told : List ℕ}
-      → ListingCause call asked ex source.text n told → IsRunStatus n
+      → ListingCause ex (CodeCause call asked ex.turns) source.text n told → IsRunStatus n
       → HasRun call file asked ex (λ run k. RunCause run asked.report k n told)
   listing_run source (bad_line line e z) s = absurd (s.listing refl)
   listing_run source (bad_table line e z) s = absurd (s.listing refl)
-  listing_run source (listed code is made c) s =
+  listing_run source (listed code is made (fails asks z f)) s = absurd (not_run f s)
+  listing_run source (listed code is made (passes passed c)) s =
       let o = order_file_run call code asked ex.turns asked.order c s.order s.unreadable s.too_long in
       record {
         source = source;
         code = code;
         listing = is;
         made = made;
+        sound = passed;
         text = o.0;
         order_text = o.1;
         order = o.2.order;
@@ -161,38 +170,70 @@ module _ (call : Call) (ex : Execution) (file : List ℕ) (asked : Asked) where
   file_cause h f =
       let c = f (run_of h.code asked h.order) ex.turns asked.report h.holds in (
         c.0,
-        work h.source (listed h.code h.listing h.made
+        work h.source (listed h.code h.listing h.made (passes h.sound
             (order_file_cause call h.code asked ex.turns asked.order h.text h.order_text
-            (ran h.order h.read h.goes_on c.1))),
+            (ran h.order h.read h.goes_on c.1)))),
       )
 
-  module _ (line_law : (bytes : List ℕ) (tables : Tables) (number : ℕ) → IsListing bytes tables
-      → IsBadLine bytes number → ⊥)
-      (table_law : (bytes : List ℕ) (tables : Tables) (number : ℕ) → IsListing bytes tables
-      → IsBadTable bytes number → ⊥) where
-    no_code : (text : List ℕ) {n : ℕ} {told : List ℕ} → ListingCause call asked ex text n told
-        → n ≡ LISTING_REFUSED → (code : Tables) → ¬ IsListing text code
-    no_code text (bad_line line e z) h = λ code is. line_law text code line is e
-    no_code text (bad_table line e z) h = λ code is. table_law text code line is e
-    no_code text (listed code is made c) h =
-        absurd (order_file_other call code asked ex.turns asked.order _ _ c h)
+-- ---- texts that are no listing
+-- work on code has another status
+pub record IsUnrefused (Works : Tables → ℕ → List ℕ → Type 0) : Type 0 where
+  pub other : (code : Tables) (n : ℕ) (told : List ℕ) → Works code n told → n ≢ LISTING_REFUSED
 
-    pub file_listing : {n : ℕ} {told : List ℕ} → ListingFileCause call file asked ex n told
-        → n ≡ LISTING_REFUSED → HasNoListing call file
-    file_listing (unreadable may ends) h = absurd (omega arith)
-    file_listing (too_long long ends) h = absurd (omega arith)
-    file_listing (work source w) h = (source, no_code source.text w h)
+pub code_other : (call : Call) (asked : Asked) (turns : ℕ) → IsUnrefused (CodeCause call asked turns)
+code_other call asked turns = record { other = other }
+  where
+    other : (code : Tables) (n : ℕ) (told : List ℕ) → CodeCause call asked turns code n told
+        → n ≢ LISTING_REFUSED
+    other code n told (fails asks z f) = (fails_other f).listing
+    other code n told (passes passed c) =
+        order_file_other call code asked turns asked.order n told c
+
+module _ (call : Call) (ex : Execution) (file : List ℕ) (Works : Tables → ℕ → List ℕ → Type 0)
+  where
+    module _ (works : IsUnrefused Works)
+        (line_law : (bytes : List ℕ) (tables : Tables) (number : ℕ) → IsListing bytes tables
+        → IsBadLine bytes number → ⊥)
+        (table_law : (bytes : List ℕ) (tables : Tables) (number : ℕ) → IsListing bytes tables
+        → IsBadTable bytes number → ⊥) where
+      no_code : (text : List ℕ) {n : ℕ} {told : List ℕ} → ListingCause ex Works text n told
+          → n ≡ LISTING_REFUSED → (code : Tables) → ¬ IsListing text code
+      no_code text (bad_line line e z) h = λ code is. line_law text code line is e
+      no_code text (bad_table line e z) h = λ code is. table_law text code line is e
+      no_code text (listed code is made c) h = absurd (works.other code _ _ c h)
+
+      pub listed_none : {n : ℕ} {told : List ℕ} → ListedCause call file ex Works n told
+          → n ≡ LISTING_REFUSED → HasNoListing call file
+      listed_none (unreadable may ends) h = absurd (omega arith)
+      listed_none (too_long long ends) h = absurd (omega arith)
+      listed_none (work source w) h = (source, no_code source.text w h)
+
+    pub listed_refused : {n : ℕ} {told : List ℕ} (m : ℕ) → IsSettled call m → HasNoListing call file
+        → ListedCause call file ex Works n told → n ≢ UNREADABLE → n ≡ LISTING_REFUSED
+    listed_refused m settled none (unreadable may ends) a = absurd (a refl)
+    listed_refused m settled none (too_long long ends) a =
+        absurd (text_short call file m settled long none.0)
+    listed_refused m settled none (work source (bad_line line e z)) a = refl
+    listed_refused m settled none (work source (bad_table line e z)) a = refl
+    listed_refused m settled none (work source (listed code is made c)) a =
+        absurd (none.1 code (subst (λ t. IsListing t code)
+        (texts_same call file m settled source none.0) is))
+
+module _ (call : Call) (ex : Execution) (file : List ℕ) (asked : Asked) where
+  pub file_listing : ((bytes : List ℕ) (tables : Tables) (number : ℕ) → IsListing bytes tables
+      → IsBadLine bytes number → ⊥)
+      → ((bytes : List ℕ) (tables : Tables) (number : ℕ) → IsListing bytes tables
+      → IsBadTable bytes number → ⊥)
+      → {n : ℕ} {told : List ℕ} → ListingFileCause call file asked ex n told
+      → n ≡ LISTING_REFUSED → HasNoListing call file
+  file_listing line table c h =
+      listed_none call ex file (CodeCause call asked ex.turns) (code_other call asked ex.turns) line
+      table c h
 
   pub file_refused : {n : ℕ} {told : List ℕ} (m : ℕ) → IsSettled call m → HasNoListing call file
       → ListingFileCause call file asked ex n told → n ≢ UNREADABLE → n ≡ LISTING_REFUSED
-  file_refused m settled none (unreadable may ends) a = absurd (a refl)
-  file_refused m settled none (too_long long ends) a =
-      absurd (text_short call file m settled long none.0)
-  file_refused m settled none (work source (bad_line line e z)) a = refl
-  file_refused m settled none (work source (bad_table line e z)) a = refl
-  file_refused m settled none (work source (listed code is made c)) a =
-      absurd (none.1 code (subst (λ t. IsListing t code)
-      (texts_same call file m settled source none.0) is))
+  file_refused m settled none c a =
+      listed_refused call ex file (CodeCause call asked ex.turns) m settled none c a
 
 -- ---- any call
 module _ (call : Call) (ex : Execution) (n : ℕ) (told : List ℕ) where
@@ -237,6 +278,7 @@ module _ (call : Call) (ex : Execution) (n : ℕ) (told : List ℕ) where
             code = h.code;
             listing = h.listing;
             made = h.made;
+            sound = h.sound;
             text = h.text;
             order_text = h.order_text;
             order = h.order;

@@ -6,12 +6,14 @@ use Rattle.call_claims.specs.Call.{Call}
 use Rattle.call_claims.specs.Command.{Asked}
 use Rattle.call_claims.specs.Execution.{Execution}
 use Rattle.call_claims.specs.declared.status.TheConstants.{USAGE}
-use Rattle.exec_claims.specs.Cause.{Cause, ListingFileCause, OrderCause, OrderFileCause, RunCause}
+use Rattle.exec_claims.specs.Cause.{Cause, CodeCause, ListingFileCause, OrderCause, OrderFileCause, RunCause}
 use Rattle.exec_claims.specs.Cause.RunCause.{done, trap, turn_limit, stuck, idle}
 use Rattle.exec_claims.specs.Cause.OrderCause.{bad_item, ran}
 use Rattle.exec_claims.specs.Cause.TextCause.{unreadable, too_long, work}
+use Rattle.exec_claims.specs.Cause.CodeCause.{fails, passes}
 use Rattle.exec_claims.specs.Cause.ListingCause.{bad_line, bad_table, listed}
 use Rattle.exec_claims.specs.Cause.Cause.{no_memory, exec}
+use Rattle.exec_claims.proofs.CheckLemmas.{fails_other}
 
 run_known : {run : Run} {report : Bool} {k n : ℕ} {told : List ℕ} → RunCause run report k n told
     → n ≢ USAGE
@@ -40,7 +42,9 @@ file_known call ex file asked (unreadable may ends) = λ h. omega arith
 file_known call ex file asked (too_long long ends) = λ h. omega arith
 file_known call ex file asked (work source (bad_line line e z)) = λ h. omega arith
 file_known call ex file asked (work source (bad_table line e z)) = λ h. omega arith
-file_known call ex file asked (work source (listed code is made c)) =
+file_known call ex file asked (work source (listed code is made (fails asks z f))) =
+    (fails_other f).usage
+file_known call ex file asked (work source (listed code is made (passes passed c))) =
     order_file_known call code asked ex.turns asked.order _ _ c
 
 pub cause_known : {call : Call} {ex : Execution} {n : ℕ} {told : List ℕ} → Cause call ex n told

@@ -1,3 +1,5 @@
+pub mod CheckExact
+pub mod CheckLemmas
 pub mod Exact
 pub mod KnownLemmas
 pub mod OneCause

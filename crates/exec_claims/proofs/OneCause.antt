@@ -14,13 +14,15 @@ use Rattle.call_claims.specs.declared.status.TheConstants.{UNREADABLE}
 use Rattle.call_claims.specs.Command.{Asked, ExecTakes}
 use Rattle.call_claims.proofs.OneLemmas.{as_asked}
 use Rattle.grid_runs.specs.Run.{Run}
-use Rattle.exec_claims.specs.Cause.{RunCause, OrderCause, TextCause, OrderFileCause, ListingCause}
-use Rattle.exec_claims.specs.Cause.{ListingFileCause, Cause, Source, IsTooLong, run_of}
+use Rattle.exec_claims.specs.Cause.{RunCause, OrderCause, TextCause, OrderFileCause, CodeCause, ListingCause}
+use Rattle.exec_claims.specs.Cause.{ListedCause, ListingFileCause, Cause, Source, IsTooLong, run_of}
 use Rattle.exec_claims.specs.Cause.RunCause.{done, trap, turn_limit, stuck, idle}
 use Rattle.exec_claims.specs.Cause.OrderCause.{bad_item, ran}
 use Rattle.exec_claims.specs.Cause.TextCause.{unreadable, too_long, work}
+use Rattle.exec_claims.specs.Cause.CodeCause.{fails, passes}
 use Rattle.exec_claims.specs.Cause.ListingCause.{bad_line, bad_table, listed}
 use Rattle.exec_claims.specs.Cause.Cause.{no_memory, exec}
+use Rattle.exec_claims.proofs.CheckLemmas.{fails_one, not_failed}
 
 -- ---- a run
 ends_one : (ending : Option End) (kind : TrapKind) (line : ℕ) → ending ≡ Some Done
@@ -136,44 +138,86 @@ unfolding TellsOne
 one_file call one n m None a b = tt
 one_file call one n m (Some file) a b = (a, b, one file)
 
-module _ (call : Call) (one : TellsOne call) (asked : Asked) where
-  module _ (execution : Execution)
-      (line_law : (bytes : List ℕ) (tables : Tables) (number : ℕ) → IsListing bytes tables
-      → IsBadLine bytes number → ⊥)
-      (table_law : (bytes : List ℕ) (tables : Tables) (number : ℕ) → IsListing bytes tables
-      → IsBadTable bytes number → ⊥) where
-    same_code : (code other : Tables) → execution.code ≡ Some code → execution.code ≡ Some other
-        → code ≡ other
-    same_code code other a b = let same : Some code ≡ Some other = sym a ∙ b in cc
+-- ---- the code
+-- work on one code has one status, where no fetch failed
+pub IsOneCode : (Tables → ℕ → List ℕ → Type 0) → Type 0
+IsOneCode Works = (code : Tables) (n m : ℕ) (told other : List ℕ) → Works code n told
+    → Works code m other → n ≢ UNREADABLE → m ≢ UNREADABLE → n ≡ m
 
-    listing_one : (text : List ℕ) {n m : ℕ} {told other : List ℕ}
-        → ListingCause call asked execution text n told
-        → ListingCause call asked execution text m other → n ≢ UNREADABLE → m ≢ UNREADABLE → n ≡ m
-    listing_one text (bad_line line e z) (bad_line at f none) a b = refl
-    listing_one text (bad_line line e z) (bad_table at f none) a b = refl
-    listing_one text (bad_line line e z) (listed code is made c) a b = absurd (line_law text code line is e)
-    listing_one text (bad_table line e z) (bad_line at f none) a b = refl
-    listing_one text (bad_table line e z) (bad_table at f none) a b = refl
-    listing_one text (bad_table line e z) (listed code is made c) a b = absurd (table_law text code line is e)
-    listing_one text (listed code is made c) (bad_line line e z) a b = absurd (line_law text code line is e)
-    listing_one text (listed code is made c) (bad_table line e z) a b = absurd (table_law text code line is e)
-    listing_one text {n = n} {m = m} {told = told} {other = other} (listed code is made c)
-        (listed more also too d) a b =
-        order_file_one call asked more execution.turns asked.order n m told other
-        (one_file call one n m asked.order a b)
-        (subst (λ t. OrderFileCause call t asked execution.turns asked.order n told)
-        (same_code code more made too) c) d
+pub one_code : (Works : Tables → ℕ → List ℕ → Type 0)
+    → ((code : Tables) (n m : ℕ) (told other : List ℕ) → Works code n told → Works code m other
+    → n ≢ UNREADABLE → m ≢ UNREADABLE → n ≡ m) → IsOneCode Works
+unfolding IsOneCode
+one_code Works one = one
 
-    listings_one : IsOneWork (ListingCause call asked execution)
-    unfolding IsOneWork
-    listings_one = λ text n m told other c d a b. listing_one text c d a b
+code_one : (call : Call) → TellsOne call → (asked : Asked) (turns : ℕ) (code : Tables)
+    {n m : ℕ} {told other : List ℕ} → CodeCause call asked turns code n told
+    → CodeCause call asked turns code m other → n ≢ UNREADABLE → m ≢ UNREADABLE → n ≡ m
+code_one call one asked turns code (fails asks z f) (fails also y g) a b = fails_one f g
+code_one call one asked turns code (fails asks z f) (passes is c) a b =
+    absurd (not_failed asked is asks f)
+code_one call one asked turns code (passes is c) (fails asks z f) a b =
+    absurd (not_failed asked is asks f)
+code_one call one asked turns code {n = n} {m = m} {told = told} {other = other} (passes is c) (passes also d) a b =
+    order_file_one call asked code turns asked.order n m told other
+    (one_file call one n m asked.order a b) c d
 
-    pub file_one : (file : List ℕ) {n m : ℕ} {told other : List ℕ}
-        → ListingFileCause call file asked execution n told
-        → ListingFileCause call file asked execution m other → n ≢ UNREADABLE → m ≢ UNREADABLE
-        → n ≡ m
-    unfolding TellsOne
-    file_one file c d a b = text_one call file (one file) listings_one c d a b
+-- ---- the listing
+module _ (call : Call) (one : TellsOne call) (execution : Execution)
+    (Works : Tables → ℕ → List ℕ → Type 0) (works : IsOneCode Works)
+    (line_law : (bytes : List ℕ) (tables : Tables) (number : ℕ) → IsListing bytes tables
+    → IsBadLine bytes number → ⊥)
+    (table_law : (bytes : List ℕ) (tables : Tables) (number : ℕ) → IsListing bytes tables
+    → IsBadTable bytes number → ⊥) where
+  same_code : (code other : Tables) → execution.code ≡ Some code → execution.code ≡ Some other
+      → code ≡ other
+  same_code code other a b = let same : Some code ≡ Some other = sym a ∙ b in cc
+
+  listing_one : (text : List ℕ) {n m : ℕ} {told other : List ℕ}
+      → ListingCause execution Works text n told → ListingCause execution Works text m other
+      → n ≢ UNREADABLE → m ≢ UNREADABLE → n ≡ m
+  unfolding IsOneCode
+  listing_one text (bad_line line e z) (bad_line at f none) a b = refl
+  listing_one text (bad_line line e z) (bad_table at f none) a b = refl
+  listing_one text (bad_line line e z) (listed code is made c) a b = absurd (line_law text code line is e)
+  listing_one text (bad_table line e z) (bad_line at f none) a b = refl
+  listing_one text (bad_table line e z) (bad_table at f none) a b = refl
+  listing_one text (bad_table line e z) (listed code is made c) a b = absurd (table_law text code line is e)
+  listing_one text (listed code is made c) (bad_line line e z) a b = absurd (line_law text code line is e)
+  listing_one text (listed code is made c) (bad_table line e z) a b = absurd (table_law text code line is e)
+  listing_one text {n = n} {m = m} {told = told} {other = other} (listed code is made c)
+      (listed more also too d) a b =
+      works more n m told other
+      (subst (λ t. Works t n told) (same_code code more made too) c) d a b
+
+  listings_one : IsOneWork (ListingCause execution Works)
+  unfolding IsOneWork
+  listings_one = λ text n m told other c d a b. listing_one text c d a b
+
+  pub listed_one : (file : List ℕ) {n m : ℕ} {told other : List ℕ}
+      → ListedCause call file execution Works n told
+      → ListedCause call file execution Works m other → n ≢ UNREADABLE → m ≢ UNREADABLE
+      → n ≡ m
+  unfolding TellsOne
+  listed_one file c d a b = text_one call file (one file) listings_one c d a b
+
+module _ (call : Call) (one : TellsOne call) (asked : Asked) (execution : Execution)
+    (line_law : (bytes : List ℕ) (tables : Tables) (number : ℕ) → IsListing bytes tables
+    → IsBadLine bytes number → ⊥)
+    (table_law : (bytes : List ℕ) (tables : Tables) (number : ℕ) → IsListing bytes tables
+    → IsBadTable bytes number → ⊥) where
+  codes_one : IsOneCode (CodeCause call asked execution.turns)
+  codes_one =
+      one_code (CodeCause call asked execution.turns) (λ code n m told other c d a b.
+      code_one call one asked execution.turns code c d a b)
+
+  pub file_one : (file : List ℕ) {n m : ℕ} {told other : List ℕ}
+      → ListingFileCause call file asked execution n told
+      → ListingFileCause call file asked execution m other → n ≢ UNREADABLE → m ≢ UNREADABLE
+      → n ≡ m
+  file_one file c d a b =
+      listed_one call one execution (CodeCause call asked execution.turns) codes_one line_law
+      table_law file c d a b
 
 -- ---- any call
 pub tells_one : (call : Call) (n : ℕ) → IsSettled call n → TellsOne call

@@ -13,16 +13,18 @@ use Rattle.call_claims.proofs.OneLemmas.{as_asked}
 use Rattle.grid_runs.specs.Run.{Run}
 use Rattle.grid_meaning.specs.Grid.{processors}
 use Rattle.grid_order.specs.Reading.{reading}
-use Rattle.exec_claims.specs.Cause.{RunCause, OrderCause, OrderFileCause}
+use Rattle.exec_claims.specs.Cause.{RunCause, OrderCause, OrderFileCause, PassesCheck}
 use Rattle.exec_claims.specs.Cause.{ListingFileCause, Cause, Source, IsTooLong, run_of}
 use Rattle.exec_claims.specs.Cause.RunCause.{done, trap, turn_limit, stuck, idle}
 use Rattle.exec_claims.specs.Cause.OrderCause.{bad_item, ran}
 use Rattle.exec_claims.specs.Cause.TextCause.{unreadable, too_long, work}
+use Rattle.exec_claims.specs.Cause.CodeCause.{fails, passes}
 use Rattle.exec_claims.specs.Cause.ListingCause.{bad_line, bad_table, listed}
 use Rattle.exec_claims.specs.Cause.Cause.{no_memory, exec}
-use Rattle.exec_claims.specs.Decided.{IsOneOrder, IsOrderText, HasListing, HasLongOrder}
+use Rattle.exec_claims.specs.Decided.{IsOneOrder, IsOrderText, HasListing, HasLongOrder, HasPassed}
 use Rattle.exec_claims.specs.Decided.{ExecsTooLong, HasBadOrder, ExecsBadOrder}
 use Rattle.exec_claims.specs.declared.status.TheConstants.{ORDER_REFUSED}
+use Rattle.exec_claims.proofs.CheckLemmas.{fails_other, not_failed}
 use Rattle.exec_claims.proofs.OneCause.{not_long, read_one, same_text, text_short, texts_same}
 
 -- ---- a run has neither status
@@ -103,7 +105,7 @@ one_order call m settled (Some file) = (settled.read, settled.one file)
 -- ---- the listing
 module _ (call : Call) (ex : Execution) (file : List ℕ) (asked : Asked) where
   abbrev pub IsLong : Type 0
-  IsLong = IsTooLong call file ⊎ HasListing call file (λ code. HasLongOrder call asked.order)
+  IsLong = IsTooLong call file ⊎ HasPassed call file asked (λ code. HasLongOrder call asked.order)
 
   pub long_from : {n : ℕ} {told : List ℕ} → ListingFileCause call file asked ex n told
       → n ≡ TOO_LONG → IsLong
@@ -111,25 +113,31 @@ module _ (call : Call) (ex : Execution) (file : List ℕ) (asked : Asked) where
   long_from (too_long long ends) h = inl long
   long_from (work source (bad_line line e z)) h = absurd (omega arith)
   long_from (work source (bad_table line e z)) h = absurd (omega arith)
-  long_from (work source (listed code is made c)) h = inr (record {
+  long_from (work source (listed code is made (fails asks z f))) h =
+      absurd ((fails_other f).too_long h)
+  long_from (work source (listed code is made (passes passed c))) h = inr (record {
     source = source;
     code = code;
     listing = is;
-    holds = long_order call code asked ex.turns asked.order _ _ c h;
+    holds = (passed, long_order call code asked ex.turns asked.order _ _ c h);
   })
 
   pub wrong_from : {n : ℕ} {told : List ℕ} → ListingFileCause call file asked ex n told
-      → n ≡ ORDER_REFUSED → HasListing call file (HasBadOrder call asked)
+      → n ≡ ORDER_REFUSED → HasPassed call file asked (HasBadOrder call asked)
   wrong_from (unreadable may ends) h = absurd (omega arith)
   wrong_from (too_long long ends) h = absurd (omega arith)
   wrong_from (work source (bad_line line e z)) h = absurd (omega arith)
   wrong_from (work source (bad_table line e z)) h = absurd (omega arith)
-  wrong_from (work source (listed code is made c)) h = record {
+  wrong_from (work source (listed code is made (fails asks z f))) h =
+      absurd ((fails_other f).order h)
+  wrong_from (work source (listed code is made (passes passed c))) h = record {
     source = source;
     code = code;
     listing = is;
-    holds = let found = bad_order_file call code asked ex.turns asked.order _ _ c h in
-        record { text = found.0; order_text = found.1; at = found.2.0; bad = found.2.1 };
+    holds = let found = bad_order_file call code asked ex.turns asked.order _ _ c h in (
+      passed,
+      record { text = found.0; order_text = found.1; at = found.2.0; bad = found.2.1 },
+    );
   }
 
   module _ (m : ℕ) (settled : IsSettled call m)
@@ -143,36 +151,47 @@ module _ (call : Call) (ex : Execution) (file : List ℕ) (asked : Asked) where
     is_listed source h =
         subst (λ t. IsListing t h.code) (texts_same call file m settled h.source source) h.listing
 
-    pub long_to : {n : ℕ} {told : List ℕ} → ListingFileCause call file asked ex n told
-        → n ≢ UNREADABLE → IsOneOrder call n asked.order → IsLong → n ≡ TOO_LONG
-    long_to (unreadable may ends) a once h = absurd (a refl)
-    long_to (too_long long ends) a once h = refl
-    long_to (work source w) a once (inl long) =
-        absurd (text_short call file m settled long source)
-    long_to (work source (bad_line line e z)) a once (inr h) =
-        absurd (line_law source.text h.code line (is_listed source h) e)
-    long_to (work source (bad_table line e z)) a once (inr h) =
-        absurd (table_law source.text h.code line (is_listed source h) e)
-    long_to (work source (listed code is made c)) a once (inr h) =
-        was_long_order call code asked ex.turns asked.order _ _ c once h.holds
+    module _ (program : (bytes : List ℕ) (one other : Tables) → IsListing bytes one
+        → IsListing bytes other → one ≡ other) where
+      -- the listed code passes, and this holds of it
+      of_passed : {Holds : Tables → Type 0} (source : Source call file) (code : Tables)
+          → IsListing source.text code → HasPassed call file asked Holds
+          → PassesCheck asked code × Holds code
+      of_passed {Holds} source code is h =
+          subst (λ t. PassesCheck asked t × Holds t)
+          (program source.text h.code code (is_listed source h) is) h.holds
 
-    pub wrong_to_order : ((bytes : List ℕ) (one other : Tables) → IsListing bytes one
-        → IsListing bytes other → one ≡ other)
-        → {n : ℕ} {told : List ℕ} → ListingFileCause call file asked ex n told
-        → n ≢ UNREADABLE → IsOneOrder call n asked.order
-        → HasListing call file (HasBadOrder call asked) → n ≡ ORDER_REFUSED
-    wrong_to_order one (unreadable may ends) a once h = absurd (a refl)
-    wrong_to_order one (too_long long ends) a once h =
-        absurd (text_short call file m settled long h.source)
-    wrong_to_order one (work source (bad_line line e z)) a once h =
-        absurd (line_law source.text h.code line (is_listed source h) e)
-    wrong_to_order one (work source (bad_table line e z)) a once h =
-        absurd (table_law source.text h.code line (is_listed source h) e)
-    wrong_to_order one (work source (listed code is made c)) a once h =
-        let same = one source.text h.code code (is_listed source h) is in
-        let wrong = subst (HasBadOrder call asked) same h.holds in
-        was_bad_order call code asked ex.turns asked.order _ _ c once wrong.text wrong.order_text
-        wrong.at wrong.bad
+      pub long_to : {n : ℕ} {told : List ℕ} → ListingFileCause call file asked ex n told
+          → n ≢ UNREADABLE → IsOneOrder call n asked.order → IsLong → n ≡ TOO_LONG
+      long_to (unreadable may ends) a once h = absurd (a refl)
+      long_to (too_long long ends) a once h = refl
+      long_to (work source w) a once (inl long) =
+          absurd (text_short call file m settled long source)
+      long_to (work source (bad_line line e z)) a once (inr h) =
+          absurd (line_law source.text h.code line (is_listed source h) e)
+      long_to (work source (bad_table line e z)) a once (inr h) =
+          absurd (table_law source.text h.code line (is_listed source h) e)
+      long_to (work source (listed code is made (fails asks z f))) a once (inr h) =
+          absurd (not_failed asked (of_passed source code is h).0 asks f)
+      long_to (work source (listed code is made (passes passed c))) a once (inr h) =
+          was_long_order call code asked ex.turns asked.order _ _ c once h.holds.1
+
+      pub wrong_to_order : {n : ℕ} {told : List ℕ} → ListingFileCause call file asked ex n told
+          → n ≢ UNREADABLE → IsOneOrder call n asked.order
+          → HasPassed call file asked (HasBadOrder call asked) → n ≡ ORDER_REFUSED
+      wrong_to_order (unreadable may ends) a once h = absurd (a refl)
+      wrong_to_order (too_long long ends) a once h =
+          absurd (text_short call file m settled long h.source)
+      wrong_to_order (work source (bad_line line e z)) a once h =
+          absurd (line_law source.text h.code line (is_listed source h) e)
+      wrong_to_order (work source (bad_table line e z)) a once h =
+          absurd (table_law source.text h.code line (is_listed source h) e)
+      wrong_to_order (work source (listed code is made (fails asks z f))) a once h =
+          absurd (not_failed asked (of_passed source code is h).0 asks f)
+      wrong_to_order (work source (listed code is made (passes passed c))) a once h =
+          let wrong = (of_passed source code is h).1 in
+          was_bad_order call code asked ex.turns asked.order _ _ c once wrong.text
+          wrong.order_text wrong.at wrong.bad
 
 -- ---- any call
 module _ (call : Call) (ex : Execution) (n : ℕ) (told : List ℕ)
@@ -189,17 +208,6 @@ module _ (call : Call) (ex : Execution) (n : ℕ) (told : List ℕ)
     holds = long_from call ex is.file is.asked is.holds e;
   }
 
-  is_long : {m : ℕ} {t : List ℕ} → Cause call ex m t → IsSettled call m → ExecsTooLong call
-      → m ≡ TOO_LONG
-  is_long no_memory settled r = absurd (settled.decided.memory refl)
-  is_long {m = m} (exec is) settled r =
-      long_to call ex is.file is.asked m settled line table is.holds settled.read
-      (one_order call m settled is.asked.order)
-      (as_asked (codes "exec") ExecTakes call.words is r)
-
-  pub long_exactly : Cause call ex n told → IsSettled call n → (n ≡ TOO_LONG) ↔ ExecsTooLong call
-  long_exactly c settled = (execs_long c, is_long c settled)
-
   execs_wrong : {m : ℕ} {t : List ℕ} → Cause call ex m t → m ≡ ORDER_REFUSED
       → ExecsBadOrder call
   execs_wrong no_memory e = absurd (omega arith)
@@ -212,6 +220,18 @@ module _ (call : Call) (ex : Execution) (n : ℕ) (told : List ℕ)
 
   module _ (one : (bytes : List ℕ) (first other : Tables) → IsListing bytes first
       → IsListing bytes other → first ≡ other) where
+    is_long : {m : ℕ} {t : List ℕ} → Cause call ex m t → IsSettled call m → ExecsTooLong call
+        → m ≡ TOO_LONG
+    is_long no_memory settled r = absurd (settled.decided.memory refl)
+    is_long {m = m} (exec is) settled r =
+        long_to call ex is.file is.asked m settled line table one is.holds settled.read
+        (one_order call m settled is.asked.order)
+        (as_asked (codes "exec") ExecTakes call.words is r)
+
+    pub long_exactly : Cause call ex n told → IsSettled call n
+        → (n ≡ TOO_LONG) ↔ ExecsTooLong call
+    long_exactly c settled = (execs_long c, is_long c settled)
+
     is_wrong : {m : ℕ} {t : List ℕ} → Cause call ex m t → IsSettled call m
         → ExecsBadOrder call → m ≡ ORDER_REFUSED
     is_wrong no_memory settled r = absurd (settled.decided.memory refl)

@@ -3,6 +3,7 @@ use Rattle.std.proofs.Common.{◌≢◌, ℕ, arith}
 use Rattle.call_claims.specs.declared.status.TheConstants.{DONE, UNREADABLE, TOO_LONG, REFUSED}
 use Rattle.call_claims.specs.declared.status.TheConstants.{UNBOUND, TRAPPED, TURN_LIMIT, PUT_FAILED, NO_MEMORY}
 use Rattle.exec_claims.specs.declared.status.TheConstants.{ORDER_REFUSED, LISTING_REFUSED, STUCK}
+use Rattle.exec_claims.specs.declared.status.TheConstants.{UNSOUND, CHECK_LIMIT}
 
 pub record IsRunStatus (n : ℕ) : Type 0 where
   pub unreadable : n ≢ UNREADABLE
@@ -13,6 +14,8 @@ pub record IsRunStatus (n : ℕ) : Type 0 where
   pub put : n ≢ PUT_FAILED
   pub memory : n ≢ NO_MEMORY
   pub listing : n ≢ LISTING_REFUSED
+  pub sound : n ≢ UNSOUND
+  pub small : n ≢ CHECK_LIMIT
 
 pub is_done : IsRunStatus DONE
 is_done = record {
@@ -24,6 +27,8 @@ is_done = record {
   put = λ h. omega arith;
   memory = λ h. omega arith;
   listing = λ h. omega arith;
+  sound = λ h. omega arith;
+  small = λ h. omega arith;
 }
 
 pub is_trapped : IsRunStatus TRAPPED
@@ -36,6 +41,8 @@ is_trapped = record {
   put = λ h. omega arith;
   memory = λ h. omega arith;
   listing = λ h. omega arith;
+  sound = λ h. omega arith;
+  small = λ h. omega arith;
 }
 
 pub is_limit : IsRunStatus TURN_LIMIT
@@ -48,6 +55,8 @@ is_limit = record {
   put = λ h. omega arith;
   memory = λ h. omega arith;
   listing = λ h. omega arith;
+  sound = λ h. omega arith;
+  small = λ h. omega arith;
 }
 
 pub is_stuck : IsRunStatus STUCK
@@ -60,4 +69,6 @@ is_stuck = record {
   put = λ h. omega arith;
   memory = λ h. omega arith;
   listing = λ h. omega arith;
+  sound = λ h. omega arith;
+  small = λ h. omega arith;
 }

@@ -11,13 +11,16 @@ use Rattle.call_claims.specs.Decided.{IsSettled}
 use Rattle.call_claims.specs.Execution.{Execution}
 use Rattle.call_claims.proofs.OneLemmas.{of_given}
 use Rattle.grid_runs.specs.Run.{GoesOnTo}
-use Rattle.exec_claims.specs.Cause.{Cause, ListingCause, ListingFileCause, OrderCause, OrderFileCause, RunCause, run_of}
+use Rattle.exec_claims.specs.Cause.{Cause, CodeCause, ListingCause, ListingFileCause, OrderCause, OrderFileCause, RunCause, run_of}
 use Rattle.exec_claims.specs.Cause.OrderCause.{bad_item, ran}
 use Rattle.exec_claims.specs.Cause.TextCause.{unreadable, too_long, work}
+use Rattle.exec_claims.specs.Cause.CodeCause.{fails, passes}
 use Rattle.exec_claims.specs.Cause.ListingCause.{bad_line, bad_table, listed}
 use Rattle.exec_claims.specs.Cause.Cause.{no_memory, exec}
 use Rattle.exec_claims.specs.Decided.{IsOrderText}
 use Rattle.exec_claims.specs.Whole.{CanExecute, HasExecuted}
+use Rattle.exec_claims.specs.Cause.{CheckFails}
+use Rattle.exec_claims.proofs.CheckLemmas.{not_failed}
 use Rattle.exec_claims.proofs.OneCause.{not_long, read_one, same_order}
 
 -- ---- the order
@@ -70,10 +73,13 @@ module _ (line : (bytes : List ℕ) (tables : Tables) (number : ℕ) → IsListi
       }
 
   of_text : (text : List ℕ) {n : ℕ} {told : List ℕ} → IsSettled call n → IsListing text can.code
-      → ListingCause call asked ex text n told → HasExecuted can ex n told
+      → ListingCause ex (CodeCause call asked ex.turns) text n told → HasExecuted can ex n told
   of_text text settled is (bad_line number e z) = absurd (line text can.code number is e)
   of_text text settled is (bad_table number e z) = absurd (table text can.code number is e)
-  of_text text settled is (listed code also made c) =
+  of_text text {n = n} {told = told} settled is (listed code also made (fails asks z f)) =
+      absurd (not_failed asked can.sound asks
+      (subst (λ t. CheckFails t n told) (program text code can.code also is) f))
+  of_text text settled is (listed code also made (passes passed c)) =
       of_code code settled (program text code can.code also is) made c
 
   of_file : {n : ℕ} {told : List ℕ} → IsSettled call n
@@ -83,7 +89,7 @@ module _ (line : (bytes : List ℕ) (tables : Tables) (number : ℕ) → IsListi
       absurd (not_long call file (settled.one file) long can.source)
   of_file {n = n} {told = told} settled (work source w) =
       of_text can.source.text settled can.listing
-      (subst (λ t. ListingCause call asked ex t n told)
+      (subst (λ t. ListingCause ex (CodeCause call asked ex.turns) t n told)
       (settled.one file source.text can.source.text source.told can.source.told) w)
 
   pub executed : {n : ℕ} {told : List ℕ} → IsSettled call n → IsExec call.words file asked

@@ -1,12 +1,15 @@
 -- Why a call of `exec` has its status, and what is told of it: by the command, the files, the
--- listing, the order, and the run.
-use Rattle.std.specs.Prelude.{◌≡◌, ℕ, ◌<◌, ◌≤◌, Bool, true, false, List, [], ◌++◌, length, Option, Some, None, Ok, Err, codes}
+-- listing, the check of its code, the order, and the run.
+use Rattle.std.specs.Prelude.{◌≡◌, ℕ, ◌<◌, ◌≤◌, Bool, true, false, IsTrue, List, [], ◌++◌, length, Option}
+use Rattle.std.specs.Prelude.{Some, None, Ok, Err, codes}
 use Rattle.zpl_nums.specs.declared.ends.End.TheVariants.{Done, Trap}
 use Rattle.zpl_nums.specs.declared.ends.TrapKind.{TrapKind}
 use Rattle.node_form.specs.declared.tables.Tables.{Tables}
 use Rattle.grid_meaning.specs.Action.{StuckKind}
 use Rattle.grid_meaning.specs.Grid.{EndsAs, processors, start_grid}
 use Rattle.grid_order.specs.Reading.{reading}
+use Rattle.node_check.specs.Sound.{IsChecked, IsFaulty}
+use Rattle.node_check.specs.declared.faults.CheckFault.TheVariants.{TooLarge, Unsound}
 use Rattle.listing_lines.specs.Listing.{IsBadLine}
 use Rattle.node_text.specs.Listing.{IsBadTable, IsListing}
 use Rattle.call_claims.specs.Call.{Call}
@@ -18,9 +21,10 @@ use Rattle.call_claims.specs.declared.status.TheConstants.{TRAPPED, TURN_LIMIT, 
 use Rattle.call_claims.specs.Command.{Asked, Asks, IsExec, limit_of}
 use Rattle.grid_runs.specs.Run.{Run, grid_at, GoesOnTo, IsStuckAt, IsIdleAt, IsLimitedAt}
 use Rattle.exec_claims.specs.Texts.{order_refused_text, listing_refused_text, report_text}
-use Rattle.exec_claims.specs.Texts.{stuck_text, kind_name, idle_name}
+use Rattle.exec_claims.specs.Texts.{stuck_text, kind_name, idle_name, unsound_text, check_limit_text}
 use Rattle.exec_claims.specs.declared.limits.TheConstants.{MOST_LISTING}
 use Rattle.exec_claims.specs.declared.status.TheConstants.{ORDER_REFUSED, LISTING_REFUSED, STUCK}
+use Rattle.exec_claims.specs.declared.status.TheConstants.{UNSOUND, CHECK_LIMIT}
 
 -- ---- a run
 -- the report after k turns, where one is wanted
@@ -92,26 +96,51 @@ OrderFileCause call code asked turns None = OrderCause code asked turns []
 OrderFileCause call code asked turns (Some file) =
     TextCause call file (call.may_fail_later file) (turns ≡ 0) (OrderCause code asked turns)
 
+-- ---- the check of code
+-- The demand of an instruction isn't met, the first such; or the code is too large for a check.
+pub data CheckFails (code : Tables) : ℕ → List ℕ → Type 0 where
+  unsound : (at : ℕ) → IsFaulty code (Unsound at) → CheckFails code UNSOUND (unsound_text at)
+  too_large : IsFaulty code TooLarge → CheckFails code CHECK_LIMIT check_limit_text
+
+-- the code is sound, where the words ask for that
+abbrev pub PassesCheck : Asked → Tables → Type 0
+PassesCheck asked code = IsTrue asked.checked → (links : ℕ) × IsChecked code links
+
+-- The words ask that the code be sound, and the check of it fails; or there is the cause of the
+-- order and the run.
+pub data CodeCause (call : Call) (asked : Asked) (turns : ℕ) (code : Tables) : ℕ → List ℕ → Type 0
+  where
+    fails : {status : ℕ} {told : List ℕ} → IsTrue asked.checked → turns ≡ 0
+        → CheckFails code status told → CodeCause call asked turns code status told
+    passes : {status : ℕ} {told : List ℕ} → PassesCheck asked code
+        → OrderFileCause call code asked turns asked.order status told
+        → CodeCause call asked turns code status told
+
 -- ---- the text of a listing
--- It is no listing, and why; or it is that of the code, with what came of its order and run.
-pub data ListingCause (call : Call) (asked : Asked) (execution : Execution) (text : List ℕ)
-    : ℕ → List ℕ → Type 0 where
+-- It is no listing, and why; or it is that of the code, and there is the cause that work on that
+-- has.
+pub data ListingCause (execution : Execution) (Works : Tables → ℕ → List ℕ → Type 0)
+    (text : List ℕ) : ℕ → List ℕ → Type 0 where
   bad_line : (line : ℕ) → IsBadLine text line → HasNoRun execution
-      → ListingCause call asked execution text LISTING_REFUSED
+      → ListingCause execution Works text LISTING_REFUSED
       (listing_refused_text (codes "BadLine") line)
   bad_table : (line : ℕ) → IsBadTable text line → HasNoRun execution
-      → ListingCause call asked execution text LISTING_REFUSED
+      → ListingCause execution Works text LISTING_REFUSED
       (listing_refused_text (codes "BadTable") line)
   listed : {status : ℕ} {told : List ℕ} (code : Tables) → IsListing text code
-      → execution.code ≡ Some code
-      → OrderFileCause call code asked execution.turns asked.order status told
-      → ListingCause call asked execution text status told
+      → execution.code ≡ Some code → Works code status told
+      → ListingCause execution Works text status told
+
+-- of the file
+abbrev pub ListedCause : Call → List ℕ → Execution → (Tables → ℕ → List ℕ → Type 0) → ℕ → List ℕ
+    → Type 0
+ListedCause call file execution Works =
+    TextCause call file (call.may_fail file) (HasNoRun execution) (ListingCause execution Works)
 
 -- exec FILE
 abbrev pub ListingFileCause : Call → List ℕ → Asked → Execution → ℕ → List ℕ → Type 0
 ListingFileCause call file asked execution =
-    TextCause call file (call.may_fail file) (HasNoRun execution)
-    (ListingCause call asked execution)
+    ListedCause call file execution (CodeCause call asked execution.turns)
 
 -- The words run a listing, and this holds of its file and of what they ask for.
 abbrev pub Execs : Call → (List ℕ → Asked → Type 0) → Type 0

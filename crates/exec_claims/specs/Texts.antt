@@ -27,6 +27,14 @@ abbrev pub stuck_text : ℕ → List ℕ → List ℕ
 stuck_text processor name =
     codes "stuck: processor " ++ (decimal processor ++ (codes ", " ++ (name ++ codes "\n")))
 
+-- the demand of this instruction isn't met
+abbrev pub unsound_text : ℕ → List ℕ
+unsound_text at = codes "unsound, instruction " ++ (decimal at ++ codes "\n")
+
+-- code is too large for a check
+abbrev pub check_limit_text : List ℕ
+check_limit_text = codes "check limit\n"
+
 -- a run makes more moves than a timetable takes
 abbrev pub too_many_moves_text : List ℕ
 too_many_moves_text = codes "too many moves\n"

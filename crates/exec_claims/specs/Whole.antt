@@ -1,6 +1,6 @@
 -- Calls of `exec` that have all that they need, and what they then answer.
 --
---   CanExecute    the files tell a listing, and an order of its processors
+--   CanExecute    the files tell a listing, whose code passes, and an order of its processors
 --   HasExecuted   the listed code was run under the order, and the status is that of the run's end
 use Rattle.std.specs.Prelude.{◌≡◌, ℕ, List, Some, Ok}
 use Rattle.node_form.specs.declared.tables.Tables.{Tables}
@@ -11,14 +11,16 @@ use Rattle.call_claims.specs.Call.{Call}
 use Rattle.call_claims.specs.Command.{Asked}
 use Rattle.call_claims.specs.Execution.{Execution}
 use Rattle.grid_runs.specs.Run.{GoesOnTo}
-use Rattle.exec_claims.specs.Cause.{RunCause, Source, run_of}
+use Rattle.exec_claims.specs.Cause.{PassesCheck, RunCause, Source, run_of}
 use Rattle.exec_claims.specs.Decided.{IsOrderText}
 
--- The file tells a listing, and what the words name as an order is one for the processors of its code.
+-- The file tells a listing, its code is sound where the words ask for that, and what they name as an
+-- order is one for the processors of the code.
 pub record CanExecute (call : Call) (file : List ℕ) (asked : Asked) : Type 0 where
   pub source : Source call file
   pub code : Tables
   pub listing : IsListing source.text code
+  pub sound : PassesCheck asked code
   pub order_text : List ℕ
   pub told : IsOrderText call asked.order order_text
   pub order : List ℕ

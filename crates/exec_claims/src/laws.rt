@@ -7,12 +7,13 @@ ghost use Rattle.call_claims.specs.Execution.{Execution};
 ghost use Rattle.call_claims.specs.declared.status.TheConstants.{DONE, TOO_LONG};
 ghost use Rattle.call_claims.specs.declared.status.TheConstants.{TRAPPED, TURN_LIMIT};
 ghost use Rattle.exec_claims.specs.Cause.{Cause};
-ghost use Rattle.exec_claims.specs.Decided.{ExecsNoListing, ExecsTooLong, ExecsBadOrder};
+ghost use Rattle.exec_claims.specs.Decided.{ExecsBadOrder, ExecsChecked, ExecsNoListing};
+ghost use Rattle.exec_claims.specs.Decided.{ExecsTooLong, IsTooLarge, IsUnsound};
 ghost use Rattle.exec_claims.specs.Decided.{IsDoneAt, IsStuckOrIdleAt, IsTrapAt, RunsTo};
 ghost use Rattle.grid_runs.specs.Run.{IsLimitedAt};
 ghost use Rattle.exec_claims.specs.Whole.{CanExecute, HasExecuted};
-ghost use Rattle.exec_claims.specs.declared.status.TheConstants.{LISTING_REFUSED};
-ghost use Rattle.exec_claims.specs.declared.status.TheConstants.{ORDER_REFUSED, STUCK};
+ghost use Rattle.exec_claims.specs.declared.status.TheConstants.{CHECK_LIMIT, LISTING_REFUSED};
+ghost use Rattle.exec_claims.specs.declared.status.TheConstants.{ORDER_REFUSED, STUCK, UNSOUND};
 
 use node_text::bytes_have_one_program;
 use zpl_io::Files;
@@ -46,6 +47,15 @@ pub fn exec_statuses_are_exact<F: Files>()
         (F.may_fail_later files) in
         Cause call ran n told → IsSettled call n →
         (n ≡ LISTING_REFUSED) ↔ ExecsNoListing call }
+    ensures unsound { (files : F) (words : List (List ℕ)) (ran : Execution) (n : ℕ)
+        (told : List ℕ) → let call = call_of words (F.tells files) (F.may_fail files)
+        (F.may_fail_later files) in
+        Cause call ran n told → IsSettled call n → (n ≡ UNSOUND) ↔ ExecsChecked call IsUnsound }
+    ensures too_large { (files : F) (words : List (List ℕ)) (ran : Execution) (n : ℕ)
+        (told : List ℕ) → let call = call_of words (F.tells files) (F.may_fail files)
+        (F.may_fail_later files) in
+        Cause call ran n told → IsSettled call n →
+        (n ≡ CHECK_LIMIT) ↔ ExecsChecked call IsTooLarge }
     ensures done { (files : F) (words : List (List ℕ)) (ran : Execution) (n : ℕ) (told : List ℕ) →
         let call = call_of words (F.tells files) (F.may_fail files)
         (F.may_fail_later files) in
@@ -66,8 +76,8 @@ pub fn exec_statuses_are_exact<F: Files>()
     bytes_have_one_program();
 }
 
-/// A call of `exec` whose file tells a listing, and whose words name an order of its processors, if
-/// any, has run the listed code under the order, and its status is that of what came of the run: it is
+/// A call of `exec` whose file tells a listing, of sound code where its words ask for that, and whose
+/// words name an order of its processors, if any, has run the listed code under the order, and its status is that of what came of the run: it is
 /// over, all turns were given, a processor is stuck, or none can move. So it is where the status has
 /// its cause, memory wasn't wanting, no put and no fetch failed, and the files tell one text a name.
 pub fn listings_are_executed<F: Files>()
