@@ -8,7 +8,7 @@ use Rattle.call_claims.specs.Call.{Call}
 use Rattle.call_claims.specs.Decided.{IsSettled}
 use Rattle.call_claims.specs.Execution.{Execution}
 use Rattle.call_claims.specs.Command.{Asked, ExecTakes}
-use Rattle.call_claims.specs.declared.status.TheConstants.{UNREADABLE}
+use Rattle.call_claims.specs.declared.status.TheConstants.{TOO_LONG, UNREADABLE}
 use Rattle.call_claims.proofs.OneLemmas.{as_asked}
 use Rattle.grid_runs.specs.Run.{Run}
 use Rattle.exec_claims.specs.Cause.{Cause, CheckFails, CodeCause, ListedCause, ListingFileCause, OrderCause}
@@ -20,7 +20,7 @@ use Rattle.exec_claims.specs.Cause.TextCause.{unreadable, too_long, work}
 use Rattle.exec_claims.specs.Cause.ListingCause.{bad_line, bad_table, listed}
 use Rattle.exec_claims.specs.Cause.Cause.{no_memory, exec}
 use Rattle.exec_claims.specs.Decided.{ExecsChecked, HasListing, IsTooLarge, IsUnsound}
-use Rattle.exec_claims.specs.declared.status.TheConstants.{CHECK_LIMIT, UNSOUND}
+use Rattle.exec_claims.specs.declared.status.TheConstants.{CHECK_LIMIT, LISTING_REFUSED, UNSOUND}
 use Rattle.exec_claims.proofs.CheckLemmas.{fails_large, fails_one, fails_unsound, not_failed}
 use Rattle.exec_claims.proofs.CheckLemmas.{told_large, told_unsound}
 use Rattle.exec_claims.proofs.OneCause.{text_short, texts_same}
@@ -67,54 +67,68 @@ module _ (call : Call) (code : Tables) (asked : Asked) (turns : ℕ) where
   order_file_other (Some file) n told (too_long long ends) = (λ h. omega arith, λ h. omega arith)
   order_file_other (Some file) n told (work source w) = order_other w
 
--- ---- the listing
+-- ---- a listing, by the status of work on its code
+pub record IsOfWork (s : ℕ) : Type 0 where
+  pub unreadable : s ≢ UNREADABLE
+  pub too_long : s ≢ TOO_LONG
+  pub refused : s ≢ LISTING_REFUSED
+
+module _ (s : ℕ) (call : Call) (ex : Execution) (file : List ℕ)
+    (Works : Tables → ℕ → List ℕ → Type 0) where
+  -- from the work to what holds of the code
+  pub listed_from : {Known : Tables → Type 0} → IsOfWork s
+      → ((code : Tables) (n : ℕ) (told : List ℕ) → Works code n told → n ≡ s → Known code)
+      → {n : ℕ} {told : List ℕ} → ListedCause call file ex Works n told → n ≡ s
+      → HasListing call file Known
+  listed_from of known (unreadable may ends) e = absurd (of.unreadable (sym e))
+  listed_from of known (too_long long ends) e = absurd (of.too_long (sym e))
+  listed_from of known (work source (bad_line line f z)) e = absurd (of.refused (sym e))
+  listed_from of known (work source (bad_table line f z)) e = absurd (of.refused (sym e))
+  listed_from of known (work source (listed code is made c)) e =
+      record { source = source; code = code; listing = is; holds = known code _ _ c e }
+
+  -- and back
+  module _ (m : ℕ) (settled : IsSettled call m)
+      (line_law : (bytes : List ℕ) (tables : Tables) (number : ℕ) → IsListing bytes tables
+      → IsBadLine bytes number → ⊥)
+      (table_law : (bytes : List ℕ) (tables : Tables) (number : ℕ) → IsListing bytes tables
+      → IsBadTable bytes number → ⊥)
+      (program : (bytes : List ℕ) (one other : Tables) → IsListing bytes one
+      → IsListing bytes other → one ≡ other) where
+    is_listed : {Known : Tables → Type 0} (source : Source call file)
+        (h : HasListing call file Known) → IsListing source.text h.code
+    is_listed source h =
+        subst (λ t. IsListing t h.code) (texts_same call file m settled h.source source) h.listing
+
+    pub listed_to : {Known : Tables → Type 0}
+        → ((code : Tables) (n : ℕ) (told : List ℕ) → Works code n told → Known code → n ≡ s)
+        → {n : ℕ} {told : List ℕ} → ListedCause call file ex Works n told → n ≢ UNREADABLE
+        → HasListing call file Known → n ≡ s
+    listed_to known (unreadable may ends) read h = absurd (read refl)
+    listed_to known (too_long long ends) read h =
+        absurd (text_short call file m settled long h.source)
+    listed_to known (work source (bad_line line e z)) read h =
+        absurd (line_law source.text h.code line (is_listed source h) e)
+    listed_to known (work source (bad_table line e z)) read h =
+        absurd (table_law source.text h.code line (is_listed source h) e)
+    listed_to {Known} known (work source (listed code is made c)) read h =
+        known code _ _ c
+        (subst Known (program source.text h.code code (is_listed source h) is) h.holds)
+
+-- ---- failures
 module _ (s : ℕ) (Holds : Tables → Type 0) (fail : IsFailure s Holds) where
   pub of_failure : {A : Type 0} (n : ℕ) → n ≡ s → n ≢ UNSOUND → n ≢ CHECK_LIMIT → A
-  of_failure n e a b =
-      elim fail.of [ inl f ↦ absurd (a (subst (λ m. n ≡ m) f e)) | inr f ↦ absurd (b (subst (λ m. n ≡ m) f e)) ]
+  of_failure n e a b = elim fail.of [
+    | inl f ↦ absurd (a (subst (λ m. n ≡ m) f e))
+    | inr f ↦ absurd (b (subst (λ m. n ≡ m) f e))
+  ]
 
-  module _ (call : Call) (ex : Execution) (file : List ℕ)
-      (Works : Tables → ℕ → List ℕ → Type 0) where
-    -- from work on the code to what holds of that
-    pub listed_from : {Known : Tables → Type 0}
-        → ((code : Tables) (n : ℕ) (told : List ℕ) → Works code n told → n ≡ s → Known code)
-        → {n : ℕ} {told : List ℕ} → ListedCause call file ex Works n told → n ≡ s
-        → HasListing call file Known
-    listed_from known {n = n} (unreadable may ends) e =
-        of_failure n e (λ h. omega arith) (λ h. omega arith)
-    listed_from known {n = n} (too_long long ends) e =
-        of_failure n e (λ h. omega arith) (λ h. omega arith)
-    listed_from known {n = n} (work source (bad_line line f z)) e =
-        of_failure n e (λ h. omega arith) (λ h. omega arith)
-    listed_from known {n = n} (work source (bad_table line f z)) e =
-        of_failure n e (λ h. omega arith) (λ h. omega arith)
-    listed_from known (work source (listed code is made c)) e =
-        record { source = source; code = code; listing = is; holds = known code _ _ c e }
-
-    -- and back, of any status
-    module _ (m : ℕ) (settled : IsSettled call m)
-        (line_law : (bytes : List ℕ) (tables : Tables) (number : ℕ) → IsListing bytes tables
-        → IsBadLine bytes number → ⊥)
-        (table_law : (bytes : List ℕ) (tables : Tables) (number : ℕ) → IsListing bytes tables
-        → IsBadTable bytes number → ⊥)
-        (program : (bytes : List ℕ) (one other : Tables) → IsListing bytes one
-        → IsListing bytes other → one ≡ other) where
-      pub listed_to : {Known : Tables → Type 0}
-          → ((code : Tables) (n : ℕ) (told : List ℕ) → Works code n told → Known code → n ≡ s)
-          → {n : ℕ} {told : List ℕ} → ListedCause call file ex Works n told → n ≢ UNREADABLE
-          → HasListing call file Known → n ≡ s
-      listed_to known (unreadable may ends) read h = absurd (read refl)
-      listed_to known (too_long long ends) read h =
-          absurd (text_short call file m settled long h.source)
-      listed_to known (work source (bad_line line e z)) read h =
-          absurd (line_law source.text h.code line
-          (subst (λ t. IsListing t h.code) (texts_same call file m settled h.source source) h.listing) e)
-      listed_to known (work source (bad_table line e z)) read h =
-          absurd (table_law source.text h.code line
-          (subst (λ t. IsListing t h.code) (texts_same call file m settled h.source source) h.listing) e)
-      listed_to {Known} known (work source (listed code is made c)) read h =
-          let there = subst (λ t. IsListing t h.code) (texts_same call file m settled h.source source) h.listing in
-          known code _ _ c (subst Known (program source.text h.code code there is) h.holds)
+  pub of_work : IsOfWork s
+  of_work = record {
+    unreadable = λ e. of_failure UNREADABLE (sym e) (λ h. omega arith) (λ h. omega arith);
+    too_long = λ e. of_failure TOO_LONG (sym e) (λ h. omega arith) (λ h. omega arith);
+    refused = λ e. of_failure LISTING_REFUSED (sym e) (λ h. omega arith) (λ h. omega arith);
+  }
 
   -- ---- exec
   module _ (call : Call) (ex : Execution) (file : List ℕ) (asked : Asked) where
@@ -124,7 +138,7 @@ module _ (s : ℕ) (Holds : Tables → Type 0) (fail : IsFailure s Holds) where
     file_from : {n : ℕ} {told : List ℕ} → ListingFileCause call file asked ex n told → n ≡ s
         → HasListing call file Asks
     file_from c e =
-        listed_from call ex file (CodeCause call asked ex.turns) known c e
+        listed_from s call ex file (CodeCause call asked ex.turns) of_work known c e
       where
         known : (code : Tables) (n : ℕ) (told : List ℕ) → CodeCause call asked ex.turns code n told
             → n ≡ s → Asks code
@@ -143,7 +157,7 @@ module _ (s : ℕ) (Holds : Tables → Type 0) (fail : IsFailure s Holds) where
       file_to : {told : List ℕ} → ListingFileCause call file asked ex m told
           → HasListing call file Asks → m ≡ s
       file_to c h =
-          listed_to call ex file (CodeCause call asked ex.turns) m settled line_law table_law program
+          listed_to s call ex file (CodeCause call asked ex.turns) m settled line_law table_law program
           known c settled.read h
         where
           known : (code : Tables) (n : ℕ) (told : List ℕ) → CodeCause call asked ex.turns code n told

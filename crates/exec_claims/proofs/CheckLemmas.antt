@@ -1,5 +1,5 @@
 -- A check of code passes or fails, and fails in one way.
-use Rattle.std.proofs.Common.{◌≡◌, ◌≢◌, ℕ, IsTrue, List, refl, arith}
+use Rattle.std.proofs.Common.{◌≡◌, ◌≢◌, ℕ, true, false, IsTrue, List, refl, sym, ◌∙◌, arith}
 use Rattle.node_form.specs.declared.tables.Tables.{Tables}
 use Rattle.node_check.specs.Sound.{IsChecked}
 use Rattle.call_claims.specs.declared.status.TheConstants.{DONE, UNREADABLE, TOO_LONG, REFUSED, UNBOUND}
@@ -20,6 +20,11 @@ checked_once is (too_large large) = is.small large
 pub not_failed : (asked : Asked) {code : Tables} {n : ℕ} {told : List ℕ} → PassesCheck asked code
     → IsTrue asked.checked → CheckFails code n told → ⊥
 not_failed asked passed asks failed = checked_once (passed asks).1 failed
+
+-- where they don't, all code passes
+pub passes_unasked : (asked : Asked) (code : Tables) → asked.checked ≡ false
+    → PassesCheck asked code
+passes_unasked asked code plain = λ asks. absurd (let no : false ≡ true = sym plain ∙ asks in cc)
 
 pub fails_one : {code : Tables} {n m : ℕ} {told other : List ℕ} → CheckFails code n told
     → CheckFails code m other → n ≡ m

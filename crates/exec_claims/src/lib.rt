@@ -11,3 +11,4 @@ pub mod status;
 
 pub use laws::{exec_causes_are_one, exec_statuses_are_exact, listings_are_executed};
 pub use limits::MOST_LISTING;
+pub use node_check;

@@ -1,5 +1,5 @@
 -- When each status comes.
-use Rattle.std.proofs.Common.{◌≡◌, ◌≢◌, ◌↔◌, ◌⊎◌, ℕ, ◌<◌, ◌≤◌, Bool, false, List, Option, Some, None, Ok, codes, refl, sym, ◌∙◌, ap, subst, inl, inr, arith}
+use Rattle.std.proofs.Common.{◌≡◌, ◌≢◌, ◌↔◌, ◌⊎◌, ℕ, ◌<◌, ◌≤◌, Bool, true, false, IsTrue, List, Option, Some, None, Ok, codes, refl, sym, ◌∙◌, ap, subst, inl, inr, arith}
 use Rattle.node_form.specs.declared.tables.Tables.{Tables}
 use Rattle.grid_meaning.specs.Grid.{processors}
 use Rattle.grid_order.specs.Reading.{reading}
@@ -14,13 +14,16 @@ use Rattle.call_claims.specs.Decided.{IsSettled}
 use Rattle.call_claims.specs.Execution.{Execution}
 use Rattle.call_claims.specs.declared.status.TheConstants.{DONE, TOO_LONG, TRAPPED, TURN_LIMIT, NO_MEMORY}
 use Rattle.call_claims.proofs.OneLemmas.{as_asked}
-use Rattle.exec_claims.specs.Cause.{ListingFileCause, OrderFileCause, RunCause, run_of}
+use Rattle.exec_claims.specs.Cause.{IsTooLong, ListingFileCause, OrderFileCause, PassesCheck, RunCause, run_of}
 use Rattle.exec_claims.specs.Cause.OrderCause.{bad_item, ran as run_under}
 use Rattle.exec_claims.specs.Cause.TextCause.{unreadable, too_long, work}
+use Rattle.exec_claims.specs.Cause.CodeCause.{fails, passes}
 use Rattle.exec_claims.specs.Cause.ListingCause.{bad_line, bad_table, listed}
-use Rattle.exec_claims.specs.Decided.{HasBadOrder, HasListing, HasNoListing, HasRun, IsOrderText}
+use Rattle.exec_claims.specs.Decided.{HasBadOrder, HasListing, HasLongOrder, HasNoListing, HasPassed, HasRun}
+use Rattle.exec_claims.specs.Decided.{IsOrderText}
 use Rattle.exec_claims.specs.Decided.{IsDoneAt, IsStuckOrIdleAt, IsTrapAt}
 use Rattle.exec_claims.specs.declared.status.TheConstants.{LISTING_REFUSED, ORDER_REFUSED, STUCK, TOO_MANY_MOVES}
+use Rattle.exec_claims.proofs.CheckLemmas.{passes_unasked}
 use Rattle.exec_claims.proofs.Exact.{file_cause, file_listing, file_refused, run_done, run_limit, run_stuck, run_trap}
 use Rattle.exec_claims.proofs.Exact.{told_done, told_limit, told_stuck, told_trap}
 use Rattle.exec_claims.proofs.OneCause.{file_one, read_one, tells_one, text_short, texts_same}
@@ -45,7 +48,37 @@ abbrev OneLaw : Type 0
 OneLaw = (bytes : List ℕ) (one other : Tables) → IsListing bytes one → IsListing bytes other
     → one ≡ other
 
-module _ (call : Call) (ex : Execution) (file : List ℕ) (asked : Asked) where
+module _ (call : Call) (ex : Execution) (file : List ℕ) (asked : Asked)
+    (plain : asked.checked ≡ false) where
+  -- no code is checked
+  unasked : {A : Type 0} → IsTrue asked.checked → A
+  unasked asks = absurd (let no : false ≡ true = sym plain ∙ asks in cc)
+
+  to_listing : {Holds : Tables → Type 0} → HasPassed call file asked Holds
+      → HasListing call file Holds
+  to_listing h =
+      record { source = h.source; code = h.code; listing = h.listing; holds = h.holds.1 }
+
+  of_listing : {Holds : Tables → Type 0} → HasListing call file Holds
+      → HasPassed call file asked Holds
+  of_listing h = record {
+    source = h.source;
+    code = h.code;
+    listing = h.listing;
+    holds = (passes_unasked asked h.code plain, h.holds);
+  }
+
+  abbrev IsLongHere : Type 0
+  IsLongHere = IsTooLong call file ⊎ HasListing call file (λ code. HasLongOrder call asked.order)
+
+  long_here : IsLong call ex file asked → IsLongHere
+  long_here (inl long) = inl long
+  long_here (inr h) = inr (to_listing h)
+
+  of_here : IsLongHere → IsLong call ex file asked
+  of_here (inl long) = inl long
+  of_here (inr h) = inr (of_listing h)
+
   -- the cause that `exec` has
   as_exec : {n : ℕ} {told : List ℕ} → TimeCause call file asked ex n told → n ≢ TOO_MANY_MOVES
       → (text : List ℕ) × ListingFileCause call file asked ex n text
@@ -57,20 +90,20 @@ module _ (call : Call) (ex : Execution) (file : List ℕ) (asked : Asked) where
   module _ (line : LineLaw) (table : TableLaw) where
     -- 3
     pub long_of : {n : ℕ} {told : List ℕ} → TimeCause call file asked ex n told → n ≡ TOO_LONG
-        → IsLong call ex file asked
+        → IsLongHere
     long_of c e =
         let exec = as_exec c (λ f. omega (arith, e, f)) in
-        long_from call ex file asked exec.1 e
+        long_here (long_from call ex file asked exec.1 e)
 
-    pub of_long : {n : ℕ} {told : List ℕ} → TimeCause call file asked ex n told → IsSettled call n
-        → IsLong call ex file asked → n ≡ TOO_LONG
-    of_long {n = n} (not_run c unended) settled long =
-        long_to call ex file asked n settled line table c settled.read
-        (one_order call n settled asked.order) long
-    of_long {n = n} (ran h) settled long =
-        absurd (not_long call ex file asked n settled h long)
-    of_long {n = n} (too_many h) settled long =
-        absurd (not_long call ex file asked n settled h long)
+    pub of_long : OneLaw → {n : ℕ} {told : List ℕ} → TimeCause call file asked ex n told
+        → IsSettled call n → IsLongHere → n ≡ TOO_LONG
+    of_long one {n = n} (not_run c unended) settled long =
+        long_to call ex file asked n settled line table one c settled.read
+        (one_order call n settled asked.order) (of_here long)
+    of_long one {n = n} (ran h) settled long =
+        absurd (not_long call ex file asked n settled h (of_here long))
+    of_long one {n = n} (too_many h) settled long =
+        absurd (not_long call ex file asked n settled h (of_here long))
 
     -- 11
     pub unlisted_of : {n : ℕ} {told : List ℕ} → TimeCause call file asked ex n told
@@ -93,13 +126,13 @@ module _ (call : Call) (ex : Execution) (file : List ℕ) (asked : Asked) where
         → n ≡ ORDER_REFUSED → HasListing call file (HasBadOrder call asked)
     wrong_of c e =
         let exec = as_exec c (λ f. omega (arith, e, f)) in
-        wrong_from call ex file asked exec.1 e
+        to_listing (wrong_from call ex file asked exec.1 e)
 
     pub of_wrong : OneLaw → {n : ℕ} {told : List ℕ} → TimeCause call file asked ex n told
         → IsSettled call n → HasListing call file (HasBadOrder call asked) → n ≡ ORDER_REFUSED
     of_wrong one {n = n} (not_run c unended) settled wrong =
         wrong_to_order call ex file asked n settled line table one c settled.read
-        (one_order call n settled asked.order) wrong
+        (one_order call n settled asked.order) (of_listing wrong)
     of_wrong one {n = n} (ran h) settled wrong =
         absurd (not_wrong call ex file asked n settled one h wrong)
     of_wrong one {n = n} (too_many h) settled wrong =
@@ -116,6 +149,7 @@ module _ (call : Call) (ex : Execution) (file : List ℕ) (asked : Asked) where
         code = h.code;
         listing = h.listing;
         made = h.made;
+        sound = h.sound;
         text = h.text;
         order_text = h.order_text;
         order = h.order;
@@ -175,7 +209,8 @@ module _ (call : Call) (ex : Execution) (file : List ℕ) (asked : Asked) where
     no_run r {n = n} settled (work source (bad_table at e none)) unended =
         table source.text r.code at
         (subst (λ t. IsListing t r.code) (texts_same call file n settled r.source source) r.listing) e
-    no_run r {n = n} {told = told} settled (work source (listed code is made c)) unended =
+    no_run r settled (work source (listed code is made (fails asks z f))) unended = unasked asks
+    no_run r {n = n} {told = told} settled (work source (listed code is made (passes passed c))) unended =
         order_no_run asked.order code r.order r.text r.order_text
         (subst (λ t. reading (processors t) r.text ≡ Ok r.order)
         (same_code ex.code r.code code r.made made) r.read) n told settled c unended
@@ -200,10 +235,10 @@ module _ (call : Call) (ex : Execution) (file : List ℕ) (asked : Asked) where
 module _ (call : Call) (ex : Execution) (line : LineLaw) (table : TableLaw) (one : OneLaw) where
   -- a status by what holds of the file and of what is asked for
   exactly : (s : ℕ) (Holds : List ℕ → Asked → Type 0) → s ≢ NO_MEMORY
-      → ((file : List ℕ) (asked : Asked) (n : ℕ) (told : List ℕ) → IsSettled call n
-      → TimeCause call file asked ex n told → n ≡ s → Holds file asked)
-      → ((file : List ℕ) (asked : Asked) (n : ℕ) (told : List ℕ) → IsSettled call n
-      → TimeCause call file asked ex n told → Holds file asked → n ≡ s)
+      → ((file : List ℕ) (asked : Asked) (n : ℕ) (told : List ℕ) → asked.checked ≡ false
+      → IsSettled call n → TimeCause call file asked ex n told → n ≡ s → Holds file asked)
+      → ((file : List ℕ) (asked : Asked) (n : ℕ) (told : List ℕ) → asked.checked ≡ false
+      → IsSettled call n → TimeCause call file asked ex n told → Holds file asked → n ≡ s)
       → {n : ℕ} {told : List ℕ} → Cause call ex n told → IsSettled call n
       → (n ≡ s) ↔ Times call Holds
   exactly s Holds other from to no_memory settled =
@@ -213,44 +248,44 @@ module _ (call : Call) (ex : Execution) (line : LineLaw) (table : TableLaw) (one
       file = is.file;
       asked = is.asked;
       given = is.given;
-      holds = from is.file is.asked n told settled is.holds e;
+      holds = from is.file is.asked n told is.given.takes.no_checked settled is.holds e;
     },
-    λ asks. to is.file is.asked n told settled is.holds
+    λ asks. to is.file is.asked n told is.given.takes.no_checked settled is.holds
         (as_asked (codes "time") TimeTakes call.words is asks),
   )
 
   pub is_exact : {n : ℕ} {told : List ℕ} → Cause call ex n told → IsExact call ex n
   is_exact c = record {
     too_long = exactly TOO_LONG _ (λ e. omega arith)
-        (λ file asked n told s t e. long_of call ex file asked line table t e)
-        (λ file asked n told s t h. of_long call ex file asked line table t s h) c;
+        (λ file asked n told p s t e. long_of call ex file asked p line table t e)
+        (λ file asked n told p s t h. of_long call ex file asked p line table one t s h) c;
     order_refused = exactly ORDER_REFUSED _ (λ e. omega arith)
-        (λ file asked n told s t e. wrong_of call ex file asked line table t e)
-        (λ file asked n told s t h. of_wrong call ex file asked line table one t s h) c;
+        (λ file asked n told p s t e. wrong_of call ex file asked p line table t e)
+        (λ file asked n told p s t h. of_wrong call ex file asked p line table one t s h) c;
     refused = exactly LISTING_REFUSED _ (λ e. omega arith)
-        (λ file asked n told s t e. unlisted_of call ex file asked line table t e)
-        (λ file asked n told s t h. of_unlisted call ex file asked line table t s h) c;
+        (λ file asked n told p s t e. unlisted_of call ex file asked p line table t e)
+        (λ file asked n told p s t h. of_unlisted call ex file asked p line table t s h) c;
     done = exactly DONE _ (λ e. omega arith)
-        (λ file asked n told s t e. ended_of call ex file asked line table DONE IsDoneAt (inl refl)
+        (λ file asked n told p s t e. ended_of call ex file asked p line table DONE IsDoneAt (inl refl)
         (λ run k m u cause same. run_done run false k cause same) t e)
-        (λ file asked n told s t h. of_ended call ex file asked line table DONE IsDoneAt (inl refl)
+        (λ file asked n told p s t h. of_ended call ex file asked p line table DONE IsDoneAt (inl refl)
         is_done told_done t s h) c;
     trap = exactly TRAPPED _ (λ e. omega arith)
-        (λ file asked n told s t e. ended_of call ex file asked line table TRAPPED IsTrapAt (inr (inl refl))
+        (λ file asked n told p s t e. ended_of call ex file asked p line table TRAPPED IsTrapAt (inr (inl refl))
         (λ run k m u cause same. run_trap run false k cause same) t e)
-        (λ file asked n told s t h. of_ended call ex file asked line table TRAPPED IsTrapAt (inr (inl refl))
+        (λ file asked n told p s t h. of_ended call ex file asked p line table TRAPPED IsTrapAt (inr (inl refl))
         is_trapped told_trap t s h) c;
     turn_limit = exactly TURN_LIMIT _ (λ e. omega arith)
-        (λ file asked n told s t e. ended_of call ex file asked line table TURN_LIMIT IsLimitedAt
+        (λ file asked n told p s t e. ended_of call ex file asked p line table TURN_LIMIT IsLimitedAt
         (inr (inr (inl refl))) (λ run k m u cause same. run_limit run false k cause same) t e)
-        (λ file asked n told s t h. of_ended call ex file asked line table TURN_LIMIT IsLimitedAt
+        (λ file asked n told p s t h. of_ended call ex file asked p line table TURN_LIMIT IsLimitedAt
         (inr (inr (inl refl))) is_limit told_limit t s h) c;
     stuck = exactly STUCK _ (λ e. omega arith)
-        (λ file asked n told s t e. ended_of call ex file asked line table STUCK IsStuckOrIdleAt
+        (λ file asked n told p s t e. ended_of call ex file asked p line table STUCK IsStuckOrIdleAt
         (inr (inr (inr refl))) (λ run k m u cause same. run_stuck run false k cause same) t e)
-        (λ file asked n told s t h. of_ended call ex file asked line table STUCK IsStuckOrIdleAt
+        (λ file asked n told p s t h. of_ended call ex file asked p line table STUCK IsStuckOrIdleAt
         (inr (inr (inr refl))) is_stuck told_stuck t s h) c;
     too_many_moves = exactly TOO_MANY_MOVES _ (λ e. omega arith)
-        (λ file asked n told s t e. past_of call ex file asked line table t s e)
-        (λ file asked n told s t h. of_past call ex file asked line table t s h) c;
+        (λ file asked n told p s t e. past_of call ex file asked p line table t s e)
+        (λ file asked n told p s t h. of_past call ex file asked p line table t s h) c;
   }

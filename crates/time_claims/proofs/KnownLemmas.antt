@@ -10,6 +10,8 @@ use Rattle.exec_claims.specs.Cause.{ListingFileCause, OrderCause, OrderFileCause
 use Rattle.exec_claims.specs.Cause.RunCause.{done, trap, turn_limit, stuck, idle}
 use Rattle.exec_claims.specs.Cause.OrderCause.{bad_item, ran as run_under}
 use Rattle.exec_claims.specs.Cause.TextCause.{unreadable, too_long, work}
+use Rattle.exec_claims.specs.Cause.CheckFails.{unsound, too_large}
+use Rattle.exec_claims.specs.Cause.CodeCause.{fails, passes}
 use Rattle.exec_claims.specs.Cause.ListingCause.{bad_line, bad_table, listed}
 use Rattle.exec_claims.specs.declared.status.TheConstants.{TOO_MANY_MOVES}
 use Rattle.time_claims.specs.Cause.{Cause, TimeCause}
@@ -51,7 +53,11 @@ module _ (call : Call) (ex : Execution) (file : List ℕ) (asked : Asked) where
       record { usage = λ h. omega arith; many = λ h. omega arith }
   file_other (work source (bad_table line e z)) =
       record { usage = λ h. omega arith; many = λ h. omega arith }
-  file_other (work source (listed code is made c)) =
+  file_other (work source (listed code is made (fails asks z (unsound at f)))) =
+      record { usage = λ h. omega arith; many = λ h. omega arith }
+  file_other (work source (listed code is made (fails asks z (too_large f)))) =
+      record { usage = λ h. omega arith; many = λ h. omega arith }
+  file_other (work source (listed code is made (passes passed c))) =
       order_file_other call code asked ex.turns asked.order _ _ c
 
   -- `exec` has no cause of the status of too many moves

@@ -81,7 +81,7 @@ module _ (call : Call) (ex : Execution) (file : List ℕ) (asked : Asked) (m : �
   pub not_long : {P : Run → ℕ → Type 0} → HasRun call file asked ex P
       → IsLong call ex file asked → ⊥
   not_long h (inl long) = text_short call file m settled long h.source
-  not_long h (inr listed) = order_read asked.order h.text h.order_text listed.holds
+  not_long h (inr listed) = order_read asked.order h.text h.order_text listed.holds.1
 
   pub not_unlisted : {P : Run → ℕ → Type 0} → HasRun call file asked ex P
       → HasNoListing call file → ⊥
