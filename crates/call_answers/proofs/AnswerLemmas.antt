@@ -66,6 +66,8 @@ failed_of (answer.Unbuilt fault) e = absurd ((build_other fault).put e)
 failed_of (answer.BadLine line) e = absurd (omega arith)
 failed_of (answer.BadTable line) e = absurd (omega arith)
 failed_of (answer.BadItem at) e = absurd (omega arith)
+failed_of (answer.Unsound at) e = absurd (omega arith)
+failed_of answer.CheckLimit e = absurd (omega arith)
 failed_of answer.NoMemory e = absurd (omega arith)
 
 -- and so is that of words that are no command
@@ -81,6 +83,8 @@ usage_of (answer.Unbuilt fault) e = absurd ((build_other fault).usage e)
 usage_of (answer.BadLine line) e = absurd (omega arith)
 usage_of (answer.BadTable line) e = absurd (omega arith)
 usage_of (answer.BadItem at) e = absurd (omega arith)
+usage_of (answer.Unsound at) e = absurd (omega arith)
+usage_of answer.CheckLimit e = absurd (omega arith)
 usage_of answer.NoMemory e = absurd (omega arith)
 
 -- an answer is a failed put, want of memory, or decided
@@ -115,6 +119,9 @@ kind_of (answer.BadTable line) =
     decided_by (answer.BadTable line) (λ e. omega arith) (λ e. omega arith)
 kind_of (answer.BadItem at) =
     decided_by (answer.BadItem at) (λ e. omega arith) (λ e. omega arith)
+kind_of (answer.Unsound at) =
+    decided_by (answer.Unsound at) (λ e. omega arith) (λ e. omega arith)
+kind_of answer.CheckLimit = decided_by answer.CheckLimit (λ e. omega arith) (λ e. omega arith)
 
 pub failed_or : (a : Answer) → (a ≡ answer.PutFailed) ⊎ (a ≢ answer.PutFailed)
 failed_or a = elim (kind_of a) [

@@ -8,7 +8,7 @@ use Rattle.exec_claims.specs.of_call_claims.Answer.{CountsFetches, CountsPuts, I
 use Rattle.exec_claims.specs.of_call_claims.Decided.{IsDecided}
 use Rattle.exec_claims.specs.of_call_claims.Stream.{Stream}
 use Rattle.exec_claims.specs.of_call_claims.Texts.{no_memory_text}
-use Rattle.exec_claims.specs.of_call_claims.declared.status.TheConstants.{NO_MEMORY, PUT_FAILED, UNREADABLE, USAGE}
+use Rattle.exec_claims.specs.of_call_claims.declared.status.TheConstants.{DONE, NO_MEMORY, PUT_FAILED, UNREADABLE, USAGE}
 use Rattle.call_answers.specs.Answers.{status_of, told_of}
 use Rattle.call_answers.specs.Stops.{CallStopsAtFault}
 use Rattle.call_answers.specs.Told.{IsAnswerOf, IsHalfTold}
@@ -30,6 +30,20 @@ module _ (a : Answer) (status : ℕ) (errs : Stream) (is : IsAnswerOf a status e
   -- the answer, or that memory was wanting
   pub told_as : status ≢ PUT_FAILED → (is.answer ≡ a) ⊎ (is.answer ≡ answer.NoMemory)
   told_as n = is.told.same (told_other n)
+
+  -- where the status is that of work that was done, so is that of the answer
+  done_of : status ≡ DONE → (is.answer ≡ a) ⊎ (is.answer ≡ answer.NoMemory) → status_of a ≡ DONE
+  done_of done (inl same) = sym (ap status_of same) ∙ (sym is.is ∙ done)
+  done_of done (inr none) = absurd (omega (arith, is.is, ap status_of none, done))
+
+  pub told_done : status ≢ PUT_FAILED → status ≡ DONE → status_of a ≡ DONE
+  told_done n done = done_of done (told_as n)
+
+  -- where a put of errs failed, the work wasn't done: nothing is told of that
+  pub not_done : is.answer ≡ answer.PutFailed → a ≢ answer.Stopped stop.Done None
+  not_done failed done =
+      let no : answer.PutFailed ≡ answer.Stopped stop.Done None = sym failed ∙ (is.told.quiet done ∙ done) in
+      absurd cc
 
   -- no other status is told than that of the work, or of want of memory
   pub status_known : status_of a ≢ USAGE → status ≢ USAGE

@@ -17,9 +17,9 @@ use Rattle.exec_claims.specs.of_call_claims.declared.status.TheConstants.{DONE, 
 use Rattle.exec_claims.specs.of_call_claims.declared.status.TheConstants.{REFUSED, UNBOUND, TRAPPED, TURN_LIMIT}
 use Rattle.exec_claims.specs.of_call_claims.declared.status.TheConstants.{PUT_FAILED, NO_MEMORY}
 use Rattle.exec_claims.specs.Texts.{order_refused_text, listing_refused_text, report_text, stuck_text}
-use Rattle.exec_claims.specs.Texts.{too_many_moves_text}
+use Rattle.exec_claims.specs.Texts.{check_limit_text, too_many_moves_text, unsound_text}
 use Rattle.exec_claims.specs.declared.status.TheConstants.{ORDER_REFUSED, LISTING_REFUSED, STUCK}
-use Rattle.exec_claims.specs.declared.status.TheConstants.{TOO_MANY_MOVES}
+use Rattle.exec_claims.specs.declared.status.TheConstants.{CHECK_LIMIT, TOO_MANY_MOVES, UNSOUND}
 use Rattle.call_answers.specs.declared.answers.Answer.{Answer}
 use Rattle.call_answers.specs.declared.answers.Answer.TheVariants as answer
 use Rattle.call_answers.specs.declared.answers.Stop.{Stop}
@@ -70,6 +70,8 @@ status_of (answer.Unbuilt fault) = build_status fault
 status_of (answer.BadLine line) = LISTING_REFUSED
 status_of (answer.BadTable line) = LISTING_REFUSED
 status_of (answer.BadItem at) = ORDER_REFUSED
+status_of (answer.Unsound at) = UNSOUND
+status_of answer.CheckLimit = CHECK_LIMIT
 status_of (answer.Stopped stop report) = stop_status stop
 status_of answer.PutFailed = PUT_FAILED
 status_of answer.NoMemory = NO_MEMORY
@@ -85,6 +87,8 @@ text_of (answer.Unbuilt fault) = build_text fault
 text_of (answer.BadLine line) = listing_refused_text (codes "BadLine") line
 text_of (answer.BadTable line) = listing_refused_text (codes "BadTable") line
 text_of (answer.BadItem at) = order_refused_text at
+text_of (answer.Unsound at) = unsound_text at
+text_of answer.CheckLimit = check_limit_text
 text_of (answer.Stopped stop report) = stop_text stop
 text_of answer.PutFailed = []
 text_of answer.NoMemory = no_memory_text

@@ -48,6 +48,10 @@ pub enum Answer<'a> {
     BadTable(u32),
     /// The item of the order at this byte is wrong.
     BadItem(u32),
+    /// The listed code isn't sound: the demand of this instruction isn't met.
+    Unsound(u32),
+    /// The listed code is too large for a check.
+    CheckLimit,
     /// The work stopped so; with the counts that are to be reported, if they are.
     Stopped(Stop, Option<Counts>),
     /// A put failed.
@@ -82,6 +86,8 @@ impl<'a> Answer<'a> {
             Answer::Unbuilt(fault) => fault.status(),
             Answer::BadLine(_) | Answer::BadTable(_) => status::LISTING_REFUSED,
             Answer::BadItem(_) => status::ORDER_REFUSED,
+            Answer::Unsound(_) => status::UNSOUND,
+            Answer::CheckLimit => status::CHECK_LIMIT,
             Answer::Stopped(stop, _) => stop.status(),
             Answer::PutFailed => common::PUT_FAILED,
             Answer::NoMemory => common::NO_MEMORY,

@@ -3,7 +3,7 @@ ghost use Rattle.std.specs.Prelude.{◌≡◌, ◌++◌, codes, IfOk, OnOk};
 ghost use Rattle.std.specs.Fmt.{decimal};
 ghost use Rattle.exec_claims.specs.of_call_claims.Texts.{fault_text, settings_text, trap_name, trap_text};
 ghost use Rattle.exec_claims.specs.of_call_claims.Texts.{whole_text};
-ghost use Rattle.exec_claims.specs.Texts.{listing_refused_text, order_refused_text};
+ghost use Rattle.exec_claims.specs.Texts.{listing_refused_text, order_refused_text, unsound_text};
 ghost use Rattle.exec_claims.specs.Texts.{report_text, stuck_text};
 ghost use Rattle.call_answers.specs.Answers.{kind_text};
 
@@ -81,6 +81,16 @@ pub fn order_line(alloc: Global, at: u32) -> Result<Vec<u8>, AllocError>
     ensures { IfOk result (λ text. text.items ≡ order_refused_text at) }
 {
     let mut text = Vec::from_slice(alloc, b"order refused, byte ")?;
+    write_decimal(u128::from(at), &mut text)?;
+    text.extend_from_slice(b"\n")?;
+    Ok(text)
+}
+
+/// A line with the instruction of code that isn't sound.
+pub fn unsound_line(alloc: Global, at: u32) -> Result<Vec<u8>, AllocError>
+    ensures { IfOk result (λ text. text.items ≡ unsound_text at) }
+{
+    let mut text = Vec::from_slice(alloc, b"unsound, instruction ")?;
     write_decimal(u128::from(at), &mut text)?;
     text.extend_from_slice(b"\n")?;
     Ok(text)

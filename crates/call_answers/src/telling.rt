@@ -11,7 +11,7 @@ ghost use Rattle.call_answers.specs.Told.{IsHalfTold, IsTold};
 use crate::answers::{Answer, Stop};
 use crate::lines::{
     fault_line, file_line, listing_line, order_line, report_line, settings_line, stuck_line,
-    trap_line, whole_line,
+    trap_line, unsound_line, whole_line,
 };
 use crate::refusals::{BuildFault, Refusal};
 use grid_sim::Counts;
@@ -149,6 +149,8 @@ fn text_piece(alloc: Global, answer: Answer<'_>) -> Result<Piece, AllocError>
         Answer::BadLine(line) => Piece::Made(listing_line(alloc, b"BadLine", line)?),
         Answer::BadTable(line) => Piece::Made(listing_line(alloc, b"BadTable", line)?),
         Answer::BadItem(at) => Piece::Made(order_line(alloc, at)?),
+        Answer::Unsound(at) => Piece::Made(unsound_line(alloc, at)?),
+        Answer::CheckLimit => Piece::Fixed(b"check limit\n"),
         Answer::Stopped(stop, _) => stop_piece(alloc, stop)?,
         Answer::PutFailed => Piece::Fixed(b""),
         Answer::NoMemory => Piece::Fixed(b"no memory\n"),

@@ -17,10 +17,12 @@ use Rattle.call_claims.specs.Command.{Asked, IsExec}
 use Rattle.call_claims.specs.Stream.{Stream}
 use Rattle.grid_call.specs.of_exec_claims.Answer.{IsReadFor, Runs, TakesPrinted}
 use Rattle.grid_call.specs.of_exec_claims.Cause.{Cause, Execs}
-use Rattle.grid_call.specs.of_exec_claims.Decided.{ExecsNoListing, ExecsTooLong, ExecsBadOrder}
+use Rattle.grid_call.specs.of_exec_claims.Decided.{ExecsBadOrder, ExecsChecked, ExecsNoListing}
+use Rattle.grid_call.specs.of_exec_claims.Decided.{ExecsTooLong, IsTooLarge, IsUnsound}
 use Rattle.grid_call.specs.of_exec_claims.Whole.{CanExecute, HasExecuted}
 use Rattle.grid_call.specs.of_exec_claims.Decided.{IsDoneAt, IsStuckOrIdleAt, IsTrapAt, RunsTo}
-use Rattle.grid_call.specs.of_exec_claims.declared.status.TheConstants.{LISTING_REFUSED, ORDER_REFUSED, STUCK}
+use Rattle.grid_call.specs.of_exec_claims.declared.status.TheConstants.{CHECK_LIMIT, LISTING_REFUSED}
+use Rattle.grid_call.specs.of_exec_claims.declared.status.TheConstants.{ORDER_REFUSED, STUCK, UNSOUND}
 
 -- ---- a put that failed
 -- The code was run, and the stream took what is printed in the given turns and a front of what the
@@ -53,6 +55,10 @@ pub record IsExecuted (call : Call) (ran : Ran) (out errs : Stream) : Type 0 whe
       → (ran.status ≡ TOO_LONG) ↔ ExecsTooLong call
   pub refused : IsSettled call ran.status
       → (ran.status ≡ LISTING_REFUSED) ↔ ExecsNoListing call
+  pub unsound : IsSettled call ran.status
+      → (ran.status ≡ UNSOUND) ↔ ExecsChecked call IsUnsound
+  pub too_large : IsSettled call ran.status
+      → (ran.status ≡ CHECK_LIMIT) ↔ ExecsChecked call IsTooLarge
   pub order_refused : IsSettled call ran.status
       → (ran.status ≡ ORDER_REFUSED) ↔ ExecsBadOrder call
   pub done : IsSettled call ran.status
@@ -63,8 +69,9 @@ pub record IsExecuted (call : Call) (ran : Ran) (out errs : Stream) : Type 0 whe
       → (ran.status ≡ TURN_LIMIT) ↔ RunsTo call (execution_of ran) IsLimitedAt
   pub stuck : IsSettled call ran.status
       → (ran.status ≡ STUCK) ↔ RunsTo call (execution_of ran) IsStuckOrIdleAt
-  -- Where the file tells a listing, and the words name an order of its processors, if any, the listed
-  -- code was run under it, and what is told is what came of the run, under the same conditions.
+  -- Where the file tells a listing, of sound code if the words ask for that, and they name an order
+  -- of its processors, if any, the listed code was run under it, and what is told is what came of the
+  -- run, under the same conditions.
   pub finished : IsSettled call ran.status → (file : List ℕ) (asked : Asked)
       → IsExec call.words file asked → (can : CanExecute call file asked)
       → (told : List ℕ) × HasExecuted can (execution_of ran) ran.status told

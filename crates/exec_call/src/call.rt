@@ -1,8 +1,9 @@
 //! The call.
-ghost use Rattle.std.specs.Prelude.{◌≡◌, ◌≢◌, ℕ, List};
+ghost use Rattle.std.specs.Prelude.{◌≡◌, ◌≢◌, ℕ, List, Some};
 ghost use Rattle.zpl_io.specs.Faults.{CountsFaults};
 ghost use Rattle.zpl_io.specs.Files.{SameTexts};
 ghost use Rattle.zpl_io.specs.Sink.{StopsAtFault};
+ghost use Rattle.grid_call.specs.of_code_layout.Room.{HasRoom};
 ghost use Rattle.call_claims.specs.Answer.{CountsFetches, CountsPuts};
 ghost use Rattle.call_claims.specs.Call.{call_of};
 ghost use Rattle.call_claims.specs.Command.{IsExec};
@@ -13,22 +14,24 @@ ghost use Rattle.grid_call.specs.of_call_answers.Answers.{status_of};
 ghost use Rattle.grid_call.specs.of_call_answers.Stops.{CallStopsAtFault};
 ghost use Rattle.call_words.specs.Reading.{asked_in};
 ghost use Rattle.exec_call.specs.Call.{IsExecuted};
-ghost use Rattle.exec_call.specs.Work.{IsWorkOn};
+ghost use Rattle.exec_call.specs.Work.{IsListedWork, IsWorkOn};
 
+use crate::checks::check_where_asked;
 use crate::fetches::fetch_code;
 use call_claims::Ran;
-use call_words::FileCommand;
+use call_words::{Asked, FileCommand};
 use grid_call::call_answers::{Answer, Work, answered};
 use grid_call::exec_claims::{exec_statuses_are_exact, listings_are_executed};
 use grid_call::run_code;
 use listing_runs::listed_code_has_room;
+use node_form::NodeProgram;
 use std::alloc::Global;
 use zpl_io::{Files, Sink};
 
 /// Runs a listing: what the program prints goes to `out`, and what is told of the answer to `errs`.
 ///
-/// The listing is fetched and read, then the order of turns, and the code is run under it. The
-/// status has its cause. All that is told is made before anything of it is put, and after a failed
+/// The listing is fetched and read, and its code checked where that is asked for; then the order of
+/// turns is fetched and read, and the code is run under it. The status has its cause. All that is told is made before anything of it is put, and after a failed
 /// put nothing more is put on either sink.
 pub fn exec<F: Files, O: Sink, E: Sink>(
     alloc: Global,
@@ -90,7 +93,36 @@ fn work_for<'a, F: Files, O: Sink>(
 {
     listed_code_has_room();
     match fetch_code(alloc, command.file, files) {
-        Ok(code) => run_code(alloc, code, command.asked, files, out),
+        Ok(code) => run_listed(alloc, code, command.asked, files, out),
         Err(answer) => Work::without_turns(None, answer),
+    }
+}
+
+/// The work on listed code, up to its answer: it is checked, where that is asked for, and then run.
+fn run_listed<'a, F: Files, O: Sink>(
+    alloc: Global,
+    code: NodeProgram,
+    asked: Asked<'a>,
+    files: &mut F,
+    out: &mut O,
+) -> Work<'a>
+    requires room { HasRoom code }
+    requires asked { CanBeMet (asked_in asked) }
+    ensures code { result.code ≡ Some code }
+    ensures work { (words : List (List ℕ)) →
+        IsListedWork (call_of words (F.tells files.old) (F.may_fail files.old)
+        (F.may_fail_later files.old)) code (asked_in asked.entry) result
+        (O.tells out.old) (O.tells out.new) }
+    ensures texts { SameTexts (F.tells files.old) (F.tells files.new) }
+    ensures fetches { CountsFaults (status_of result.answer ≡ UNREADABLE)
+        (F.faults files.old) (F.faults files.new) }
+    ensures puts { CountsFaults (result.answer ≡ Answer.PutFailed)
+        (O.faults out.old) (O.faults out.new) }
+    ensures stops { StopsAtFault (result.answer ≡ Answer.PutFailed)
+        (O.has_failed out.old) (O.has_failed out.new) }
+{
+    match check_where_asked(alloc, asked.checked, &code) {
+        Ok(()) => run_code(alloc, code, asked, files, out),
+        Err(answer) => Work::without_turns(Some(code), answer),
     }
 }

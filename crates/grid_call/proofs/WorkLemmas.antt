@@ -48,6 +48,8 @@ unread_order call code file source (answer.Unbound fault) is = elim is [ ]
 unread_order call code file source (answer.Unbuilt fault) is = elim is [ ]
 unread_order call code file source (answer.BadLine line) is = elim is [ ]
 unread_order call code file source (answer.BadTable line) is = elim is [ ]
+unread_order call code file source (answer.Unsound at) is = elim is [ ]
+unread_order call code file source answer.CheckLimit is = elim is [ ]
 unread_order call code file source (answer.Stopped stop report) is = elim is [ ]
 unread_order call code file source answer.PutFailed is = elim is [ ]
 
@@ -69,6 +71,8 @@ unfetched_order call code file (answer.Unbuilt fault) is = elim is [ ]
 unfetched_order call code file (answer.BadLine line) is = elim is [ ]
 unfetched_order call code file (answer.BadTable line) is = elim is [ ]
 unfetched_order call code file (answer.BadItem at) is = elim is [ ]
+unfetched_order call code file (answer.Unsound at) is = elim is [ ]
+unfetched_order call code file answer.CheckLimit is = elim is [ ]
 unfetched_order call code file (answer.Stopped stop report) is = elim is [ ]
 unfetched_order call code file answer.PutFailed is = elim is [ ]
 
@@ -85,6 +89,8 @@ unfetched_unrun Tells May limit file (answer.Unbuilt fault) is = tt
 unfetched_unrun Tells May limit file (answer.BadLine line) is = tt
 unfetched_unrun Tells May limit file (answer.BadTable line) is = tt
 unfetched_unrun Tells May limit file (answer.BadItem at) is = tt
+unfetched_unrun Tells May limit file (answer.Unsound at) is = tt
+unfetched_unrun Tells May limit file answer.CheckLimit is = tt
 unfetched_unrun Tells May limit file answer.PutFailed is = tt
 unfetched_unrun Tells May limit file answer.NoMemory is = tt
 

@@ -2,7 +2,12 @@
 //! its grid and writes a line for each turn.
 #![tactic(auto)]
 
-use call_words::{Command, command_of};
+ghost use Rattle.std.specs.Prelude.{map, string_bytes, IfSome};
+ghost use Rattle.call_words.specs.of_call_claims.Command.{IsExec};
+ghost use Rattle.call_words.specs.Reading.{asked_in};
+ghost use Rattle.trace_call.specs.Call.{IsPlain};
+
+use call_words::{Command, FileCommand, command_of};
 use std::alloc::AllocError;
 use std::io::ErrorKind;
 use std::process::ExitCode;
@@ -22,6 +27,20 @@ fn command_line(rt: &(impl Env + AllocGlobal)) -> io::Result<Vec<String>> {
     Ok(words)
 }
 
+/// The command of `zplgrid exec` that the words are, where it asks for no check and no saved grid.
+fn traced_command(words: &[String]) -> Option<FileCommand<'_>>
+    ensures exec { IfSome result (λ command.
+        IsExec (map string_bytes words.now) command.file.now (asked_in command.asked)) }
+    ensures plain { IfSome result (λ command. IsPlain (asked_in command.asked)) }
+{
+    match command_of(words) {
+        Some(Command::Exec(command)) if !command.asked.checked && !command.asked.save => {
+            Some(command)
+        }
+        _ => None,
+    }
+}
+
 fn main(rt: HostRuntime) -> io::Result<ExitCode> {
     let alloc = rt.alloc();
     let mut errs = StdSink::new(rt.stderr());
@@ -34,7 +53,7 @@ fn main(rt: HostRuntime) -> io::Result<ExitCode> {
         }
         words => words?,
     };
-    let Some(Command::Exec(command)) = command_of(words.as_slice()) else {
+    let Some(command) = traced_command(words.as_slice()) else {
         let usage = b"usage: gridtrace LISTING [order=FILE] [turns=N] [links=C] [report]\n";
         let _ = put_piece(&mut errs, usage);
         return Ok(ExitCode::from(1));

@@ -107,6 +107,10 @@ part_of call (answer.BadTable line) before after put out =
     inl (out.nothing (λ e. omega arith) (no_end 11 (λ e. omega arith) (λ e. omega arith) (λ e. omega arith)))
 part_of call (answer.BadItem at) before after put out =
     inl (out.nothing (λ e. omega arith) (no_end 6 (λ e. omega arith) (λ e. omega arith) (λ e. omega arith)))
+part_of call (answer.Unsound at) before after put out =
+    inl (out.nothing (λ e. omega arith) (no_end 13 (λ e. omega arith) (λ e. omega arith) (λ e. omega arith)))
+part_of call answer.CheckLimit before after put out =
+    inl (out.nothing (λ e. omega arith) (no_end 14 (λ e. omega arith) (λ e. omega arith) (λ e. omega arith)))
 
 -- where memory was wanting
 pub wanting_output : (call : Call) (before after : List ℕ → Type 0) → TakesPart call before after
@@ -234,6 +238,8 @@ module _ (call : Call) (file : List ℕ) (asked : Asked) (given : IsMean call.wo
     of_text (answer.BadLine line) has = absurd has
     of_text (answer.BadTable line) has = absurd has
     of_text (answer.BadItem at) has = absurd has
+    of_text (answer.Unsound at) has = absurd has
+    of_text answer.CheckLimit has = absurd has
 
   -- there is no text
   pub unfetched : (a : Answer)
@@ -258,6 +264,8 @@ module _ (call : Call) (file : List ℕ) (asked : Asked) (given : IsMean call.wo
   unfetched (answer.BadLine line) is takes = absurd is
   unfetched (answer.BadTable line) is takes = absurd is
   unfetched (answer.BadItem at) is takes = absurd is
+  unfetched (answer.Unsound at) is takes = absurd is
+  unfetched answer.CheckLimit is takes = absurd is
   unfetched (answer.Stopped stop report) is takes = absurd is
   unfetched answer.PutFailed is takes = absurd is
 
@@ -284,6 +292,8 @@ text_not_unread (answer.Unbuilt fault) e text settings loops before after has = 
 text_not_unread (answer.BadLine line) e text settings loops before after has = omega (arith, e)
 text_not_unread (answer.BadTable line) e text settings loops before after has = omega (arith, e)
 text_not_unread (answer.BadItem at) e text settings loops before after has = omega (arith, e)
+text_not_unread (answer.Unsound at) e text settings loops before after has = omega (arith, e)
+text_not_unread answer.CheckLimit e text settings loops before after has = omega (arith, e)
 text_not_unread answer.PutFailed e text settings loops before after has = omega (arith, e)
 text_not_unread answer.NoMemory e text settings loops before after has = omega (arith, e)
 

@@ -76,6 +76,8 @@ MeansText text settings loops before after (answer.Unbuilt fault) = ⊥
 MeansText text settings loops before after (answer.BadLine line) = ⊥
 MeansText text settings loops before after (answer.BadTable line) = ⊥
 MeansText text settings loops before after (answer.BadItem at) = ⊥
+MeansText text settings loops before after (answer.Unsound at) = ⊥
+MeansText text settings loops before after answer.CheckLimit = ⊥
 
 -- ---- the work of a call
 -- The answer has its cause, unless a put failed or memory was wanting, and the sink took what is

@@ -13,7 +13,8 @@ use Rattle.call_claims.specs.Execution.{Execution, HasNoCounts, HasNoRun, execut
 use Rattle.call_claims.specs.Stream.{Stream}
 use Rattle.call_claims.specs.declared.status.TheConstants.{PUT_FAILED}
 use Rattle.time_claims.specs.of_exec_claims.Answer.{HasCounts, IsListedIn, Runs}
-use Rattle.time_claims.specs.of_exec_claims.Cause.{ListingFileCause, OrderFileCause, RunCause, run_of}
+use Rattle.time_claims.specs.of_exec_claims.Cause.{CodeCause, ListingFileCause, OrderFileCause, RunCause, run_of}
+use Rattle.time_claims.specs.of_exec_claims.Cause.CodeCause.{passes}
 use Rattle.time_claims.specs.of_exec_claims.Cause.RunCause.{done, trap, turn_limit, stuck, idle}
 use Rattle.time_claims.specs.of_exec_claims.Cause.TextCause.{too_long, unreadable, work as of_text}
 use Rattle.time_claims.specs.of_exec_claims.Cause.ListingCause.{bad_line, bad_table, listed}
@@ -31,6 +32,8 @@ use Rattle.exec_call.proofs.of_call_answers.AnswerLemmas.{kind_of}
 use Rattle.exec_call.proofs.of_call_answers.AnswerLemmas.Kind.{is_failed, is_wanting, is_decided}
 use Rattle.exec_call.proofs.of_call_answers.CallLemmas.{told_as, work_other}
 use Rattle.exec_call.specs.Work.{ReadsNone}
+use Rattle.exec_call.proofs.WorkLemmas.{with_work}
+use Rattle.exec_call.proofs.of_grid_call.of_exec_claims.CheckLemmas.{passes_unasked}
 use Rattle.exec_call.specs.of_grid_call.Work.{HasNoTurns, IsOrderOf}
 use Rattle.exec_call.proofs.of_grid_call.WorkLemmas.{cause_back, none_counted, order_back}
 use Rattle.time_claims.specs.Answer.{IsOverStatus, IsReadFor, TakesOutput, TakesTime, TakesTimeFront, TellsTime}
@@ -84,6 +87,8 @@ unrun_end (answer.Unbound fault) is = not_end 5 (λ e. omega arith) (λ e. omega
 unrun_end (answer.BadLine line) is = not_end 11 (λ e. omega arith) (λ e. omega arith) (λ e. omega arith) (λ e. omega arith)
 unrun_end (answer.BadTable line) is = not_end 11 (λ e. omega arith) (λ e. omega arith) (λ e. omega arith) (λ e. omega arith)
 unrun_end (answer.BadItem at) is = not_end 6 (λ e. omega arith) (λ e. omega arith) (λ e. omega arith) (λ e. omega arith)
+unrun_end (answer.Unsound at) is = not_end 13 (λ e. omega arith) (λ e. omega arith) (λ e. omega arith) (λ e. omega arith)
+unrun_end answer.CheckLimit is = not_end 14 (λ e. omega arith) (λ e. omega arith) (λ e. omega arith) (λ e. omega arith)
 unrun_end answer.PutFailed is = not_end 9 (λ e. omega arith) (λ e. omega arith) (λ e. omega arith) (λ e. omega arith)
 unrun_end answer.NoMemory is = not_end 10 (λ e. omega arith) (λ e. omega arith) (λ e. omega arith) (λ e. omega arith)
 
@@ -130,6 +135,7 @@ module _ (call : Call) (file : List ℕ) (asked : Asked) (work : Work) (before a
     code = code;
     listing = is.listing;
     made = made;
+    sound = passes_unasked asked code given.takes.no_checked;
     text = ordered.text;
     order_text = ordered.order_text;
     order = order;
@@ -149,17 +155,24 @@ module _ (call : Call) (file : List ℕ) (asked : Asked) (work : Work) (before a
   run_cause code made is order ordered run (past more) =
       too_many (has_run code made is order ordered run _ more)
 
+  reads_caused : ReadsNone call file work.answer → work.code ≡ None → HasNoTurns work before after
+      → IsDecided (status_of work.answer)
+      → ListingFileCause call file asked ex (status_of work.answer) (told_of work.answer)
+  reads_caused reads none nothing d =
+      with_work (CodeCause call asked ex.turns) (reads d ex (no_run none nothing))
+
   time_cause : IsWorkOn call file asked work before after → IsDecided (status_of work.answer)
       → TimeCause call file asked ex (status_of work.answer) (told_of work.answer)
   time_cause (unread none reads nothing) d =
-      let cause = reads d asked ex (no_run none nothing) in
+      let cause = reads_caused reads none nothing d in
       not_run cause (no_code_end call file asked ex (no_run none nothing) cause)
   time_cause (read code made is (unordered fails unrun nothing)) d =
       let turns : work.counts.turns ≡ 0 = ap (λ counts. counts.turns) nothing.counts in
       not_run
       (of_text is.source (listed code is.listing made
+      (passes (passes_unasked asked code given.takes.no_checked)
       (subst (λ n. OrderFileCause call code asked n asked.order (status_of work.answer)
-      (told_of work.answer)) (sym turns) (fails d asked))))
+      (told_of work.answer)) (sym turns) (fails d asked)))))
       (unrun_end work.answer unrun)
   time_cause (read code made is (timed order ordered run)) d =
       run_cause code made is order ordered run (run.cause d)
@@ -230,6 +243,10 @@ module _ (call : Call) (file : List ℕ) (asked : Asked) (work : Work) (before a
           other (answer.BadTable line) same (of (answer.BadTable line) same) (λ e. omega arith) (λ e. omega arith)
       by (answer.BadItem at) same put =
           other (answer.BadItem at) same (of (answer.BadItem at) same) (λ e. omega arith) (λ e. omega arith)
+      by (answer.Unsound at) same put =
+          other (answer.Unsound at) same (of (answer.Unsound at) same) (λ e. omega arith) (λ e. omega arith)
+      by answer.CheckLimit same put =
+          other answer.CheckLimit same (of answer.CheckLimit same) (λ e. omega arith) (λ e. omega arith)
       by answer.NoMemory same put = other answer.NoMemory same (of answer.NoMemory same) (λ e. omega arith) (λ e. omega arith)
 
   -- where no code was read
@@ -240,7 +257,7 @@ module _ (call : Call) (file : List ℕ) (asked : Asked) (work : Work) (before a
     | is_wanting wanting ↦ not_over (status_of work.answer) (λ e. omega (arith, e, ap status_of wanting))
         (λ e. omega (arith, e, ap status_of wanting)) over
     | is_decided other d ↦
-        no_code_end call file asked ex (no_run none nothing) (reads d asked ex (no_run none nothing)) (over_end over)
+        no_code_end call file asked ex (no_run none nothing) (reads_caused reads none nothing d) (over_end over)
   ]
 
   taken : IsWorkOn call file asked work before after → work.answer ≢ answer.PutFailed → Taken

@@ -46,6 +46,8 @@ unfetched call file build (answer.Unbuilt fault) is = absurd is
 unfetched call file build (answer.BadLine line) is = absurd is
 unfetched call file build (answer.BadTable line) is = absurd is
 unfetched call file build (answer.BadItem at) is = absurd is
+unfetched call file build (answer.Unsound at) is = absurd is
+unfetched call file build answer.CheckLimit is = absurd is
 unfetched call file build (answer.Stopped stop report) is = absurd is
 unfetched call file build answer.PutFailed is = absurd is
 
@@ -61,6 +63,8 @@ unfetched_not_put Tells May limit file (answer.Unbuilt fault) is = absurd is
 unfetched_not_put Tells May limit file (answer.BadLine line) is = absurd is
 unfetched_not_put Tells May limit file (answer.BadTable line) is = absurd is
 unfetched_not_put Tells May limit file (answer.BadItem at) is = absurd is
+unfetched_not_put Tells May limit file (answer.Unsound at) is = absurd is
+unfetched_not_put Tells May limit file answer.CheckLimit is = absurd is
 unfetched_not_put Tells May limit file (answer.Stopped stop report) is = absurd is
 unfetched_not_put Tells May limit file answer.PutFailed is = absurd is
 

@@ -1,5 +1,5 @@
 -- The cause of the answer of a listing, and what out took.
-use Rattle.std.proofs.Common.{◌≡◌, ◌≢◌, ◌⊎◌, ℕ, List, Some, None, sym, ◌∙◌, ap}
+use Rattle.std.proofs.Common.{◌≡◌, ◌≢◌, ℕ, List, Some, None, sym, ◌∙◌, ap}
 use Rattle.std.proofs.Common.{subst, inl, inr, arith}
 use Rattle.zpl_io.specs.Sink.{Takes, TakesFront}
 use Rattle.node_form.specs.declared.tables.Tables.{Tables}
@@ -13,10 +13,7 @@ use Rattle.call_claims.specs.Command.{Asked, build_of}
 use Rattle.call_claims.specs.Decided.{IsDecided}
 use Rattle.call_claims.specs.Execution.{Execution, HasNoRun}
 use Rattle.gen_call.specs.of_list_claims.Listing.{IsMadeOf, TakesListing, TakesListingFront}
-use Rattle.call_claims.specs.Stream.{Stream}
-use Rattle.call_claims.specs.declared.status.TheConstants.{DONE, PUT_FAILED, UNREADABLE}
-use Rattle.mean_call.specs.of_call_answers.Told.{IsAnswerOf}
-use Rattle.mean_call.proofs.of_call_answers.CallLemmas.{told_as}
+use Rattle.call_claims.specs.declared.status.TheConstants.{DONE, UNREADABLE}
 use Rattle.mean_call.specs.of_call_answers.Answers.{status_of, told_of}
 use Rattle.mean_call.specs.of_call_answers.Work.{execution_in, no_counts}
 use Rattle.top_call.specs.Work.{HasNoCode, IsListOn, IsOfListing}
@@ -105,19 +102,3 @@ listing_done a is done = elim is [
     | inr e ↦ absurd (omega (arith, ap status_of e, done))
   ]
 ]
-
--- ---- what was told of a listing
-module _ (a : Answer) (status : ℕ) (errs : Stream) (is : IsAnswerOf a status errs) where
-  -- where the status is that of work that was done, so is that of the answer
-  done_of : status ≡ DONE → (is.answer ≡ a) ⊎ (is.answer ≡ answer.NoMemory) → status_of a ≡ DONE
-  done_of done (inl same) = sym (ap status_of same) ∙ (sym is.is ∙ done)
-  done_of done (inr none) = absurd (omega (arith, is.is, ap status_of none, done))
-
-  pub told_done : status ≢ PUT_FAILED → status ≡ DONE → status_of a ≡ DONE
-  told_done n done = done_of done (told_as a status errs is n)
-
-  -- where a put of errs failed, the work wasn't done: nothing is told of that
-  pub not_done : is.answer ≡ answer.PutFailed → a ≢ answer.Stopped stop.Done None
-  not_done failed done =
-      let no : answer.PutFailed ≡ answer.Stopped stop.Done None = sym failed ∙ (is.told.quiet done ∙ done) in
-      absurd cc

@@ -21,7 +21,9 @@ use Rattle.call_claims.specs.Execution.{HasNoCounts}
 use Rattle.call_claims.specs.Stream.{Stream}
 use Rattle.call_claims.specs.declared.status.TheConstants.{NO_MEMORY, PUT_FAILED}
 use Rattle.exec_claims.specs.Answer.{HasCounts, IsReadFor, Runs}
-use Rattle.exec_claims.specs.Cause.{Cause, OrderFileCause, RunCause, run_of}
+use Rattle.exec_claims.specs.Cause.{Cause, CodeCause, OrderFileCause, RunCause, run_of}
+use Rattle.exec_claims.specs.Cause.CodeCause.{passes}
+use Rattle.exec_claims.proofs.CheckLemmas.{passes_unasked}
 use Rattle.exec_claims.specs.Cause.Cause.{exec}
 use Rattle.exec_claims.specs.Cause.ListingCause.{listed}
 use Rattle.exec_claims.specs.Cause.OrderCause.{ran as under_order}
@@ -35,6 +37,7 @@ use Rattle.exec_call.specs.of_call_answers.declared.answers.Answer.TheVariants a
 use Rattle.exec_call.specs.of_call_answers.declared.work.Work.{Work}
 use Rattle.exec_call.specs.of_grid_call.Ended.{answer_in, counts_for}
 use Rattle.exec_call.specs.of_grid_call.Work.{IsOrderOf, IsRunOn}
+use Rattle.exec_call.proofs.WorkLemmas.{with_work}
 use Rattle.exec_call.proofs.of_call_answers.CallLemmas.{told_as, work_other}
 use Rattle.exec_call.proofs.of_grid_call.RunLemmas.{TurnsCount, run_is_on}
 use Rattle.exec_call.proofs.of_grid_call.WorkLemmas.{cause_back, none_counted, order_back}
@@ -244,24 +247,26 @@ of_code call code asked work before after (traced order is run) d =
     ordered call code asked work.counts.turns _ _ asked.order order is run.goes_on (run.cause d)
 
 pub caused : (call : Call) (file : List ℕ) (asked : Asked) (work : Work)
-    (before after : List ℕ → Type 0) → IsExec call.words file asked
+    (before after : List ℕ → Type 0) → IsExec call.words file asked → asked.checked ≡ false
     → IsWorkOn call file asked work before after → IsDecided (status_of work.answer)
     → Cause call (execution_in work) (status_of work.answer) (told_of work.answer)
-caused call file asked work before after given (unread none reads nothing) d =
+caused call file asked work before after given plain (unread none reads nothing) d =
     exec (record {
       file = file;
       asked = asked;
       given = given;
-      holds = reads d asked (execution_in work)
-          (record { no_code = none; no_turns = ap (λ counts. counts.turns) nothing.counts });
+      holds = with_work (CodeCause call asked (execution_in work).turns)
+          (reads d (execution_in work)
+          (record { no_code = none; no_turns = ap (λ counts. counts.turns) nothing.counts }));
     })
-caused call file asked work before after given (read code made is of) d =
+caused call file asked work before after given plain (read code made is of) d =
     exec (record {
       file = file;
       asked = asked;
       given = given;
       holds = of_text is.source
-          (listed code is.listing made (of_code call code asked work before after of d));
+          (listed code is.listing made (passes (passes_unasked asked code plain)
+          (of_code call code asked work before after of d)));
     })
 
 -- ---- the code and the counts
@@ -351,6 +356,8 @@ module _ (run : Run) (k : ℕ) (before after : List ℕ → Type 0) where
   told_lines (answer.BadLine line) put takes = lines_of run k before after takes
   told_lines (answer.BadTable line) put takes = lines_of run k before after takes
   told_lines (answer.BadItem at) put takes = lines_of run k before after takes
+  told_lines (answer.Unsound at) put takes = lines_of run k before after takes
+  told_lines answer.CheckLimit put takes = lines_of run k before after takes
   told_lines (answer.Stopped how report) put takes = lines_of run k before after takes
 
   pub told_trace : (a : Answer) → a ≢ answer.PutFailed → a ≢ answer.NoMemory
@@ -366,6 +373,8 @@ module _ (run : Run) (k : ℕ) (before after : List ℕ → Type 0) where
   told_trace (answer.BadLine line) put memory takes = takes
   told_trace (answer.BadTable line) put memory takes = takes
   told_trace (answer.BadItem at) put memory takes = takes
+  told_trace (answer.Unsound at) put memory takes = takes
+  told_trace answer.CheckLimit put memory takes = takes
   told_trace (answer.Stopped how report) put memory takes = takes
 
   pub told_some : (a : Answer) → a ≡ answer.PutFailed → TakesTold run k before after a

@@ -1,10 +1,11 @@
 -- What is said of a call that traces the run of a listing. Its words are those of `exec`, and so are
 -- the causes of its statuses, and when these come.
 --
+--   IsPlain         words of `exec` that are for a trace too
 --   TakesAs         what out took, of a call that ran some code or none
 --   TakesByStatus   what out took of the run's trace, by the status
 --   IsTraced        what comes of the call
-use Rattle.std.specs.Prelude.{◌≡◌, ◌≢◌, ◌⊎◌, ◌↔◌, ℕ, List, [], Option, Some, None, MatchOption}
+use Rattle.std.specs.Prelude.{◌≡◌, ◌≢◌, ◌⊎◌, ◌↔◌, ℕ, false, List, [], Option, Some, None, MatchOption}
 use Rattle.zpl_io.specs.Faults.{Rose}
 use Rattle.zpl_io.specs.Sink.{Takes}
 use Rattle.node_form.specs.declared.tables.Tables.{Tables}
@@ -12,6 +13,7 @@ use Rattle.grid_runs.specs.Run.{Run, IsLimitedAt}
 use Rattle.call_claims.specs.declared.ran.Ran.{Ran}
 use Rattle.call_claims.specs.Answer.{IsAnswered, IsHalfAnswered}
 use Rattle.call_claims.specs.Call.{Call}
+use Rattle.call_claims.specs.Command.{Asked}
 use Rattle.call_claims.specs.Decided.{IsSettled}
 use Rattle.call_claims.specs.Execution.{execution_of, HasNoCounts}
 use Rattle.call_claims.specs.Stream.{Stream}
@@ -23,6 +25,12 @@ use Rattle.exec_claims.specs.Decided.{ExecsNoListing, ExecsTooLong, ExecsBadOrde
 use Rattle.exec_claims.specs.Decided.{IsDoneAt, IsStuckOrIdleAt, IsTrapAt, RunsTo}
 use Rattle.exec_claims.specs.declared.status.TheConstants.{LISTING_REFUSED, ORDER_REFUSED, STUCK}
 use Rattle.trace_call.specs.Trace.{TakesLines, TakesSome, TakesTrace}
+
+-- ---- the words
+-- They ask for no check of the code, and for no saved grid.
+pub record IsPlain (asked : Asked) : Type 0 where
+  pub checked : asked.checked ≡ false
+  pub save : asked.save ≡ false
 
 -- ---- what out took
 -- nothing where no code was run; and this holds of a run

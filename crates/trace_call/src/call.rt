@@ -12,7 +12,7 @@ ghost use Rattle.call_claims.specs.declared.status.TheConstants.{UNREADABLE, USA
 ghost use Rattle.exec_call.specs.of_call_answers.Answers.{status_of};
 ghost use Rattle.exec_call.specs.of_call_answers.Stops.{CallStopsAtFault};
 ghost use Rattle.call_words.specs.Reading.{asked_in};
-ghost use Rattle.trace_call.specs.Call.{IsTraced};
+ghost use Rattle.trace_call.specs.Call.{IsPlain, IsTraced};
 ghost use Rattle.trace_call.specs.Work.{IsWorkOn};
 
 use crate::codes::trace_code;
@@ -41,6 +41,8 @@ pub fn trace<F: Files, O: Sink, E: Sink>(
     // Words give the command: what is said of the call holds of these.
     requires given { (words : List (List ℕ)) ×
         IsExec words command.file.now (asked_in command.asked) }
+    // They ask for no check and for no saved grid.
+    requires plain { IsPlain (asked_in command.asked) }
 
     // The code and the counts, what out and errs took, the cause of the status, and when statuses
     // come.

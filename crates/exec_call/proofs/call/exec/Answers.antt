@@ -51,6 +51,10 @@ returns-clause-executed g c = λ words given.
           (cause settled.decided.put) settled;
       order_refused = λ settled. all.order c.args.files.now words at status text
           (cause settled.decided.put) settled;
+      unsound = λ settled. all.unsound c.args.files.now words at status text
+          (cause settled.decided.put) settled;
+      too_large = λ settled. all.too_large c.args.files.now words at status text
+          (cause settled.decided.put) settled;
       refused = λ settled. all.listing c.args.files.now words at status text
           (cause settled.decided.put) settled;
       done = λ settled. all.done c.args.files.now words at status text

@@ -1,11 +1,11 @@
 use Rattle.std.proofs.Common.{[]}
 use Rattle.call_words.specs.Reading.{asked_in}
 use Rattle.exec_call.specs.Work.IsWorkOn.{read}
-use Rattle.grid_call.proofs.WorkLemmas.{work_back}
+use Rattle.exec_call.proofs.WorkLemmas.{listed_back}
 use Rattle.exec_call.proofs.call.work_for.Goals as goal
 
-pub run_code-requires-clause-room : goal.run_code-requires-clause-room
-run_code-requires-clause-room g c =
+pub run_listed-requires-clause-room : goal.run_listed-requires-clause-room
+run_listed-requires-clause-room g c =
     let is = (c.in-Ok.ensures {u = tt}).ok [] in
     c.listed_code_has_room.ensures.listed is.source.text _ is.listing
 
@@ -13,10 +13,10 @@ pub returns-in-Ok-clause-work : goal.returns-in-Ok-clause-work
 returns-in-Ok-clause-work g c = λ words.
     let before = c.args.files.now in
     let between = c.fetch_code.new.files in
-    read _ c.run_code.ensures.code ((c.in-Ok.ensures {u = tt}).ok words)
-    (work_back words (g.F.Files.tells before) (g.F.Files.tells between)
+    read _ c.run_listed.ensures.code ((c.in-Ok.ensures {u = tt}).ok words)
+    (listed_back words (g.F.Files.tells before) (g.F.Files.tells between)
     (g.F.Files.may_fail before) (g.F.Files.may_fail between)
     (g.F.Files.may_fail_later before) (g.F.Files.may_fail_later between)
     c.fetch_code.ensures.texts c.fetch_code.ensures.later _
-    (asked_in c.args.command.asked) c.run_code.result (g.O.Sink.tells c.args.out.now)
-    (g.O.Sink.tells c.run_code.new.out) (c.run_code.ensures.work words))
+    (asked_in c.args.command.asked) c.run_listed.result (g.O.Sink.tells c.args.out.now)
+    (g.O.Sink.tells c.run_listed.new.out) (c.run_listed.ensures.work words))

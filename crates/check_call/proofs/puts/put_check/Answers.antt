@@ -1,0 +1,12 @@
+use Rattle.check_call.proofs.WorkLemmas.{not_checked, put_checked}
+use Rattle.check_call.proofs.puts.put_check.Goals as goal
+
+pub returns-in-Ok-clause-check : goal.returns-in-Ok-clause-check
+returns-in-Ok-clause-check g c =
+    put_checked c.args.code.now c.in-Ok.links c.put_sound.result (g.O.Sink.tells c.args.out.now)
+    (g.O.Sink.tells c.put_sound.new.out) (c.in-Ok.ensures {u = tt}).sound c.put_sound.ensures.put
+
+pub returns-in-Err-clause-check : goal.returns-in-Err-clause-check
+returns-in-Err-clause-check g c =
+    not_checked c.args.code.now c.in-Err.answer (g.O.Sink.tells c.args.out.now)
+    (c.in-Err.ensures {u = tt}).fails
