@@ -4,6 +4,7 @@ use Rattle.call_claims.specs.Stream.{Stream}
 use Rattle.call_claims.specs.declared.ran.Ran.{Ran}
 use Rattle.call_words.specs.declared.commands.Command.{Command}
 use Rattle.call_words.specs.declared.commands.Command.TheVariants as command
+use Rattle.check_call.specs.Call.{IsValidated}
 use Rattle.time_call.specs.of_exec_call.Call.{IsExecuted}
 use Rattle.gen_call.specs.Call.{IsGenerated}
 use Rattle.mean_call.specs.Call.{IsMeant}
@@ -16,4 +17,5 @@ IsDone (command.Mean of) call ran out errs = IsMeant call ran out errs
 IsDone (command.Run of) call ran out errs = IsRan call ran out errs
 IsDone (command.Exec of) call ran out errs = IsExecuted call ran out errs
 IsDone (command.Time of) call ran out errs = IsTimed call ran out errs
+IsDone (command.Check of) call ran out errs = IsValidated call ran out errs
 IsDone (command.Gen of) call ran out errs = IsGenerated call.words ran out errs

@@ -7,11 +7,13 @@ ghost use Rattle.call_claims.specs.Command.{IsNoCommand};
 ghost use Rattle.call_claims.specs.Stream.{stream_of};
 ghost use Rattle.call_claims.specs.declared.status.TheConstants.{USAGE};
 ghost use Rattle.mean_call.specs.of_call_answers.Stops.{CallStopsAtFault};
+ghost use Rattle.check_call.specs.Call.{IsValidated};
 ghost use Rattle.time_call.specs.of_exec_call.Call.{IsExecuted};
 ghost use Rattle.gen_call.specs.Call.{IsGenerated};
 ghost use Rattle.mean_call.specs.Call.{IsMeant};
 ghost use Rattle.time_call.specs.Call.{IsTimed};
-ghost use Rattle.top_call.specs.Call.{AsksExec, AsksGen, AsksList, AsksMean, AsksRun, AsksTime};
+ghost use Rattle.top_call.specs.Call.{AsksCheck, AsksExec, AsksGen, AsksList, AsksMean, AsksRun};
+ghost use Rattle.top_call.specs.Call.{AsksTime};
 ghost use Rattle.top_call.specs.Call.{IsListed, IsRan, IsUnknown};
 
 use crate::commands::perform;
@@ -21,8 +23,9 @@ use mean_call::call_answers::{Answer, Work, answered};
 use std::alloc::Global;
 use zpl_io::{Files, Sink};
 
-/// Does what the words ask for: what the program prints, its listing, the time of its run, or the
-/// lines of runs of a drawn program go to `out`, and what is told of the answer to `errs`.
+/// Does what the words ask for: what the program prints, its listing, the time of its run, that its
+/// code is sound, or the lines of runs of a drawn program go to `out`, and what is told of the answer
+/// to `errs`.
 ///
 /// The status has its cause. After a failed put nothing more is put on either sink.
 pub fn zplgrid<F: Files, O: Sink, E: Sink>(
@@ -73,6 +76,15 @@ pub fn zplgrid<F: Files, O: Sink, E: Sink>(
     ensures time { let call = call_of (map string_bytes words.now) (F.tells files.old)
         (F.may_fail files.old) (F.may_fail_later files.old) in
         AsksTime call.words → IsTimed call result
+        (stream_of (O.tells out.old) (O.tells out.new) (O.faults out.old) (O.faults out.new)
+        (out.new ≡ out.old))
+        (stream_of (E.tells errs.old) (E.tells errs.new) (E.faults errs.old) (E.faults errs.new)
+        (errs.new ≡ errs.old)) }
+
+    // `check`: what code is read, whether it is sound, and why the status is what it is.
+    ensures check { let call = call_of (map string_bytes words.now) (F.tells files.old)
+        (F.may_fail files.old) (F.may_fail_later files.old) in
+        AsksCheck call.words → IsValidated call result
         (stream_of (O.tells out.old) (O.tells out.new) (O.faults out.old) (O.faults out.new)
         (out.new ≡ out.old))
         (stream_of (E.tells errs.old) (E.tells errs.new) (E.faults errs.old) (E.faults errs.new)

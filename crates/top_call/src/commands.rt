@@ -13,6 +13,7 @@ use crate::lists::list;
 use crate::runs::run;
 use call_claims::Ran;
 use call_words::Command;
+use check_call::check;
 use gen_call::generate;
 use mean_call::mean;
 use std::alloc::Global;
@@ -56,6 +57,7 @@ pub fn perform<F: Files, O: Sink, E: Sink>(
         Command::Run(of) => run(alloc, of, files, out, errs),
         Command::Exec(of) => exec(alloc, of, files, out, errs),
         Command::Time(of) => time(alloc, of, files, out, errs),
+        Command::Check(of) => check(alloc, of, files, out, errs),
         Command::Gen(of) => generate(alloc, of, out, errs),
     }
 }
