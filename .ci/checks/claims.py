@@ -2,7 +2,7 @@
 """What the documents name is there: crates, functions, clauses, words of specs.
 
 Run it at the top of the repository: .ci/checks/claims.py. It says what each README of a crate, `README.md`,
-`docs/ARCHITECTURE.md` and `docs/DEFINITIONS.md` name that isn't there, or leave out. It reads names alone: that a
+`docs/PROMISES.md`, `docs/ARCHITECTURE.md` and `docs/DEFINITIONS.md` name that isn't there, or leave out. It reads names alone: that a
 sentence says no more than its clause is for readers.
 
 - A README has the five heads of a library, or the three of a crate of tests.
@@ -13,7 +13,8 @@ sentence says no more than its clause is for readers.
 - In a row of a function a name in front of a colon is a clause of it.
 - Each other name of what is proved is one of the sources of the crate, of a crate below it, or of one that is
   named beside it.
-- The tables of `README.md` and `docs/ARCHITECTURE.md` have each library.
+- The tables of `docs/PROMISES.md` and `docs/ARCHITECTURE.md` have each library. Each crate stands in one room, the same in
+  `crates.txt` and `docs/ARCHITECTURE.md`; `README.md` names the rooms, and has at most 120 lines of 110 columns.
 - What `docs/TUTORIAL.md` shows of a primer stands in its program, line by line; `examples/README.md` names each
   program, and what it names is there.
 """
@@ -211,14 +212,46 @@ def wrong_definitions():
 
 def wrong_tables(of):
     """The libraries that a table leaves out, and the crates of the first one that aren't there, those to come aside."""
-    told, readme = [], read("README.md")
-    if len(readme.splitlines()) > 150:
-        told.append("README.md has more than 150 lines")
-    for page, text in (("README.md", readme), ("docs/ARCHITECTURE.md", read("docs/ARCHITECTURE.md"))):
+    told, readme, promises = [], read("README.md"), read("docs/PROMISES.md")
+    if len(readme.splitlines()) > 120:
+        told.append("README.md has more than 120 lines")
+    told += [f"README.md: line {at + 1} has more than 110 columns" for at, line in enumerate(readme.splitlines())
+             if len(line) > 110]
+    for page, text in (("docs/PROMISES.md", promises), ("docs/ARCHITECTURE.md", read("docs/ARCHITECTURE.md"))):
         told += [f"{page} leaves out {name}" for name in of if not name.endswith("_tests") and f"`{name}`" not in text]
-    for head, cells in rows(readme):
-        if head[0] == "Promise" and cells[-1] != "to come":
-            told += [f"README.md: {name} isn't there" for name in quoted(cells[1]) if name not in of]
+    for page, text in (("README.md", readme), ("docs/PROMISES.md", promises)):
+        for head, cells in rows(text):
+            if head[0] == "Promise" and cells[-1] != "to come":
+                told += [f"{page}: {name} isn't there" for name in quoted(cells[1]) if name not in of]
+    return told
+
+
+def rooms_of_crates():
+    """The rooms of crates.txt, each with its crates."""
+    found = {}
+    for line in read("crates.txt").splitlines():
+        if line.startswith("# "):
+            room = found.setdefault(line[2:].strip(), [])
+        elif ":" in line:
+            room.append(line.partition(":")[0].split()[0])
+    return found
+
+
+def wrong_rooms():
+    """The crates that don't stand under the same head in crates.txt and docs/ARCHITECTURE.md, and rooms that README.md has otherwise."""
+    rooms, told = rooms_of_crates(), []
+    parts = re.split(r"(?m)^### (.*)\n", read("docs/ARCHITECTURE.md"))
+    there = dict(zip(parts[1::2], parts[2::2]))
+    if list(there) != list(rooms):
+        told.append(f"docs/ARCHITECTURE.md has the rooms {list(there)}, and crates.txt {list(rooms)}")
+    for room in set(there) & set(rooms):
+        named = [name for head, cells in rows(there[room]) for name in quoted(cells[0])]
+        wanted = [name for name in rooms[room] if not name.endswith("_tests")]
+        told += [f"docs/ARCHITECTURE.md: {name} doesn't stand once under {room}" for name in wanted if named.count(name) != 1]
+        told += [f"docs/ARCHITECTURE.md: {name} stands under {room}" for name in named if name not in wanted]
+    shown = re.sub(r"\s+", " ", read("README.md"))
+    if ", ".join(rooms) not in shown:
+        told.append(f"README.md doesn't name the rooms {', '.join(rooms)}")
     return told
 
 
@@ -248,7 +281,7 @@ def main():
     of = libraries()
     names = {crate: names_of(crate) for crate in of}
     told = [f"crates.txt: {ways(of)} ways from crates to crates below them"] if ways(of) > MOST_WAYS else []
-    told += wrong_tables(of) + [f"docs/DEFINITIONS.md: {wrong}" for wrong in wrong_definitions()] + wrong_primers()
+    told += wrong_tables(of) + wrong_rooms() + [f"docs/DEFINITIONS.md: {wrong}" for wrong in wrong_definitions()] + wrong_primers()
     for crate in of:
         told += [f"crates/{crate}/README.md: {wrong}" for wrong in wrong_in(crate, of, names, clauses_of(crate))]
     for wrong in told:
