@@ -58,6 +58,9 @@ CALLS = [
     ("exec examples/listings/unheld.lst", "processor 0 is at instruction 1"),
     ("exec examples/listings/crossed.lst links=1", "examples/listings/crossed.lst:21:1: Idle"),
     ("exec examples/listings/crossed.lst links=1", "processor 0 is at instruction 3, and waits for room on its link to processor 1"),
+    ("check examples/listings/idle.lst", "examples/listings/idle.lst:14:1: this instruction lacks what it asks for"),
+    ("exec examples/listings/idle.lst checked", "a scalar of its expressions may differ between processors"),
+    ("check examples/listings/idle.lst turns=5", "`check` takes no `turns=`"),
     ("exec examples/listings/ring.lst order=examples/sum.zpl", "examples/sum.zpl:1:1: this is no item of an order"),
 ]
 
