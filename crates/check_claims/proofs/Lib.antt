@@ -1,2 +1,3 @@
 mod Exact
+pub mod NeverLemmas
 pub mod KnownLemmas

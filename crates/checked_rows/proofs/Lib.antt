@@ -1,0 +1,13 @@
+pub mod ScalarLemmas
+pub mod ValueLemmas
+pub mod ControlLemmas
+pub mod ControlRowLemmas
+pub mod PrintLemmas
+pub mod LoopScalarLemmas
+pub mod BehindLemmas
+pub mod LoopPlaceLemmas
+pub mod LoopRowLemmas
+pub mod LoopFareLemmas
+pub mod UniformLemmas
+pub mod FlightLemmas
+pub mod FareLemmas
