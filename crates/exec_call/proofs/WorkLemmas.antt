@@ -2,7 +2,8 @@
 use Rattle.std.proofs.Common.{◌≡◌, ◌≢◌, ◌⊎◌, ℕ, IsTrue, List, [], Some, MatchOption, refl, sym, ap, subst, inl, inr, arith}
 use Rattle.std.proofs.lemmas.List.{append-nil}
 use Rattle.zpl_io.specs.Files.{SameTexts}
-use Rattle.zpl_io.specs.Sink.{Takes}
+use Rattle.zpl_io.specs.Faults.{CountsFaults}
+use Rattle.zpl_io.specs.Sink.{StopsAtFault, Takes}
 use Rattle.node_form.specs.declared.tables.Tables.{Tables}
 use Rattle.call_claims.specs.Call.{Call, call_of}
 use Rattle.call_claims.specs.Decided.{IsDecided}
@@ -152,6 +153,18 @@ failed_fetches code (answer.BadTable line) is = elim is [ ]
 failed_fetches code (answer.BadItem at) is = elim is [ ]
 failed_fetches code (answer.Stopped stop report) is = elim is [ ]
 failed_fetches code answer.PutFailed is = elim is [ ]
+
+-- it counts nothing and stops nothing
+pub not_risen : (P : Type 0) (n : ℕ) → ¬ P → CountsFaults P n n
+not_risen P n never = record {
+  rises = λ p. absurd (never p);
+  only = λ less. absurd (omega (arith, less));
+  never_falls = omega arith;
+  bounded = λ is. is;
+}
+
+pub not_stopped : (P failed : Type 0) → ¬ P → StopsAtFault P failed failed
+not_stopped P failed never = record { fails = λ p. absurd (never p); goes_on = λ no is. is }
 
 -- ---- the cause of the answer
 code_caused : (call : Call) (code : Tables) (asked : Asked) (work : Work)

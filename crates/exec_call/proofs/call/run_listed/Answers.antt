@@ -1,7 +1,9 @@
+use Rattle.std.proofs.Common.{sym, ◌∙◌, ap}
 use Rattle.call_claims.specs.Call.{call_of}
+use Rattle.grid_call.specs.of_call_answers.Answers.{status_of}
 use Rattle.call_words.specs.Reading.{asked_in}
 use Rattle.exec_call.specs.Work.IsListedWork.{passes}
-use Rattle.exec_call.proofs.WorkLemmas.{failed_fetches, failed_not_put, failed_work}
+use Rattle.exec_call.proofs.WorkLemmas.{failed_fetches, failed_not_put, failed_work, not_risen, not_stopped}
 use Rattle.exec_call.proofs.call.run_listed.Goals as goal
 
 pub returns-in-Ok-clause-work : goal.returns-in-Ok-clause-work
@@ -16,3 +18,21 @@ returns-in-Err-clause-work g c = λ words.
     (g.F.Files.may_fail_later c.args.files.now))
     c.args.code (asked_in c.args.asked) c.without_turns.result (g.O.Sink.tells c.args.out.now)
     c.in-Err.answer failed.0 failed.1 c.without_turns.ensures.answer c.without_turns.ensures.counts
+
+pub returns-in-Err-clause-fetches : goal.returns-in-Err-clause-fetches
+returns-in-Err-clause-fetches g c =
+    let failed = (c.in-Err.ensures {u = tt}).fails in
+    not_risen _ _ (λ e. failed_fetches c.args.code c.in-Err.answer failed.1
+    (sym (ap status_of c.without_turns.ensures.answer) ∙ e))
+
+pub returns-in-Err-clause-puts : goal.returns-in-Err-clause-puts
+returns-in-Err-clause-puts g c =
+    let failed = (c.in-Err.ensures {u = tt}).fails in
+    not_risen _ _ (λ e. failed_not_put c.args.code c.in-Err.answer failed.1
+    (sym c.without_turns.ensures.answer ∙ e))
+
+pub returns-in-Err-clause-stops : goal.returns-in-Err-clause-stops
+returns-in-Err-clause-stops g c =
+    let failed = (c.in-Err.ensures {u = tt}).fails in
+    not_stopped _ _ (λ e. failed_not_put c.args.code c.in-Err.answer failed.1
+    (sym c.without_turns.ensures.answer ∙ e))
