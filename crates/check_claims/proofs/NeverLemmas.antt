@@ -11,7 +11,7 @@ use Rattle.node_form.specs.declared.words.ExprOp.TheVariants as word
 use Rattle.node_text.specs.Listing.{IsListing}
 use Rattle.node_text.specs.Typed.{IsTyped, TypedArray, TypedInstr, TypedItem, TypedWord}
 use Rattle.typed_tables.specs.Typed.{AreTyped, IsTypedArray, IsTypedItem, IsTypedRow, IsTypedWord}
-use Rattle.checked_rows.specs.Faced.{AreTables}
+use Rattle.checked_runs.specs.of_checked_rows.Faced.{AreTables}
 use Rattle.grid_meaning.specs.Action.{StuckKind}
 use Rattle.grid_meaning.specs.Grid.{start_grid}
 use Rattle.grid_runs.specs.Run.{Run, IsIdleAt, IsStuckAt}
@@ -51,9 +51,9 @@ typed_word word.Abs is = tt
 
 typed_row : (row : Instr) → TypedInstr row → IsTypedRow row
 typed_row (instr.Set scalar expr line) is = tt
-typed_row (instr.Fix slot region) is = is.1.0
-typed_row (instr.Dims slot parts line) is = is.1.0
-typed_row (instr.Formed form slot from shift line) is = is.1.1.0.0
+typed_row (instr.Fix slot region) is = is.1
+typed_row (instr.Dims slot parts line) is = is.1
+typed_row (instr.Formed form slot from shift line) is = is.2.0
 typed_row (instr.Need slot array shift line) is = tt
 typed_row (instr.Same target source kind line) is = tt
 typed_row (instr.Fits slot shift line) is = tt
@@ -62,7 +62,7 @@ typed_row (instr.Clear array) is = tt
 typed_row (instr.Loop slot group) is = tt
 typed_row (instr.Start exchange) is = tt
 typed_row (instr.Finish exchange) is = tt
-typed_row (instr.Edge kind array slot shift) is = is.1.1.0
+typed_row (instr.Edge kind array slot shift) is = is.2.0
 typed_row (instr.Flood array target from source) is = tt
 typed_row (instr.Part array target fold from source) is = tt
 typed_row (instr.Scan array slot fold along from mask) is = tt
@@ -126,34 +126,34 @@ module _ (typed : TypedLaw) (not_stuck : StuckLaw) (not_idle : IdleLaw) where
     never_order (bad_item at bad none) e = omega (arith, e)
     never_order (ran order read goes_on cause) e = never_run order cause e
 
-    never_file : (call : Call) (order : Option (List ℕ)) {turns n : ℕ} {told : List ℕ}
+    never_file : (call : Call) (order : Option (List ℕ)) (turns n : ℕ) (told : List ℕ)
         → OrderFileCause call code asked turns order n told → n ≡ STUCK → ⊥
-    never_file call None cause e = never_order cause e
-    never_file call (Some file) (unreadable may ends) e = omega (arith, e)
-    never_file call (Some file) (too_long long ends) e = omega (arith, e)
-    never_file call (Some file) (work source cause) e = never_order cause e
+    never_file call None turns n told cause e = never_order cause e
+    never_file call (Some file) turns n told (unreadable may ends) e = omega (arith, e)
+    never_file call (Some file) turns n told (too_long long ends) e = omega (arith, e)
+    never_file call (Some file) turns n told (work source cause) e = never_order cause e
 
   -- ---- the listing
   module _ (call : Call) (asked : Asked) (takes : ExecTakes asked) (wanted : IsTrue asked.checked)
-      where
-    never_code : (code : Tables) → AreTables code → {turns n : ℕ} {told : List ℕ}
-        → CodeCause call asked turns code n told → n ≡ STUCK → ⊥
-    never_code code tables (fails is none (unsound at faulty)) e = omega (arith, e)
-    never_code code tables (fails is none (too_large large)) e = omega (arith, e)
-    never_code code tables (passes sound cause) e =
-        let checked = sound wanted in
-        never_file code asked (takes.together.unbounded wanted) tables checked.0 checked.1 call
-        asked.order cause e
+    where
+      never_code : (code : Tables) → AreTables code → {turns n : ℕ} {told : List ℕ}
+          → CodeCause call asked turns code n told → n ≡ STUCK → ⊥
+      never_code code tables (fails is none (unsound at faulty)) e = omega (arith, e)
+      never_code code tables (fails is none (too_large large)) e = omega (arith, e)
+      never_code code tables {turns} {n} {told} (passes sound cause) e =
+          let checked = sound wanted in
+          never_file code asked (takes.together.unbounded wanted) tables checked.0 checked.1 call
+          asked.order turns n told cause e
 
-    never_listing : (file : List ℕ) (execution : Execution) {n : ℕ} {told : List ℕ}
-        → ListingFileCause call file asked execution n told → n ≡ STUCK → ⊥
-    never_listing file execution (unreadable may ends) e = omega (arith, e)
-    never_listing file execution (too_long long ends) e = omega (arith, e)
-    never_listing file execution (work source (bad_line line bad none)) e = omega (arith, e)
-    never_listing file execution (work source (bad_table line bad none)) e = omega (arith, e)
-    never_listing file execution (work source (listed code is made cause)) e =
-        never_code code (record { fits = is.fits; typed = are_typed code (typed _ code is) })
-        cause e
+      never_listing : (file : List ℕ) (execution : Execution) {n : ℕ} {told : List ℕ}
+          → ListingFileCause call file asked execution n told → n ≡ STUCK → ⊥
+      never_listing file execution (unreadable may ends) e = omega (arith, e)
+      never_listing file execution (too_long long ends) e = omega (arith, e)
+      never_listing file execution (work source (bad_line line bad none)) e = omega (arith, e)
+      never_listing file execution (work source (bad_table line bad none)) e = omega (arith, e)
+      never_listing file execution (work source (listed code is made cause)) e =
+          never_code code (record { fits = is.fits; typed = are_typed code (typed _ code is) })
+          cause e
 
   -- ---- the call
   pub never_stuck : (call : Call) (execution : Execution) (file : List ℕ) (asked : Asked)
@@ -162,5 +162,6 @@ module _ (typed : TypedLaw) (not_stuck : StuckLaw) (not_idle : IdleLaw) where
   never_stuck call execution file asked given wanted no_memory e = omega (arith, e)
   never_stuck call execution file asked given wanted {n} {told} (exec by) e =
       never_listing call asked given.takes wanted file execution
-      (of_given _ ExecTakes call.words {λ file asked. ListingFileCause call file asked execution n told}
-      file asked given by) e
+      (of_given _ ExecTakes call.words
+      {Holds = λ file asked. ListingFileCause call file asked execution n told} file asked given by)
+      e

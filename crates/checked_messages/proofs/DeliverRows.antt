@@ -38,10 +38,10 @@ use Rattle.grid_meaning.specs.Owner.{owner_for, region_in, tuples_of}
 use Rattle.grid_meaning.specs.Place.{value_at, values_at}
 use Rattle.grid_meaning.specs.State.{IsSlot}
 use Rattle.grid_meaning.specs.Stored.{arrangement_of}
-use Rattle.plan_meaning.specs.Abreast.{Abreast, locals_of}
-use Rattle.plan_meaning.specs.Messages as plan
+use Rattle.checked_rows.specs.of_plan_meaning.Abreast.{Abreast, locals_of}
+use Rattle.checked_rows.specs.of_plan_meaning.Messages as plan
 use Rattle.message_runs.proofs.OwnerLemmas.{owner_has}
-use Rattle.node_check.specs.Told.{SlotHas}
+use Rattle.checked_rows.specs.of_node_check.Told.{SlotHas}
 use Rattle.checked_messages.specs.Going.{GoesOn, StandAlike}
 use Rattle.checked_messages.proofs.GoLemmas.{IsBehind}
 use Rattle.checked_messages.proofs.HeldLemmas.{Reads, held_still, value_read, values_read}

@@ -11,10 +11,10 @@ use Rattle.node_form.specs.declared.arrays.Item.{Item}
 use Rattle.node_form.specs.declared.instructions.Instr.TheVariants as instr
 use Rattle.node_form.specs.declared.tables.Tables.{Tables}
 use Rattle.row_runs.specs.Run.{Does, Stops, Wrong}
-use Rattle.plan_meaning.specs.Abreast.{Abreast, start_abreast}
-use Rattle.plan_meaning.specs.Act.{row_does}
-use Rattle.node_check.specs.Demand.{is_met}
-use Rattle.node_check.specs.Fact.{Held, Stands}
+use Rattle.checked_rows.specs.of_plan_meaning.Abreast.{Abreast, start_abreast}
+use Rattle.checked_rows.specs.of_plan_meaning.Act.{row_does}
+use Rattle.checked_rows.specs.of_node_check.Demand.{is_met}
+use Rattle.checked_rows.specs.of_node_check.declared.facts.Fact.TheVariants.{Held, Stands}
 use Rattle.checked_messages.specs.Going.{wanted}
 use Rattle.checked_messages.specs.Together.{is_together}
 

@@ -30,15 +30,15 @@ use Rattle.grid_meaning.specs.State.{ArePlaces, IsSlot, IsStore}
 use Rattle.grid_meaning.specs.Stored.{arrangement_of, box_of}
 use Rattle.row_orders.specs.Rows.{ArePartners, Flight, taken_where}
 use Rattle.row_orders.proofs.PartnerLemmas.{partners_by_words}
-use Rattle.plan_meaning.specs.Abreast.{Abreast, locals_of}
-use Rattle.plan_meaning.specs.Messages.{finished, started}
-use Rattle.needs_runs.specs.Agree.{HasLayout}
-use Rattle.needs_runs.proofs.HoldsLemmas.{some_processors}
-use Rattle.needs_runs.proofs.OwnerLemmas.{boxed_steps}
-use Rattle.needs_runs.proofs.PieceLemmas.{box_there, boxed, piece_place}
-use Rattle.needs_runs.proofs.SlotLemmas.{zip_there}
+use Rattle.checked_rows.specs.of_plan_meaning.Abreast.{Abreast, locals_of}
+use Rattle.checked_rows.specs.of_plan_meaning.Messages.{finished, started}
+use Rattle.checked_rows.specs.of_needs_runs.Agree.{HasLayout}
+use Rattle.checked_rows.proofs.of_needs_runs.HoldsLemmas.{some_processors}
+use Rattle.checked_rows.proofs.of_needs_runs.OwnerLemmas.{boxed_steps}
+use Rattle.checked_rows.proofs.of_needs_runs.PieceLemmas.{box_there, boxed, piece_place}
+use Rattle.checked_rows.proofs.of_needs_runs.SlotLemmas.{zip_there}
 use Rattle.message_runs.proofs.WorkLemmas.{others_below}
-use Rattle.needs_runs.specs.Holds.{lies_in_own}
+use Rattle.checked_rows.specs.of_needs_runs.Holds.{lies_in_own}
 use Rattle.checked_messages.specs.Going.{GoesOn, HasPlacesOf, IsOnItsWay, StandAlike, wanted}
 use Rattle.checked_messages.proofs.GoLemmas.{Acts, IsBehind, finished_goes, flight_of, said_many}
 use Rattle.checked_messages.proofs.GoLemmas.{started_goes, to_is}

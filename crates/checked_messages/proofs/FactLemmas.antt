@@ -25,19 +25,20 @@ use Rattle.node_form.specs.Control.{conforms, formed_by}
 use Rattle.node_form.specs.Fits.{HasArray, HasSlot}
 use Rattle.node_form.specs.Value.{unmoved}
 use Rattle.grid_meaning.specs.State.{IsSlot}
-use Rattle.plan_meaning.specs.Abreast.{Abreast}
-use Rattle.needs_runs.specs.Agree.{HasLayout}
-use Rattle.needs_runs.proofs.FlatLemmas.{three}
-use Rattle.needs_runs.proofs.HoldsLemmas.{both_parts, some_processors}
-use Rattle.needs_runs.proofs.SlotLemmas.{zip_back, zip_there}
-use Rattle.node_check.specs.Demand.{do_agree, has_border, is_held, is_kind, is_side_form, is_stored}
-use Rattle.node_check.specs.Demand.{is_stored_row}
-use Rattle.node_check.specs.Demand.{is_vector, made_in, slots_made, source_shift, tells_agree}
-use Rattle.node_check.specs.Demand.{tells_border, tells_held}
-use Rattle.node_check.specs.Fact.{Agree, Border, Fact, Held, Made, Stands, Uniform}
-use Rattle.node_check.specs.Learn.{regions_of}
-use Rattle.node_check.specs.Told.{AreTold, HasPlaces, HasPlacesAs, SlotHas}
-use Rattle.node_check.proofs.ToldLemmas.{one_region, stands}
+use Rattle.checked_rows.specs.of_plan_meaning.Abreast.{Abreast}
+use Rattle.checked_rows.specs.of_needs_runs.Agree.{HasLayout}
+use Rattle.checked_rows.proofs.of_needs_runs.FlatLemmas.{three}
+use Rattle.checked_rows.proofs.of_needs_runs.HoldsLemmas.{both_parts, some_processors}
+use Rattle.checked_rows.proofs.of_needs_runs.SlotLemmas.{zip_back, zip_there}
+use Rattle.checked_rows.specs.of_node_check.Demand.{do_agree, has_border, is_held, is_kind, is_side_form, is_stored}
+use Rattle.checked_rows.specs.of_node_check.Demand.{is_stored_row}
+use Rattle.checked_rows.specs.of_node_check.Demand.{is_vector, made_in, slots_made, source_shift, tells_agree}
+use Rattle.checked_rows.specs.of_node_check.Demand.{tells_border, tells_held}
+use Rattle.checked_rows.specs.of_node_check.declared.facts.Fact.{Fact}
+use Rattle.checked_rows.specs.of_node_check.declared.facts.Fact.TheVariants.{Agree, Border, Held, Made, Stands, Uniform}
+use Rattle.checked_rows.specs.of_node_check.Learn.{regions_of}
+use Rattle.checked_rows.specs.of_node_check.Told.{AreTold, HasPlaces, HasPlacesAs, SlotHas}
+use Rattle.checked_rows.proofs.of_node_check.ToldLemmas.{one_region, stands}
 use Rattle.checked_messages.specs.Going.{StandAlike}
 use Rattle.checked_messages.proofs.OwnLemmas.{HoldsOver, places_held}
 

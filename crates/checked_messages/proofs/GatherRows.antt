@@ -17,10 +17,10 @@ use Rattle.grid_meaning.specs.Owner.{region_in, tuples_of}
 use Rattle.grid_meaning.specs.Place.{values_at}
 use Rattle.row_orders.specs.Rows.{ArePartners, delivery_stages, taken_where}
 use Rattle.row_orders.proofs.PartnerLemmas.{times-cons, times-others_where}
-use Rattle.plan_meaning.specs.Abreast.{Abreast, Share, locals_of}
-use Rattle.plan_meaning.specs.Messages.{delivered}
+use Rattle.checked_rows.specs.of_plan_meaning.Abreast.{Abreast, Share, locals_of}
+use Rattle.checked_rows.specs.of_plan_meaning.Messages.{delivered}
 use Rattle.message_runs.proofs.GatherRows.{zero_below}
-use Rattle.node_check.specs.Told.{SlotHas}
+use Rattle.checked_rows.specs.of_node_check.Told.{SlotHas}
 use Rattle.checked_messages.specs.Going.{GoesOn, StandAlike}
 use Rattle.checked_messages.proofs.GoLemmas.{Acts, IsBehind, Leaves, delivered_goes}
 use Rattle.checked_messages.proofs.HeldLemmas.{ReadsAll, held_still, values_read}

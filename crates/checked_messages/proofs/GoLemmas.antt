@@ -14,17 +14,17 @@ use Rattle.grid_meaning.specs.Collective.{Collective}
 use Rattle.grid_meaning.specs.Local.{Local, processors}
 use Rattle.row_orders.specs.Rows.{ArePartners, Flight, alone_where, delivery_stages, taken_where}
 use Rattle.row_orders.specs.Rows.{taking}
-use Rattle.plan_meaning.specs.Abreast.{Abreast, Share, are_none, every, every_two, go_where}
-use Rattle.plan_meaning.specs.Abreast.{is_quiet, locals_of}
-use Rattle.plan_meaning.specs.Abreast.{of_processors, share_of}
-use Rattle.plan_meaning.specs.Messages.{are_partners, begun, bytes, delivered, does_well, final_of}
-use Rattle.plan_meaning.specs.Messages.{finished, finished_in}
-use Rattle.plan_meaning.specs.Messages.{from_of, leaves_row, middle_of, next_or, next_with}
-use Rattle.plan_meaning.specs.Messages.{receivers}
-use Rattle.plan_meaning.specs.Messages.{senders, started, starts_alone, to_of, took, words_of}
-use Rattle.plan_meaning.proofs.ThereLemmas.{there_is}
-use Rattle.plan_orders.proofs.DeliverLemmas.{alone_of, receivers_of, senders_of}
-use Rattle.needs_runs.proofs.HoldsLemmas.{both_true, every_all}
+use Rattle.checked_rows.specs.of_plan_meaning.Abreast.{Abreast, Share, are_none, every, every_two, go_where}
+use Rattle.checked_rows.specs.of_plan_meaning.Abreast.{is_quiet, locals_of}
+use Rattle.checked_rows.specs.of_plan_meaning.Abreast.{of_processors, share_of}
+use Rattle.checked_rows.specs.of_plan_meaning.Messages.{are_partners, begun, bytes, delivered, does_well, final_of}
+use Rattle.checked_rows.specs.of_plan_meaning.Messages.{finished, finished_in}
+use Rattle.checked_rows.specs.of_plan_meaning.Messages.{from_of, leaves_row, middle_of, next_or, next_with}
+use Rattle.checked_rows.specs.of_plan_meaning.Messages.{receivers}
+use Rattle.checked_rows.specs.of_plan_meaning.Messages.{senders, started, starts_alone, to_of, took, words_of}
+use Rattle.checked_rows.proofs.of_plan_meaning.ThereLemmas.{there_is}
+use Rattle.checked_rows.proofs.of_plan_orders.DeliverLemmas.{alone_of, receivers_of, senders_of}
+use Rattle.checked_rows.proofs.of_needs_runs.HoldsLemmas.{both_true, every_all}
 use Rattle.message_runs.proofs.DeliverLemmas.{all_pass, few_is}
 use Rattle.checked_messages.specs.Going.{GoesOn, KeepsShare}
 use Rattle.checked_messages.proofs.HeldLemmas.{ReadsAll}

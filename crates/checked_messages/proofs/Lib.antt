@@ -14,3 +14,4 @@ pub mod MetRows
 pub mod OpenRows
 pub mod RightRows
 pub mod TogetherRows
+pub use Rattle.checked_rows.proofs as of_checked_rows

@@ -27,17 +27,17 @@ use Rattle.grid_meaning.specs.Delivery as delivery
 use Rattle.grid_meaning.specs.Gather as gather
 use Rattle.grid_meaning.specs.Remap as remap
 use Rattle.grid_meaning.specs.Scan as scan
-use Rattle.plan_meaning.specs.Abreast.{Abreast}
-use Rattle.plan_meaning.specs.Messages.{delivered, remapped}
-use Rattle.needs_runs.specs.Agree.{HasLayout}
-use Rattle.needs_runs.proofs.FlatLemmas.{are_blocks, fit}
-use Rattle.needs_runs.proofs.HoldsLemmas.{both_parts}
+use Rattle.checked_rows.specs.of_plan_meaning.Abreast.{Abreast}
+use Rattle.checked_rows.specs.of_plan_meaning.Messages.{delivered, remapped}
+use Rattle.checked_rows.specs.of_needs_runs.Agree.{HasLayout}
+use Rattle.checked_rows.proofs.of_needs_runs.FlatLemmas.{are_blocks, fit}
+use Rattle.checked_rows.proofs.of_needs_runs.HoldsLemmas.{both_parts}
 use Rattle.message_runs.proofs.OwnLemmas.{all_among}
-use Rattle.node_check.specs.Demand.{are_none, are_held, do_agree, has_border, has_own, is_held}
-use Rattle.node_check.specs.Demand.{slots_made}
-use Rattle.node_check.specs.Demand.{source_shift}
-use Rattle.node_check.specs.Fact.{Fact}
-use Rattle.node_check.specs.Told.{AreTold, SlotHas}
+use Rattle.checked_rows.specs.of_node_check.Demand.{are_none, are_held, do_agree, has_border, has_own, is_held}
+use Rattle.checked_rows.specs.of_node_check.Demand.{slots_made}
+use Rattle.checked_rows.specs.of_node_check.Demand.{source_shift}
+use Rattle.checked_rows.specs.of_node_check.declared.facts.Fact.{Fact}
+use Rattle.checked_rows.specs.of_node_check.Told.{AreTold, SlotHas}
 use Rattle.checked_messages.specs.Going.{GoesOn, StandAlike}
 use Rattle.checked_messages.proofs.DeliverRows.{edge_goes, flood_goes, part_goes}
 use Rattle.checked_messages.proofs.FactLemmas.{InSlot, agree_conform, border_conform, holds_over}

@@ -19,13 +19,13 @@ use Rattle.grid_meaning.specs.State.{HasParts, IsSlot}
 use Rattle.row_orders.specs.Agreement.{joined_over}
 use Rattle.row_orders.specs.Rows.{HasRoom}
 use Rattle.row_runs.specs.Run.{Goes, Step, Stops, Wrong}
-use Rattle.plan_meaning.specs.Abreast.{Abreast, Share, are_none, go_where, is_quiet, locals_of}
-use Rattle.plan_meaning.specs.Abreast.{standing}
-use Rattle.plan_meaning.specs.Act.{ends_where, folded, voted, voted_as}
+use Rattle.checked_rows.specs.of_plan_meaning.Abreast.{Abreast, Share, are_none, go_where, is_quiet, locals_of}
+use Rattle.checked_rows.specs.of_plan_meaning.Abreast.{standing}
+use Rattle.checked_rows.specs.of_plan_meaning.Act.{ends_where, folded, voted, voted_as}
 use Rattle.normal_runs.proofs.PlaceLemmas.{set_length}
-use Rattle.needs_runs.proofs.RoomRows.{all_get}
+use Rattle.checked_rows.proofs.of_needs_runs.RoomRows.{all_get}
 use Rattle.checked_messages.specs.Going.{KeepsShare, StandAlike}
-use Rattle.needs_runs.proofs.HoldsLemmas.{some_processors}
+use Rattle.checked_rows.proofs.of_needs_runs.HoldsLemmas.{some_processors}
 use Rattle.checked_messages.proofs.HeldLemmas.{stores_kept}
 
 -- ---- rooms on links

@@ -39,19 +39,19 @@ use Rattle.grid_meaning.specs.Place.{own_part}
 use Rattle.grid_meaning.specs.Room.{each_room, room_of}
 use Rattle.grid_meaning.specs.State.{ArePlaces, IsSlot, IsStore}
 use Rattle.grid_meaning.specs.Stored.{arrangement_of, box_of}
-use Rattle.plan_meaning.specs.Abreast.{Abreast, start_abreast}
-use Rattle.plan_meaning.specs.of_flat_form.Right.{each_covers}
-use Rattle.plan_meaning.specs.of_flat_form.States.{IsStoreOf}
-use Rattle.plan_meaning.specs.of_flat_form.Whole.{start_whole}
-use Rattle.needs_runs.specs.Agree.{HasLayout}
-use Rattle.needs_runs.specs.Holds.{lies_in_own}
-use Rattle.needs_runs.proofs.BeginLemmas.{begins}
-use Rattle.needs_runs.proofs.HoldsLemmas.{both_parts, both_true}
-use Rattle.needs_runs.proofs.PlaceLemmas.{held_there, place_of_held}
-use Rattle.needs_runs.proofs.SlotLemmas.{zip_there}
+use Rattle.checked_rows.specs.of_plan_meaning.Abreast.{Abreast, start_abreast}
+use Rattle.checked_rows.specs.of_plan_meaning.of_flat_form.Right.{each_covers}
+use Rattle.checked_rows.specs.of_plan_meaning.of_flat_form.States.{IsStoreOf}
+use Rattle.checked_rows.specs.of_plan_meaning.of_flat_form.Whole.{start_whole}
+use Rattle.checked_rows.specs.of_needs_runs.Agree.{HasLayout}
+use Rattle.checked_rows.specs.of_needs_runs.Holds.{lies_in_own}
+use Rattle.checked_rows.proofs.of_needs_runs.BeginLemmas.{begins}
+use Rattle.checked_rows.proofs.of_needs_runs.HoldsLemmas.{both_parts, both_true}
+use Rattle.checked_rows.proofs.of_needs_runs.PlaceLemmas.{held_there, place_of_held}
+use Rattle.checked_rows.proofs.of_needs_runs.SlotLemmas.{zip_there}
 use Rattle.message_runs.proofs.GatherRows.{met_steps}
 use Rattle.message_runs.proofs.OwnLemmas.{lies_by_cover}
-use Rattle.node_check.specs.Told.{HasPlacesAs, places_at}
+use Rattle.checked_rows.specs.of_node_check.Told.{HasPlacesAs, places_at}
 use Rattle.checked_messages.specs.Going.{StandAlike}
 use Rattle.checked_messages.proofs.HeldLemmas.{AreHeld, IsHeld}
 

@@ -39,11 +39,11 @@ use Rattle.grid_meaning.specs.State.{IsSlot}
 use Rattle.grid_meaning.proofs.BoxLemmas.{box_is}
 use Rattle.grid_meaning.proofs.RemapLemmas.{IfApart, length-others, values_apart}
 use Rattle.row_orders.specs.Rows.{taken_where, taking}
-use Rattle.plan_meaning.specs.Abreast.{Abreast, locals_of}
-use Rattle.plan_meaning.specs.of_flat_form.Right.{each_matches}
-use Rattle.needs_runs.specs.Agree.{HasLayout}
-use Rattle.needs_runs.proofs.FlatLemmas.{are_blocks, fit, three}
-use Rattle.needs_runs.proofs.HoldsLemmas.{both_true, some_processors}
+use Rattle.checked_rows.specs.of_plan_meaning.Abreast.{Abreast, locals_of}
+use Rattle.checked_rows.specs.of_plan_meaning.of_flat_form.Right.{each_matches}
+use Rattle.checked_rows.specs.of_needs_runs.Agree.{HasLayout}
+use Rattle.checked_rows.proofs.of_needs_runs.FlatLemmas.{are_blocks, fit, three}
+use Rattle.checked_rows.proofs.of_needs_runs.HoldsLemmas.{both_true, some_processors}
 use Rattle.message_runs.proofs.FlatLemmas.{lies_there}
 use Rattle.message_runs.proofs.GatherRows.{Keeps, found_words}
 use Rattle.message_runs.proofs.HomeLemmas.{home_is}
@@ -52,7 +52,7 @@ use Rattle.message_runs.proofs.RemapKeptLemmas.{kept_where, requests_kept, reque
 use Rattle.message_runs.proofs.RequestLemmas.{indices_are, requested_are, want_by, wants_are}
 use Rattle.message_runs.proofs.RequestLemmas.{wants_filter}
 use Rattle.message_runs.proofs.RequestLemmas.{words_many, words_of}
-use Rattle.node_check.specs.Told.{SlotHas}
+use Rattle.checked_rows.specs.of_node_check.Told.{SlotHas}
 use Rattle.checked_messages.specs.Going.{StandAlike}
 use Rattle.checked_messages.proofs.GoLemmas.{Comes, IsBehind}
 use Rattle.checked_messages.proofs.HeldLemmas.{IsHeld, Reads, ReadsAll, held_still, then_places}

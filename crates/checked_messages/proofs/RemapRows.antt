@@ -14,18 +14,18 @@ use Rattle.grid_meaning.specs.Local.{Local, processors}
 use Rattle.grid_meaning.specs.Remap.{some_wants}
 use Rattle.grid_meaning.proofs.RemapLemmas.{length-others}
 use Rattle.row_orders.specs.Rows.{ArePartners, at_turn, taking}
-use Rattle.plan_meaning.specs.Abreast.{Abreast, are_none, every, go_where, is_quiet, locals_of}
-use Rattle.plan_meaning.specs.Abreast.{share_of}
-use Rattle.plan_meaning.specs.Messages.{answered, answering, answers, answers_from, answers_to}
-use Rattle.plan_meaning.specs.Messages.{are_partners}
-use Rattle.plan_meaning.specs.Messages.{asking, behind_answers, heard_by, leaves_row, next_or}
-use Rattle.plan_meaning.specs.Messages.{receivers}
-use Rattle.plan_meaning.specs.Messages.{remapped, remaps_well, requests, senders}
-use Rattle.plan_meaning.specs.Messages as plan
-use Rattle.plan_orders.proofs.RemapLemmas.{asking_stages, back_from, names_of, receivers_are}
-use Rattle.plan_orders.proofs.RemapLemmas.{senders_are, stages_are}
-use Rattle.needs_runs.specs.Agree.{HasLayout}
-use Rattle.needs_runs.proofs.HoldsLemmas.{both_true, every_all}
+use Rattle.checked_rows.specs.of_plan_meaning.Abreast.{Abreast, are_none, every, go_where, is_quiet, locals_of}
+use Rattle.checked_rows.specs.of_plan_meaning.Abreast.{share_of}
+use Rattle.checked_rows.specs.of_plan_meaning.Messages.{answered, answering, answers, answers_from, answers_to}
+use Rattle.checked_rows.specs.of_plan_meaning.Messages.{are_partners}
+use Rattle.checked_rows.specs.of_plan_meaning.Messages.{asking, behind_answers, heard_by, leaves_row, next_or}
+use Rattle.checked_rows.specs.of_plan_meaning.Messages.{receivers}
+use Rattle.checked_rows.specs.of_plan_meaning.Messages.{remapped, remaps_well, requests, senders}
+use Rattle.checked_rows.specs.of_plan_meaning.Messages as plan
+use Rattle.checked_rows.proofs.of_plan_orders.RemapLemmas.{asking_stages, back_from, names_of, receivers_are}
+use Rattle.checked_rows.proofs.of_plan_orders.RemapLemmas.{senders_are, stages_are}
+use Rattle.checked_rows.specs.of_needs_runs.Agree.{HasLayout}
+use Rattle.checked_rows.proofs.of_needs_runs.HoldsLemmas.{both_true, every_all}
 use Rattle.message_runs.proofs.DeliverLemmas.{all_pass, few_is, taking_same}
 use Rattle.message_runs.proofs.RemapKeptLemmas.{asked_by, asks_from, filter_few, named_keeps}
 use Rattle.message_runs.proofs.RemapKeptLemmas.{remap_partners, request_there}

@@ -31,17 +31,17 @@ use Rattle.grid_meaning.specs.Remap as remap
 use Rattle.grid_meaning.specs.Scan as scan
 use Rattle.row_orders.specs.Rows.{Flight, HasRoom}
 use Rattle.row_runs.specs.Run.{Does, Goes, Step, Stops, Wrong}
-use Rattle.plan_meaning.specs.Abreast.{Abreast}
-use Rattle.plan_meaning.specs.Act.{found}
-use Rattle.plan_meaning.specs.Messages.{delivered, finished, remapped, started}
-use Rattle.needs_runs.specs.Agree.{HasLayout}
-use Rattle.needs_runs.proofs.HoldsLemmas.{both_parts, same_number}
-use Rattle.needs_runs.proofs.RoomRows.{all_get}
-use Rattle.node_check.specs.Demand.{are_held, are_none, do_agree, has_border, has_own, is_first}
-use Rattle.node_check.specs.Demand.{is_held}
-use Rattle.node_check.specs.Demand.{is_near, slots_made}
-use Rattle.node_check.specs.Fact.{Fact}
-use Rattle.node_check.specs.Path.{without}
+use Rattle.checked_rows.specs.of_plan_meaning.Abreast.{Abreast}
+use Rattle.checked_rows.specs.of_plan_meaning.Act.{found}
+use Rattle.checked_rows.specs.of_plan_meaning.Messages.{delivered, finished, remapped, started}
+use Rattle.checked_rows.specs.of_needs_runs.Agree.{HasLayout}
+use Rattle.checked_rows.proofs.of_needs_runs.HoldsLemmas.{both_parts, same_number}
+use Rattle.checked_rows.proofs.of_needs_runs.RoomRows.{all_get}
+use Rattle.checked_rows.specs.of_node_check.Demand.{are_held, are_none, do_agree, has_border, has_own, is_first}
+use Rattle.checked_rows.specs.of_node_check.Demand.{is_held}
+use Rattle.checked_rows.specs.of_node_check.Demand.{is_near, slots_made}
+use Rattle.checked_rows.specs.of_node_check.declared.facts.Fact.{Fact}
+use Rattle.checked_rows.specs.of_node_check.Path.{without}
 use Rattle.checked_rows.specs.Faced.{AreFlightsOf, AreTables, IsFaced, IsFlightOf}
 use Rattle.checked_rows.specs.Right.{IsRight, KeepsFlights, Meets}
 use Rattle.checked_messages.specs.Going.{GoesOn, IsOnItsWay, StandAlike, wanted}

@@ -21,9 +21,9 @@ use Rattle.grid_meaning.specs.Scan.{line_dim, line_heads, line_of, scan_done, sc
 use Rattle.grid_meaning.specs.Scan.{scan_values, unless_masked}
 use Rattle.row_orders.specs.Rows.{taken_where}
 use Rattle.row_orders.proofs.PartnerLemmas.{partners_by_words}
-use Rattle.plan_meaning.specs.Abreast.{Abreast, locals_of}
-use Rattle.plan_meaning.specs.Messages.{delivered}
-use Rattle.node_check.specs.Told.{SlotHas}
+use Rattle.checked_rows.specs.of_plan_meaning.Abreast.{Abreast, locals_of}
+use Rattle.checked_rows.specs.of_plan_meaning.Messages.{delivered}
+use Rattle.checked_rows.specs.of_node_check.Told.{SlotHas}
 use Rattle.checked_messages.specs.Going.{GoesOn, StandAlike}
 use Rattle.checked_messages.proofs.GatherRows.{keeps_words}
 use Rattle.checked_messages.proofs.GoLemmas.{Acts, Comes, IsBehind, Leaves, delivered_goes}

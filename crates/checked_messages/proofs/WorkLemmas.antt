@@ -18,10 +18,10 @@ use Rattle.grid_meaning.specs.Place.{with_values}
 use Rattle.grid_meaning.specs.Stored.{no_places}
 use Rattle.row_orders.specs.Rows.{delivery_stages, taken_where}
 use Rattle.row_orders.proofs.PartnerLemmas.{partners_by_words, same_turned}
-use Rattle.plan_meaning.specs.Abreast.{Abreast, Share, locals_of, standing}
-use Rattle.plan_meaning.specs.Messages as plan
+use Rattle.checked_rows.specs.of_plan_meaning.Abreast.{Abreast, Share, locals_of, standing}
+use Rattle.checked_rows.specs.of_plan_meaning.Messages as plan
 use Rattle.message_runs.proofs.WorkLemmas.{others_among, others_below}
-use Rattle.node_check.specs.Told.{SlotHas}
+use Rattle.checked_rows.specs.of_node_check.Told.{SlotHas}
 use Rattle.checked_messages.specs.Going.{GoesOn, StandAlike}
 use Rattle.checked_messages.proofs.GoLemmas.{Acts, Comes, IsBehind, delivered_goes}
 use Rattle.checked_messages.proofs.HeldLemmas.{AreHeld, Reads, combined_put, held_still}

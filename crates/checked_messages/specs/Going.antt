@@ -11,7 +11,7 @@ use Rattle.grid_meaning.specs.Local.{processors}
 use Rattle.row_orders.specs.Rows.{Flight}
 use Rattle.row_runs.specs.Run.{Step, Goes}
 use Rattle.grid_meaning.specs.State.{HasParts}
-use Rattle.plan_meaning.specs.Abreast.{Abreast, Share, locals_of}
+use Rattle.checked_rows.specs.of_plan_meaning.Abreast.{Abreast, Share, locals_of}
 
 -- The other array has the same places, and as many values as places where the one has.
 abbrev pub HasPlacesOf : Array → Array → Type 0

@@ -1,2 +1,3 @@
 pub mod Going
 pub mod Together
+pub use Rattle.checked_rows.specs as of_checked_rows

@@ -7,9 +7,9 @@ use Rattle.node_form.specs.declared.instructions.Instr.{Instr}
 use Rattle.node_form.specs.declared.instructions.Instr.TheVariants as instr
 use Rattle.node_form.specs.declared.tables.Tables.{Tables}
 use Rattle.row_runs.specs.Run.{Does, Goes}
-use Rattle.plan_meaning.specs.Abreast.{Abreast}
-use Rattle.plan_meaning.specs.Act.{row_does}
-use Rattle.node_check.specs.Fact.{Fact}
+use Rattle.checked_rows.specs.of_plan_meaning.Abreast.{Abreast}
+use Rattle.checked_rows.specs.of_plan_meaning.Act.{row_does}
+use Rattle.checked_rows.specs.of_node_check.declared.facts.Fact.{Fact}
 use Rattle.checked_rows.specs.Right.{Meets}
 use Rattle.checked_messages.specs.Going.{StandAlike}
 

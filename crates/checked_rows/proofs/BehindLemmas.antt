@@ -65,7 +65,8 @@ set_scalars code row = []
 -- a processor's scalars are as they were, but these
 abbrev SharesLeft : List ℕ → Share → Share → Type 0
 SharesLeft numbers one other =
-    (scalar : ℕ) → Misses scalar numbers → slice_get other.scalars scalar ≡ slice_get one.scalars scalar
+    (scalar : ℕ) → Misses scalar numbers → slice_get other.scalars scalar ≡ slice_get one.scalars
+    scalar
 
 abbrev AllLeft : List ℕ → Abreast → Abreast → Type 0
 AllLeft numbers all next = (p : ℕ) → SharesLeft numbers (all.shares p) (next.shares p)
@@ -143,7 +144,8 @@ module _ (code : Tables) (links : Option ℕ) (n : ℕ) (all after : Abreast) (b
   row_kept numbers registers (Some x) next each = each x
   row_kept numbers registers None next each = λ scalar misses. refl
 
-  computed_kept : {X : Type 0} (numbers : List ℕ) (registers : Registers) (o : Computed X) (line : ℕ)
+  computed_kept : {X : Type 0} (numbers : List ℕ) (registers : Registers) (o : Computed X)
+      (line : ℕ)
       (next : X → Control) → ((x : X) → Kept numbers registers (next x))
       → Kept numbers registers (control.with_computed o line next)
   computed_kept numbers registers (Gives x) line next each = each x
@@ -160,7 +162,8 @@ module _ (code : Tables) (links : Option ℕ) (n : ℕ) (all after : Abreast) (b
   control_kept (instr.Fix slot region) registers = λ scalar misses. refl
   control_kept (instr.Dims slot parts line) registers =
       row_kept [] registers (slice_get code.slots slot) _
-      (λ rank. computed_kept [] registers (control.part_dims code registers 0 (take rank parts)) line
+      (λ rank. computed_kept [] registers (control.part_dims code registers 0 (take rank parts))
+      line
       (λ dims. control.with_slot registers slot line (control.region_of rank dims))
       (λ dims. limited_kept registers slot line (control.region_of rank dims)
       (is_within_limit (control.region_of rank dims))))
@@ -221,14 +224,16 @@ module _ (code : Tables) (links : Option ℕ) (n : ℕ) (all after : Abreast) (b
   text_kept share (suc p) (Some text) = refl
 
   value_kept : (share : Share) (p : ℕ) (value : Computed ℤ) (text : ℤ → List ℕ)
-      → (next_or (standing share) (prints_value p (standing share) value text)).scalars ≡ share.scalars
+      → (next_or (standing share) (prints_value p (standing share) value text)).scalars
+      ≡ share.scalars
   value_kept share zero (Gives x) text = refl
   value_kept share (suc p) (Gives x) text = refl
   value_kept share p Divides text = refl
   value_kept share p Lacks text = refl
 
   room_kept : (share : Share) (p array : ℕ) (o : Option ArrayRow) (r : Option Region)
-      → (next_or (standing share) (roomed code p (standing share) array o r)).scalars ≡ share.scalars
+      → (next_or (standing share) (roomed code p (standing share) array o r)).scalars
+      ≡ share.scalars
   room_kept share p array None r = refl
   room_kept share p array (Some row) None = refl
   room_kept share p array (Some row) (Some region) = refl
@@ -269,7 +274,8 @@ module _ (code : Tables) (links : Option ℕ) (n : ℕ) (all after : Abreast) (b
     middle_kept : (p : ℕ) → (middle_of code row locals p).scalars ≡ (locals p).scalars
     middle_kept p =
         scalars.or_local (locals p) (begun code row locals p) (locals p)
-        (scalars.begun_kept (row p) (kept p) (starts_alone ((row p).stages (locals p))) (locals p)) refl
+        (scalars.begun_kept (row p) (kept p) (starts_alone ((row p).stages (locals p))) (locals p))
+        refl
 
     final_kept : (heard : ℕ → ℕ → List ℤ) (p : ℕ)
         → (final_of code row locals heard p).scalars ≡ (locals p).scalars
@@ -313,16 +319,19 @@ module _ (code : Tables) (links : Option ℕ) (n : ℕ) (all after : Abreast) (b
         (same_list [] (next_kept flight.words flights p)))
 
     -- a remap read
-    asking_kept : (p : ℕ) → (unwrap_or (asked code row all p) (locals p)).scalars ≡ (locals p).scalars
+    asking_kept : (p : ℕ)
+        → (unwrap_or (asked code row all p) (locals p)).scalars ≡ (locals p).scalars
     asking_kept p =
-        scalars.or_local (locals p) (asked code row all p) (locals p) ((kept p).alone (locals p)) refl
+        scalars.or_local (locals p) (asked code row all p) (locals p) ((kept p).alone (locals p))
+        refl
 
     or_kept : (one middle : Local) (o : Option Local) → middle.scalars ≡ one.scalars
         → IfLocal middle o → (unwrap_or o one).scalars ≡ one.scalars
     or_kept one middle None a b = refl
     or_kept one middle (Some next) a b = b ∙ a
 
-    heard_kept : (p : ℕ) → (unwrap_or (heard_by code row all p) (locals p)).scalars ≡ (locals p).scalars
+    heard_kept : (p : ℕ)
+        → (unwrap_or (heard_by code row all p) (locals p)).scalars ≡ (locals p).scalars
     heard_kept p =
         or_kept (locals p) (asking code row all p)
         (heard_by code row all p) (asking_kept p)
@@ -340,7 +349,8 @@ module _ (code : Tables) (links : Option ℕ) (n : ℕ) (all after : Abreast) (b
         (λ is. (
           λ p. same_list []
               (scalars.action_kept (locals p) ((row p).last (behind_answers code row all p))
-              (behind_answers code row all p) (answered_kept p) ((kept p).last (behind_answers code row all p))),
+              (behind_answers code row all p) (answered_kept p)
+              ((kept p).last (behind_answers code row all p))),
           sym (no_flights all.flights (first_of (is_quiet all) _ _ is)),
         ))
 
@@ -351,12 +361,14 @@ module _ (code : Tables) (links : Option ℕ) (n : ℕ) (all after : Abreast) (b
 
     in_tree : (members : List Member) (nest : Nest) → nest_of members ≡ Some nest
         → (p scalar : ℕ) → Misses scalar (flat_map accumulated_by members)
-        → slice_get (share_behind code n (all.shares p) (shared code n (units_of nest) slot all p)).scalars
+        → slice_get
+        (share_behind code n (all.shares p) (shared code n (units_of nest) slot all p)).scalars
         scalar ≡ slice_get (all.shares p).scalars scalar
     in_tree members nest tree p scalar misses =
         behind_stays scalar (slice_get (all.shares p).scalars scalar) code n (all.shares p) _ refl
         (shared_stays scalar (slice_get (all.shares p).scalars scalar) code n nest slot all p
-        (subst (λ ms. Misses scalar (flat_map accumulated_by ms)) (sym (reads_only members nest tree))
+        (subst (λ ms. Misses scalar (flat_map accumulated_by ms))
+        (sym (reads_only members nest tree))
         misses) refl)
 
     pick : (numbers : List ℕ) (a w v : Bool) (shares : ℕ → Share)
@@ -389,7 +401,8 @@ module _ (code : Tables) (links : Option ℕ) (n : ℕ) (all after : Abreast) (b
             pick (flat_map accumulated_by members)
             (every code (λ p. not (lacks code n (shared code n (units_of nest) slot all p))))
             (every code (λ p. not (wants code n (shared code n (units_of nest) slot all p))))
-            (vote && is_quiet all) _ (λ p scalar misses. in_tree members nest tree p scalar misses) e
+            (vote && is_quiet all) _ (λ p scalar misses. in_tree members nest tree p scalar misses)
+            e
 
   -- ---- each row
   tested_never : (effect : Effect Abreast) → tested effect ≡ Does (Goes bytes after) → ⊥
@@ -454,11 +467,13 @@ module _ (code : Tables) (links : Option ℕ) (n : ℕ) (all after : Abreast) (b
   stays_behind (instr.Number expr) next e =
       by_both (instr.Number expr)
       (printed_left (instr.Number expr) _
-      (λ p. value_kept (all.shares p) p (expression_value code (locals_of all p) expr) signed_decimal) e)
+      (λ p. value_kept (all.shares p) p (expression_value code (locals_of all p) expr)
+      signed_decimal) e)
   stays_behind (instr.Truth expr) next e =
       by_both (instr.Truth expr)
       (printed_left (instr.Truth expr) _
-      (λ p. value_kept (all.shares p) p (expression_value code (locals_of all p) expr) truth_text) e)
+      (λ p. value_kept (all.shares p) p (expression_value code (locals_of all p) expr) truth_text)
+      e)
   stays_behind (instr.Loop slot group) next e =
       by_both (instr.Loop slot group)
       (loop_left slot group (is_vote_of group next) (slice_get code.groups group) refl

@@ -112,7 +112,8 @@ module _ (code : Tables) (links : Option ℕ) (n : ℕ) (row : Instr) (next : Op
   leap_right true goal is e = cc
   leap_right false goal is e = absurd (true≢false (sym is))
 
-  pub by_ways : 0 < processors code → Stands → row_does code links n row next all ≡ controlled code row all
+  pub by_ways : 0 < processors code → Stands
+      → row_does code links n row next all ≡ controlled code row all
       → Fares code links n row next all
   by_ways some stands is = by (control_of code row all 0) refl (ways 0 some)
     where
@@ -185,12 +186,14 @@ module _ (code : Tables) (a b : List ℤ) (xs : List Region) where
   abbrev pub Ways : Instr → Type 0
   Ways row = BothWays (control.control code (regs a xs) row) (control.control code (regs b xs) row)
 
-  pub formed_ways : (form : RegionForm) (slot from : ℕ) (shift : List ℤ) (line : ℕ) (region : Region)
+  pub formed_ways : (form : RegionForm) (slot from : ℕ) (shift : List ℤ) (line : ℕ)
+      (region : Region)
       → slice_get xs from ≡ Some region → Ways (instr.Formed form slot from shift line)
   formed_ways form slot from shift line region is =
       subst (λ o. BothWays
       (with_row o (λ region. with_slot (regs a xs) slot line (formed_by form shift region)))
-      (with_row o (λ region. with_slot (regs b xs) slot line (formed_by form shift region)))) (sym is)
+      (with_row o (λ region. with_slot (regs b xs) slot line (formed_by form shift region))))
+      (sym is)
       (limited_ways a b xs slot line (formed_by form shift region)
       (is_within_limit (formed_by form shift region)))
 
@@ -200,15 +203,19 @@ module _ (code : Tables) (a b : List ℤ) (xs : List Region) where
   need_ways slot array shift line region row is there =
       subst (λ o. BothWays
       (with_row o (λ region. with_row (slice_get code.arrays array) (λ row.
-      control.checked (regs a xs) (is_reference shift region (storage_of row)) kind.OutsideStorage line)))
+      control.checked (regs a xs) (is_reference shift region (storage_of row)) kind.OutsideStorage
+      line)))
       (with_row o (λ region. with_row (slice_get code.arrays array) (λ row.
-      control.checked (regs b xs) (is_reference shift region (storage_of row)) kind.OutsideStorage line))))
+      control.checked (regs b xs) (is_reference shift region (storage_of row)) kind.OutsideStorage
+      line))))
       (sym is)
       (subst (λ o. BothWays
       (with_row o (λ row.
-      control.checked (regs a xs) (is_reference shift region (storage_of row)) kind.OutsideStorage line))
+      control.checked (regs a xs) (is_reference shift region (storage_of row)) kind.OutsideStorage
+      line))
       (with_row o (λ row.
-      control.checked (regs b xs) (is_reference shift region (storage_of row)) kind.OutsideStorage line)))
+      control.checked (regs b xs) (is_reference shift region (storage_of row)) kind.OutsideStorage
+      line)))
       (sym there)
       (checked_ways a b xs (is_reference shift region (storage_of row)) kind.OutsideStorage line))
 
@@ -235,7 +242,8 @@ module _ (code : Tables) (a b : List ℤ) (xs : List Region) where
       (with_row o (λ region.
       control.checked (regs a xs) (border_conforms shift region) kind.RegionMismatch line))
       (with_row o (λ region.
-      control.checked (regs b xs) (border_conforms shift region) kind.RegionMismatch line))) (sym is)
+      control.checked (regs b xs) (border_conforms shift region) kind.RegionMismatch line)))
+      (sym is)
       (checked_ways a b xs (border_conforms shift region) kind.RegionMismatch line)
 
   -- values that are the same and not lacking
@@ -267,7 +275,8 @@ module _ (code : Tables) (a b : List ℤ) (xs : List Region) where
       → register_value code (regs a xs) expr ≡ register_value code (regs b xs) expr
       → register_value code (regs a xs) expr ≢ Lacks → Ways (instr.Unless expr goal line)
   unless_ways expr goal line same there =
-      computed_ways (register_value code (regs a xs) expr) (register_value code (regs b xs) expr) line
+      computed_ways (register_value code (regs a xs) expr) (register_value code (regs b xs) expr)
+      line
       (λ value. control.branched (regs a xs) (is_true value) goal)
       (λ value. control.branched (regs b xs) (is_true value) goal) same there
       (λ value. branched_ways a b xs (is_true value) goal)
@@ -276,7 +285,8 @@ module _ (code : Tables) (a b : List ℤ) (xs : List Region) where
       → register_value code (regs a xs) expr ≡ register_value code (regs b xs) expr
       → register_value code (regs a xs) expr ≢ Lacks → Ways (instr.Set scalar expr line)
   set_uniform scalar expr line same there =
-      computed_ways (register_value code (regs a xs) expr) (register_value code (regs b xs) expr) line
+      computed_ways (register_value code (regs a xs) expr) (register_value code (regs b xs) expr)
+      line
       (with_scalar (regs a xs) scalar) (with_scalar (regs b xs) scalar) same there
       (λ value. BothStep refl)
 
@@ -291,7 +301,8 @@ module _ (code : Tables) (a b : List ℤ) (xs : List Region) where
 
   pub dims_ways : (slot : ℕ) (parts : List DimRow) (line rank : ℕ)
       → slice_get code.slots slot ≡ Some rank
-      → part_dims code (regs a xs) 0 (take rank parts) ≡ part_dims code (regs b xs) 0 (take rank parts)
+      → part_dims code (regs a xs) 0 (take rank parts) ≡ part_dims code (regs b xs) 0
+      (take rank parts)
       → part_dims code (regs a xs) 0 (take rank parts) ≢ Lacks → Ways (instr.Dims slot parts line)
   dims_ways slot parts line rank is same there =
       subst (λ o. BothWays

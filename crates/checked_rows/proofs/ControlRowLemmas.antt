@@ -26,7 +26,8 @@ use Rattle.plan_orders.proofs.TestLemmas.{all_at, both}
 use Rattle.code_parts.specs.Uses.{may_divide}
 use Rattle.typed_tables.specs.Typed.{IsTypedRow}
 use Rattle.node_check.specs.Demand.{has_own, is_uniform_part, leaves_slots}
-use Rattle.node_check.specs.Fact.{Fact, Uniform}
+use Rattle.node_check.specs.declared.facts.Fact.{Fact}
+use Rattle.node_check.specs.declared.facts.Fact.TheVariants.{Uniform}
 use Rattle.node_check.specs.Learn.{is_uniform}
 use Rattle.checked_rows.specs.Faced.{AreTables}
 use Rattle.checked_rows.specs.Right.{Meets, RowFares}
@@ -81,7 +82,8 @@ is_control row = false
 -- ---- dimensions
 module _ (code : Tables) (tables : AreTables code) (a b : List ℤ) (xs : List Region)
     (facts : List Fact)
-    (says : (scalar : ℕ) → Contains facts (Uniform scalar) → slice_get a scalar ≡ slice_get b scalar)
+    (says : (scalar : ℕ) → Contains facts (Uniform scalar) → slice_get a scalar ≡ slice_get b
+    scalar)
     (slots : AllZip IsSlot code.slots xs) (enough : code.scalars ≤ length a) where
   value_alike : (expr : ℕ) → is_uniform code facts expr ≡ true
       → register_value code (regs a xs) expr ≡ register_value code (regs b xs) expr
@@ -101,7 +103,8 @@ module _ (code : Tables) (tables : AreTables code) (a b : List ℤ) (xs : List R
       → part_dims code (regs a xs) number parts ≡ part_dims code (regs b xs) number parts
   parts_alike number [] uniform = refl
   parts_alike number (one ∷ parts) uniform =
-      let halves = both (is_uniform_part code facts one) (list_all (is_uniform_part code facts) parts)
+      let halves = both (is_uniform_part code facts one)
+      (list_all (is_uniform_part code facts) parts)
       uniform in
       ap₂ (λ d rest. and_then (λ first. mapped (λ rest. first ∷ rest) rest) d)
       (part_alike number one halves.0) (parts_alike (suc number) parts halves.1)
@@ -128,7 +131,8 @@ module _ (code : Tables) (tables : AreTables code) (a b : List ℤ) (xs : List R
   part_there : (rank number : ℕ) (one : DimRow) → FitsPart code rank one → number < 3
       → IsThere (part_dim code (regs a xs) number one)
   part_there rank number (part.Span low high) fits below =
-      then_there (λ lo. mapped (λ hi. dim.Range lo hi (pos 1) lo) (register_value code (regs a xs) high))
+      then_there (λ lo. mapped (λ hi. dim.Range lo hi (pos 1) lo)
+      (register_value code (regs a xs) high))
       (register_value code (regs a xs) low)
       (never_lacks code tables.fits (regs a xs) low fits.0 enough)
       (λ lo. mapped_there (λ hi. dim.Range lo hi (pos 1) lo) (register_value code (regs a xs) high)
@@ -144,9 +148,11 @@ module _ (code : Tables) (tables : AreTables code) (a b : List ℤ) (xs : List R
       → number + length parts ≤ 3 → IsThere (part_dims code (regs a xs) number parts)
   parts_there rank number [] fits few = λ e. cc
   parts_there rank number (one ∷ parts) fits few =
-      then_there (λ first. mapped (λ rest. first ∷ rest) (part_dims code (regs a xs) (suc number) parts))
+      then_there (λ first. mapped (λ rest. first ∷ rest)
+      (part_dims code (regs a xs) (suc number) parts))
       (part_dim code (regs a xs) number one)
-      (part_there rank number one (All-head (FitsPart code rank) one parts fits) (omega (arith, few)))
+      (part_there rank number one (All-head (FitsPart code rank) one parts fits)
+      (omega (arith, few)))
       (λ first. mapped_there (λ rest. first ∷ rest) (part_dims code (regs a xs) (suc number) parts)
       (parts_there rank (suc number) parts (All-tail (FitsPart code rank) one parts fits)
       (omega (arith, few))))
@@ -172,7 +178,8 @@ module _ (code : Tables) (tables : AreTables code) (a b : List ℤ) (xs : List R
         by : (d : Bool) → may_divide code expr ≡ d → Ways code a b xs (instr.Set scalar expr line)
         by true is =
             set_uniform code a b xs scalar expr line
-            (value_alike expr (either (may_divide code expr) (is_uniform code facts expr) met is)) first
+            (value_alike expr (either (may_divide code expr) (is_uniform code facts expr) met is))
+            first
         by false is =
             set_given code a b xs scalar expr line first
             (never_lacks code tables.fits (regs b xs) expr has more)
@@ -185,7 +192,8 @@ module _ (code : Tables) (tables : AreTables code) (a b : List ℤ) (xs : List R
     row_ways (instr.Fix slot region) fits typed opened met is = BothStep refl
     row_ways (instr.Dims slot parts line) fits typed opened met is =
         dims_ways code a b xs slot parts line fits.rank fits.fit.0
-        (parts_alike 0 (take fits.rank parts) (passed_take (is_uniform_part code facts) fits.rank parts met))
+        (parts_alike 0 (take fits.rank parts) (passed_take (is_uniform_part code facts) fits.rank
+        parts met))
         (parts_there fits.rank 0 (take fits.rank parts)
         (All-take (FitsPart code fits.rank) fits.rank parts fits.fit.1.0)
         (let less = short_take fits.rank parts in omega (arith, less, typed)))
@@ -200,7 +208,8 @@ module _ (code : Tables) (tables : AreTables code) (a b : List ℤ) (xs : List R
             → slice_get code.arrays array ≡ o → IsSomeAnd o (λ row. row.rank ≡ fits.rank)
             → Ways code a b xs (instr.Need slot array shift line)
         by region here None is has = absurd has
-        by region here (Some row) is has = need_ways code a b xs slot array shift line region row here is
+        by region here (Some row) is has =
+            need_ways code a b xs slot array shift line region row here is
     row_ways (instr.Same target source kind line) fits typed opened met is =
         let one = there target fits.rank fits.fit.0 in
         let two = there source fits.rank fits.fit.1 in
@@ -267,7 +276,8 @@ module _ (code : Tables) (tables : AreTables code) (links : Option ℕ) (n : ℕ
       → Fare (instr.Need slot array shift line)
   need_fares slot array shift line next opened facts all meets wants =
       by_ways code links n (instr.Need slot array shift line) next all
-      (ways_of (instr.Need slot array shift line) opened facts all meets refl) (some_processors code)
+      (ways_of (instr.Need slot array shift line) opened facts all meets refl)
+      (some_processors code)
       (λ at p. refl) refl
 
   pub same_fares : (target source : ℕ) (kind : _) (line : ℕ)

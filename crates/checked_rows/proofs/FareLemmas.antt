@@ -33,9 +33,12 @@ alone_fares code tables links n (instr.Trap kind line) is =
 alone_fares code tables links n instr.End is = control.end_fares code tables links n
 alone_fares code tables links n (instr.Room array slot) is =
     prints.room_fares code tables links n array slot
-alone_fares code tables links n (instr.Clear array) is = prints.clear_fares code tables links n array
+alone_fares code tables links n (instr.Clear array) is =
+    prints.clear_fares code tables links n array
 alone_fares code tables links n (instr.Print text) is = prints.print_fares code tables links n text
-alone_fares code tables links n (instr.Number expr) is = prints.number_fares code tables links n expr
+alone_fares code tables links n (instr.Number expr) is =
+    prints.number_fares code tables links n expr
 alone_fares code tables links n (instr.Truth expr) is = prints.truth_fares code tables links n expr
-alone_fares code tables links n (instr.Loop slot group) is = loop_fares code tables links n slot group
+alone_fares code tables links n (instr.Loop slot group) is =
+    loop_fares code tables links n slot group
 alone_fares code tables links n row is = absurd (true≢false (sym is))

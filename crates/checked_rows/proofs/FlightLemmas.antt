@@ -60,10 +60,12 @@ module _ (code : Tables) (slots : List ℕ) (all after : Abreast)
       → IsFlightOf code all exchange flight → IsFlightOf code after exchange flight
   one_kept exchange flight left is =
       let items : list_all (λ (item : Item). not (is_among slots item.slot)) is.items ≡ true =
-      subst (λ o. list_all (λ (item : Item). not (is_among slots item.slot)) (rows_or_none o) ≡ true)
+      subst (λ o. list_all (λ (item : Item). not (is_among slots item.slot)) (rows_or_none o)
+      ≡ true)
       is.there left in
       let count : (p q : ℕ) → p < processors code
-      → word_count code (locals_of after p) is.items p q ≡ word_count code (locals_of all p) is.items p q =
+      → word_count code (locals_of after p) is.items p q ≡ word_count code
+      (locals_of all p) is.items p q =
       λ p q below. words_same code slots (locals_of all p) (locals_of after p)
       (λ slot apart. same p slot below apart) p q is.items items in
       record {
@@ -85,7 +87,8 @@ module _ (code : Tables) (slots : List ℕ) (all after : Abreast)
   flights_kept [] (flight ∷ flights) left are = absurd are
   flights_kept (exchange ∷ opened) [] left are = absurd are
   flights_kept (exchange ∷ opened) (flight ∷ flights) left are =
-      let parts = both (list_all (λ (item : Item). not (is_among slots item.slot)) (items_of code exchange))
+      let parts = both (list_all (λ (item : Item). not (is_among slots item.slot))
+      (items_of code exchange))
       (list_all (λ exchange. list_all (λ (item : Item). not (is_among slots item.slot))
       (items_of code exchange)) opened) left in
       (one_kept exchange flight parts.0 are.0, flights_kept opened flights parts.1 are.1)
@@ -110,7 +113,8 @@ other_keeps code links n row straight other next opened facts all after bytes me
     ap (λ slots. slice_get slots slot) (leaves.alike p below)
     ∙ (leaves.slots slot apart
     ∙ sym (ap (λ slots. slice_get slots slot) (meets.faced.told.alike p below))) in
-    subst (λ numbers. AreFlightsOf code after numbers after.flights) (sym (same_opened opened row other))
+    subst (λ numbers. AreFlightsOf code after numbers after.flights)
+    (sym (same_opened opened row other))
     (subst (λ flights. AreFlightsOf code after opened flights) (sym (stays.flights other))
     (flights_kept code (written_slots row) all after same opened all.flights
     (both (has_own code facts opened row) (leaves_slots code opened row) meets.met).1

@@ -47,7 +47,8 @@ use Rattle.plan_passes.proofs.SentLemmas.{at_every}
 use Rattle.plan_orders.proofs.TestLemmas.{all_at, both}
 use Rattle.node_check.specs.Demand.{has_own, has_place as has_demanded, is_held, is_near, is_stored, is_stored_row}
 use Rattle.node_check.specs.Demand.{is_vector, leaves_slots, places_in, places_of, tells_held}
-use Rattle.node_check.specs.Fact.{Fact, Held}
+use Rattle.node_check.specs.declared.facts.Fact.{Fact}
+use Rattle.node_check.specs.declared.facts.Fact.TheVariants.{Held}
 use Rattle.node_check.specs.Learn.{regions_of}
 use Rattle.node_check.specs.Told.{HasPlaces, HasPlacesAs, SlotHas}
 use Rattle.node_check.proofs.ToldLemmas.{one_region, stands}
@@ -143,7 +144,8 @@ module _ (code : Tables) (links : Option ℕ) (row : Instr) (opened : List ℕ) 
       }
 
       by : (list_any (tells_held slot array shift) facts ≡ true)
-          ⊎ ((is_stored code array && list_any (passes code array shift) (regions_of facts slot)) ≡ true)
+          ⊎ ((is_stored code array && list_any (passes code array shift) (regions_of facts slot))
+          ≡ true)
           → IsThere code all array shift region
       by (inl some) =
           let one = one_passes (tells_held slot array shift) facts some in
@@ -165,7 +167,8 @@ pub record PlaceFits (code : Tables) (rank : ℕ) (place : ℕ × List ℤ) : Ty
   pub shift : IsVector rank place.1
   pub many : length place.1 ≡ 3
 
-module _ (code : Tables) (tables : AreTables code) (rank : ℕ) (low : 1 ≤ rank) (few : rank ≤ 3) where
+module _ (code : Tables) (tables : AreTables code) (rank : ℕ) (low : 1 ≤ rank)
+    (few : rank ≤ 3) where
   abbrev IsNone : ℤ → Type 0
   IsNone c = c ≡ pos 0
 
@@ -182,7 +185,8 @@ module _ (code : Tables) (tables : AreTables code) (rank : ℕ) (low : 1 ≤ ran
             (All-cons (IsUpTo 31) (pos 0) [] near (All-nil (IsUpTo 31)))),
         none_past rank unmoved
             (All-cons IsNone (pos 0) (pos 0 ∷ pos 0 ∷ []) refl
-            (All-cons IsNone (pos 0) (pos 0 ∷ []) refl (All-cons IsNone (pos 0) [] refl (All-nil IsNone)))),
+            (All-cons IsNone (pos 0) (pos 0 ∷ []) refl
+            (All-cons IsNone (pos 0) [] refl (All-nil IsNone)))),
       )
 
   word_fits : (one : ExprOp) → FitsWord code rank one → IsTypedWord one → (place : ℕ × List ℤ)
@@ -205,7 +209,8 @@ module _ (code : Tables) (tables : AreTables code) (rank : ℕ) (low : 1 ≤ ran
       by None is has h = absurd h
       by (Some words) is has h =
           word_fits one (all_in (FitsWord code rank) words has one h)
-          (all_in IsTypedWord words (all_at (All IsTypedWord) code.exprs expr words tables.typed.exprs is)
+          (all_in IsTypedWord words (all_at (All IsTypedWord) code.exprs expr words
+          tables.typed.exprs is)
           one h) place k
 
   mask_fits : (mask : Option ℕ) → IfSome mask (HasExpr code rank) → (expr : ℕ)
@@ -224,7 +229,8 @@ module _ (code : Tables) (tables : AreTables code) (rank : ℕ) (low : 1 ≤ ran
   exprs_fit (member.Cell cell expr mask line) fits other (inr h) = mask_fits mask fits.2 other h
   exprs_fit (member.Acc scalar fold expr mask line) fits other (inl is) =
       subst (HasExpr code rank) is fits.1
-  exprs_fit (member.Acc scalar fold expr mask line) fits other (inr h) = mask_fits mask fits.2 other h
+  exprs_fit (member.Acc scalar fold expr mask line) fits other (inr h) =
+      mask_fits mask fits.2 other h
   exprs_fit (member.OpenIf expr mask line) fits other (inl is) = subst (HasExpr code rank) is fits.0
   exprs_fit (member.OpenIf expr mask line) fits other (inr h) = mask_fits mask fits.1 other h
   exprs_fit (member.OpenWhile expr mask line) fits other (inl is) =
@@ -291,7 +297,8 @@ module _ (code : Tables) (tables : AreTables code) (links : Option ℕ) (n slot 
 
   slot_is : IsSlot rank region.0
   slot_is =
-      let one = zip_at IsSlot code.slots (all.shares p).slots (meets.faced.parts p below).slots slot rank
+      let one = zip_at IsSlot code.slots (all.shares p).slots (meets.faced.parts p below).slots slot
+      rank
       fits.fit.0 in
       subst (IsSlot rank) (some_same one.0 region.0 (sym one.1 ∙ here)) one.2
 
@@ -315,7 +322,8 @@ module _ (code : Tables) (tables : AreTables code) (links : Option ℕ) (n slot 
       let place_is = place_fits code tables rank low few one fit place k in
       let demand = both (is_held code facts place.0 place.1 slot) (is_near code place.0 place.1)
       (all_pass (has_demanded code facts slot) (places_of code one) demanded place k) in
-      let is = held_there code links row opened facts all meets slot place.0 place.1 region.0 region.1
+      let is = held_there code links row opened facts all meets slot place.0 place.1 region.0
+      region.1
       demand.0 in
       by place_is demand.1 is is.row.stored refl is.places
     where
@@ -331,11 +339,13 @@ module _ (code : Tables) (tables : AreTables code) (links : Option ℕ) (n slot 
           let store = zip_at (IsStore code p) code.arrays (all.shares p).stores
           (meets.faced.parts p below).stores place.0 is.row is.named in
           let same = ranked place_is is.row is.named in
-          let storage = subst (λ b. ArePlaces code p is.row b store.0.storage) stored store.2.places in (
+          let storage = subst (λ b. ArePlaces code p is.row b store.0.storage) stored store.2.places
+          in (
             store.0.storage,
             ap (option_map (λ (s : Array). s.storage)) store.1,
             ap (λ (r : Region). has_place r (moved_by place.1 t)) storage
-                ∙ stored_held code (layout_of code tables) place.0 is.row is.named stored p below region.0
+                ∙ stored_held code (layout_of code tables) place.0 is.row is.named stored p below
+                region.0
                 (subst (λ r. IsSlot r region.0) (sym same) slot_is) place.1 place_is.many
                 (subst (λ r. IsVector r place.1) (sym same) place_is.shift)
                 (subst (λ b. HasPlacesAs code all place.0 place.1 region.0 is.row b) stored places)
@@ -347,12 +357,14 @@ module _ (code : Tables) (tables : AreTables code) (links : Option ℕ) (n slot 
               → array_has_fringe (Some is.row) place.1 ≡ true
           fringe is near stored =
               let told : (not is.row.stored || array_has_fringe (Some is.row) place.1) ≡ true =
-              subst (λ o. (not (is_stored_row o) || array_has_fringe o place.1) ≡ true) is.named near in
+              subst (λ o. (not (is_stored_row o) || array_has_fringe o place.1) ≡ true) is.named
+              near in
               subst (λ b. (not b || array_has_fringe (Some is.row) place.1) ≡ true) stored told
       by place_is near is false stored places =
           let same = ranked place_is is.row is.named in
           let own = own_part code p region.0 in
-          let room = subst (λ b. HasPlacesAs code all place.0 place.1 region.0 is.row b) stored places p
+          let room = subst (λ b. HasPlacesAs code all place.0 place.1 region.0 is.row b) stored
+          places p
           below in (
             room_of is.row own (has_none own),
             room,
@@ -365,12 +377,14 @@ module _ (code : Tables) (tables : AreTables code) (links : Option ℕ) (n slot 
           )
 
   -- with these members, as a tree
-  module _ (group_is : List Member) (there : slice_get code.groups group ≡ Some group_is) (nest : Nest)
+  module _ (group_is : List Member) (there : slice_get code.groups group ≡ Some group_is)
+      (nest : Nest)
       (tree : nest_of group_is ≡ Some nest) (spelled : spelled_as nest ≡ group_is) where
     fit_members : All (FitsMember code rank) group_is
     fit_members = subst (λ o. IsSomeAnd o (All (FitsMember code rank))) there fits.fit.1
 
-    demanded : list_all (λ one. list_all (has_demanded code facts slot) (places_of code one)) group_is ≡ true
+    demanded : list_all
+        (λ one. list_all (has_demanded code facts slot) (places_of code one)) group_is ≡ true
     demanded =
         subst (λ o. list_all (λ one. list_all (has_demanded code facts slot) (places_of code one))
         (rows_or_none o) ≡ true) there
@@ -386,7 +400,8 @@ module _ (code : Tables) (tables : AreTables code) (links : Option ℕ) (n slot 
           fit = fit;
           reach =
               reach one fit
-              (all_pass (λ one. list_all (has_demanded code facts slot) (places_of code one)) group_is demanded
+              (all_pass (λ one. list_all (has_demanded code facts slot) (places_of code one))
+              group_is demanded
               one inside) t h;
         }
 
@@ -400,13 +415,15 @@ module _ (code : Tables) (tables : AreTables code) (links : Option ℕ) (n slot 
     pub none_lacks : lacks code n (shared code n (units_of nest) slot all p) ≡ false
     none_lacks =
         ap (λ o. lacks code n (part_shared code n (units_of nest) (all.shares p) p o)) here
-        ∙ by (tuples_found code tables.fits (all.shares p).stores n (units_of nest) mine (all.shares p).flag
+        ∙ by (tuples_found code tables.fits (all.shares p).stores n (units_of nest) mine
+        (all.shares p).flag
         (point_of code n (all.shares p)) keeps
         (λ t h point kept.
         units_found code tables.fits (all.shares p).stores rank few t
         (tuple_many code p rank region.0 slot_is t (own_member t h)) n (still t) (units_of nest)
         (units_have code tables.fits (all.shares p).stores rank few t
-        (tuple_many code p rank region.0 slot_is t (own_member t h)) n (still t) nest (have t h)) 0 point
+        (tuple_many code p rank region.0 slot_is t (own_member t h)) n (still t) nest (have t h)) 0
+        point
         kept))
       where
         by : {some : Shared} → Shares code tables.fits (all.shares p).stores some
@@ -422,7 +439,8 @@ module _ (code : Tables) (tables : AreTables code) (links : Option ℕ) (n : ℕ
   not_wanting LacksPlace none = refl
 
   goes : (a w v : Bool) (after : Abreast) → a ≡ true → w ≡ true
-      → Does (if a then (if w then Goes [] after else (if v then Stops (Ends More) else Stops Wrong))
+      → Does
+      (if a then (if w then Goes [] after else (if v then Stops (Ends More) else Stops Wrong))
       else Stops Wrong) ≢ Does (Stops Wrong)
   goes true true v after held done e = cc
   goes true false v after held done e = absurd (true≢false (sym done))
@@ -434,17 +452,22 @@ module _ (code : Tables) (tables : AreTables code) (links : Option ℕ) (n : ℕ
       meets.here in
       by fits.rank (slice_get code.groups group) refl fits.fit.1
     where
-      in_tree : (group_is : List Member) → slice_get code.groups group ≡ Some group_is → (nest : Nest)
+      in_tree : (group_is : List Member) → slice_get code.groups group ≡ Some group_is
+          → (nest : Nest)
           → spelled_as nest ≡ group_is → nest_of group_is ≡ Some nest
-          → Does (tree_looped code n (is_vote_of group next) slot (Some nest) all) ≢ Does (Stops Wrong)
+          → Does (tree_looped code n (is_vote_of group next) slot (Some nest) all) ≢ Does
+          (Stops Wrong)
       in_tree group_is there nest spelled tree =
           goes (every code (λ p. not (lacks code n (shared code n (units_of nest) slot all p))))
           (every code (λ p. not (wants code n (shared code n (units_of nest) slot all p))))
           (is_vote_of group next && is_quiet all) _
-          (at_every code (λ p. not (lacks code n (shared code n (units_of nest) slot all p))) (λ p below.
-          ap not (none_lacks code tables links n slot group opened facts all meets p below group_is there
+          (at_every code (λ p. not (lacks code n (shared code n (units_of nest) slot all p)))
+          (λ p below.
+          ap not (none_lacks code tables links n slot group opened facts all meets p below group_is
+          there
           nest tree spelled)))
-          (at_every code (λ p. not (wants code n (shared code n (units_of nest) slot all p))) (λ p below.
+          (at_every code (λ p. not (wants code n (shared code n (units_of nest) slot all p)))
+          (λ p below.
           ap not (not_wanting (shared code n (units_of nest) slot all p)
           (wanting group_is nest p there tree below))))
 
@@ -453,7 +476,8 @@ module _ (code : Tables) (tables : AreTables code) (links : Option ℕ) (n : ℕ
           → Fares code links n (instr.Loop slot group) next all
       by rank None there fit = absurd fit
       by rank (Some group_is) there fit =
-          let is = (all_at (FitsGroup code) code.groups group group_is tables.fits.groups there).nest in
+          let is = (all_at (FitsGroup code) code.groups group group_is tables.fits.groups
+          there).nest in
           let tree : nest_of group_is ≡ Some is.tree =
           ap nest_of (sym is.spelled) ∙ reads_again is.tree in
           GoesRight (λ e.

@@ -92,13 +92,16 @@ same_place (Range lo hi low high ∷ rows) (d ∷ v) (dim.Range from to step ali
     let parts = both (is_coordinate (dim.Range lo hi (pos 1) lo) (x +ℤ d))
     (each_has_place (map storage_dim rows) (each_coordinate_moved v dims t)) e in
     and_true (is_coordinate (dim.Range lo hi (pos 1) lo) (x +ℤ d)) _ parts.0
-    (same_place rows v dims t (omega (arith, a)) (omega (arith, b)) (omega (arith, c)) cover parts.1)
+    (same_place rows v dims t (omega (arith, a)) (omega (arith, b)) (omega (arith, c)) cover
+    parts.1)
 
 storage_boxed : (rows : List ArrayDim) → All IsBoxed (map storage_dim rows)
 storage_boxed [] = All-nil IsBoxed
 storage_boxed (Range lo hi low high ∷ rows) =
-    All-cons IsBoxed (dim.Range lo hi (pos 1) lo) (map storage_dim rows) (refl, refl) (storage_boxed rows)
-storage_boxed (Star ∷ rows) = All-cons IsBoxed dim.Flood (map storage_dim rows) tt (storage_boxed rows)
+    All-cons IsBoxed (dim.Range lo hi (pos 1) lo) (map storage_dim rows) (refl, refl)
+    (storage_boxed rows)
+storage_boxed (Star ∷ rows) =
+    All-cons IsBoxed dim.Flood (map storage_dim rows) tt (storage_boxed rows)
 
 storage_many : (rows : List ArrayDim) → length (map storage_dim rows) ≡ length rows
 storage_many [] = refl
@@ -124,7 +127,8 @@ met_steps [] highs dims steps = steps
 met_steps (l ∷ lows) [] dims steps = steps
 met_steps (l ∷ lows) (h ∷ highs) [] steps = All-nil HasStep
 met_steps (l ∷ lows) (h ∷ highs) (d ∷ dims) steps =
-    All-cons HasStep (dim_met l h d) (each_met lows highs dims) (kept d (All-head HasStep d dims steps))
+    All-cons HasStep (dim_met l h d) (each_met lows highs dims)
+    (kept d (All-head HasStep d dims steps))
     (met_steps lows highs dims (All-tail HasStep d dims steps))
   where
     kept : (e : Dim) → HasStep e → HasStep (dim_met l h e)
@@ -135,7 +139,8 @@ hull_steps : (dims : List Dim) → All HasStep (map dim_hull dims)
 hull_steps [] = All-nil HasStep
 hull_steps (dim.Flood ∷ dims) = All-cons HasStep dim.Flood (map dim_hull dims) tt (hull_steps dims)
 hull_steps (dim.Range lo hi step align ∷ dims) =
-    All-cons HasStep (dim_hull (dim.Range lo hi step align)) (map dim_hull dims) (omega (arith, ints))
+    All-cons HasStep (dim_hull (dim.Range lo hi step align)) (map dim_hull dims)
+    (omega (arith, ints))
     (hull_steps dims)
 
 zip_many : (dims : List Dim) (t : List ℤ) → AllZip IsCoordinate dims t → length t ≡ length dims
@@ -166,7 +171,8 @@ module _ (code : Tables) (layout : HasLayout code) (array : ℕ) (row : ArrayRow
     (below : p < processors code) (region : Region) (slot : IsSlot row.rank region)
     (shift : List ℤ) (long : length shift ≡ 3) (vector : IsVector row.rank shift)
     (lies : is_reference shift region (storage_of row) ≡ true)
-    (fringe : is_in_fringe row.dims shift ≡ true) (t : List ℤ) (own : IsMember (own_part code p region) t)
+    (fringe : is_in_fringe row.dims shift ≡ true) (t : List ℤ)
+    (own : IsMember (own_part code p region) t)
   where
     three : length row.dims ≡ 3
     three = three_dims code layout array row there told
@@ -205,7 +211,8 @@ module _ (code : Tables) (layout : HasLayout code) (array : ℕ) (row : ArrayRow
             → each_covers row.dims region.dims ≡ true
         by (inl none) =
             absurd (let empty = eqb-true (tuple_count (moved shift region).dims) 0 none in
-            let some = some_tuple (moved shift region).dims (tuple_moved shift region t) steps member in
+            let some = some_tuple (moved shift region).dims (tuple_moved shift region t) steps
+            member in
             omega (arith, empty, some))
         by (inr each) = covers_of row.dims (components region.rank shift) region.dims each
 
@@ -213,7 +220,8 @@ module _ (code : Tables) (layout : HasLayout code) (array : ℕ) (row : ArrayRow
     in_storage =
         same_place row.dims shift region.dims t (slot.many ∙ sym three) (long ∙ sym three)
         (t_many ∙ sym three) covers
-        (subst (λ v. each_has_place (map storage_dim row.dims) (each_coordinate_moved v region.dims t) ≡ true)
+        (subst (λ v. each_has_place (map storage_dim row.dims)
+        (each_coordinate_moved v region.dims t) ≡ true)
         same_shift
         (lies_in_places (moved shift region) (storage_of row) (tuple_moved shift region t) steps
         (storage_boxed row.dims) many lies member))
@@ -225,7 +233,8 @@ module _ (code : Tables) (layout : HasLayout code) (array : ℕ) (row : ArrayRow
     in_box =
         needed_held code layout array row there told p below region slot shift long flat_shift
         (place_of row.dims shift t)
-        (read_needed code layout array row there told p below region slot shift long flat_shift t own
+        (read_needed code layout array row there told p below region slot shift long flat_shift t
+        own
         covers in_storage fringe)
 
     pub stored_held : has_place (held_of (laid_out (arrangement_of code)) (box_of row) p)
@@ -242,7 +251,8 @@ module _ (code : Tables) (layout : HasLayout code) (array : ℕ) (row : ArrayRow
 
 -- ---- of a temporary: the room of the region has its tuples
 rooms_here : (rows : List ArrayDim) (hulls : List Dim) (t : List ℤ) → length hulls ≡ length rows
-    → All HasStep hulls → AllZip IsCoordinate hulls t → each_has_place (each_room rows hulls) t ≡ true
+    → All HasStep hulls → AllZip IsCoordinate hulls t
+    → each_has_place (each_room rows hulls) t ≡ true
 rooms_here [] [] [] long steps are = refl
 rooms_here [] [] (x ∷ t) long steps are = absurd are
 rooms_here [] (d ∷ hulls) t long steps are = absurd (omega (arith, long))
@@ -255,7 +265,8 @@ rooms_here (Range a b c e ∷ rows) (dim.Flood ∷ hulls) (x ∷ t) long steps a
     (ap (is_coordinate (all_from (pos 0) (pos 0))) are.0)
     (rooms_here rows hulls t (omega (arith, long)) (All-tail HasStep dim.Flood hulls steps) are.1)
 rooms_here (Range a b c e ∷ rows) (dim.Range lo hi step align ∷ hulls) (x ∷ t) long steps are =
-    and_true (is_coordinate (dim.Range lo hi step align) x) (each_has_place (each_room rows hulls) t)
+    and_true (is_coordinate (dim.Range lo hi step align) x)
+    (each_has_place (each_room rows hulls) t)
     ((is_coordinate_iff (dim.Range lo hi step align) x
     (All-head HasStep (dim.Range lo hi step align) hulls steps)).1 are.0)
     (rooms_here rows hulls t (omega (arith, long))
@@ -298,7 +309,8 @@ module _ (code : Tables) (row : ArrayRow) (three : length row.dims ≡ 3) (p : �
       (member_of_hull mine t mine_steps own))
 
 -- ---- a tuple of the own part
-module _ (code : Tables) (p rank : ℕ) (region : Region) (slot : IsSlot rank region) (t : List ℤ) where
+module _ (code : Tables) (p rank : ℕ) (region : Region) (slot : IsSlot rank region)
+    (t : List ℤ) where
   pub region_of_member : Contains (members (own_part code p region)) t
       → IsMember (own_part code p region) t
   region_of_member among =

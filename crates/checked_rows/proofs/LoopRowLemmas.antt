@@ -80,7 +80,8 @@ module _ (code : Tables) (fits : Fits code) (start : List Array) where
         → Reaches t (array, shift) → value_at point.store array (moved_by shift t) ≡ None → ⊥
     element_there point keeps array shift reaches none =
         let store = store_there point.store array reaches.0 (keeps.shapes array ∙ reaches.1) in
-        some_not (element store.0 (moved_by shift t)) (value_at point.store array (moved_by shift t))
+        some_not (element store.0 (moved_by shift t))
+        (value_at point.store array (moved_by shift t))
         (ap (option_and_then (held_value (moved_by shift t))) store.1
         ∙ ap (λ b. where_held b (element store.0 (moved_by shift t)))
         (ap (λ (r : Region). has_place r (moved_by shift t)) store.2 ∙ reaches.2)) none
@@ -101,22 +102,26 @@ module _ (code : Tables) (fits : Fits code) (start : List Array) where
             → IsUnheld (operands_at (access_at t) point) one → ⊥
         by_word words front rest (word.Here array) is reach unheld =
             element_there point keeps array unmoved
-            (reach (array, unmoved) (in_words words front rest (word.Here array) is (array, unmoved) (inl refl)))
+            (reach (array, unmoved) (in_words words front rest (word.Here array) is (array, unmoved)
+            (inl refl)))
             unheld
         by_word words front rest (word.Shifted array shift) is reach unheld =
             element_there point keeps array shift
             (reach (array, shift)
-            (in_words words front rest (word.Shifted array shift) is (array, shift) (inl refl))) unheld
+            (in_words words front rest (word.Shifted array shift) is (array, shift) (inl refl)))
+            unheld
         by_word words front rest one is reach unheld = unheld
 
         by : (o : Option (List ExprOp)) → slice_get code.exprs expr ≡ o
             → IsSomeAnd o (All (FitsWord code rank))
-            → ((place : ℕ × List ℤ) → In (flat_map places_in (rows_or_none o)) place → Reaches t place)
+            → ((place : ℕ × List ℤ) → In (flat_map places_in (rows_or_none o)) place → Reaches t
+            place)
             → and_then (value_of (operands_at (access_at t) point)) (read o) ≡ Lacks → ⊥
         by None there has reach e = has
         by (Some words) there has reach e =
             let fit = all_at (FitsExpr code) code.exprs expr words fits.exprs there in
-            let reads = (value_of-Lacks code rank (operands_at (access_at t) point) words fit.stack has
+            let reads = (value_of-Lacks code rank (operands_at (access_at t) point) words fit.stack
+            has
             (record {
               scalars = keeps.scalars;
               cells = keeps.cells;
@@ -196,15 +201,18 @@ module _ (code : Tables) (fits : Fits code) (start : List Array) where
         ap (λ (r : Region). has_place r t) store.2
         ∙ (ap (has_place reaches.0) (sym still) ∙ reaches.2) in
         let is : with_value point.store array t v ≡ Some next =
-        ap (λ o. option_map (slice_set point.store array) (option_and_then (held_with t v) o)) store.1
-        ∙ ap (λ b. option_map (slice_set point.store array) (where_held b (updated store.0 t v))) place in (
+        ap (λ o. option_map (slice_set point.store array) (option_and_then (held_with t v) o))
+        store.1
+        ∙ ap (λ b. option_map (slice_set point.store array) (where_held b (updated store.0 t v)))
+        place in (
           record point { store = next },
           ap (option_map (λ store. record point { store = store })) is,
           record {
             scalars = keeps.scalars;
             cells = keeps.cells;
             shapes = λ other.
-                (puts (record { array = array; place = t; value = v }) point.store next is).shapes other
+                (puts (record { array = array; place = t; value = v }) point.store next is).shapes
+                other
                 ∙ keeps.shapes other;
           },
         )
@@ -272,7 +280,8 @@ module _ (code : Tables) (fits : Fits code) (start : List Array) where
         subst (λ places. In places place)
         (sym (flat_map-append places_in (words_of code first) (flat_map (words_of code) exprs)))
         (in_back (flat_map places_in (words_of code first))
-        (flat_map places_in (flat_map (words_of code) exprs)) place (among_exprs exprs expr h place k))
+        (flat_map places_in (flat_map (words_of code) exprs)) place
+        (among_exprs exprs expr h place k))
 
     expr_of : (one : Member) → MemberHas one → (expr : ℕ) → In (exprs_of one) expr
         → HasExpr code rank expr → Expr expr
@@ -280,7 +289,8 @@ module _ (code : Tables) (fits : Fits code) (start : List Array) where
       has = has;
       readable = λ place k.
           is.reach place
-          (in_back (map (λ array. (array, unmoved)) (put_by one)) (flat_map places_in (member_words code one))
+          (in_back (map (λ array. (array, unmoved)) (put_by one))
+          (flat_map places_in (member_words code one))
           place (among_exprs (exprs_of one) expr h place k));
     }
 
@@ -306,9 +316,12 @@ module _ (code : Tables) (fits : Fits code) (start : List Array) where
         masked_found mask if_mask point keeps _
         (value_found point keeps (ways.value point expr)
         (value_there point keeps expr is.has is.readable)
-        (λ v. if is_true v then then_do (while_turns ways n mask expr body) (body point) else Fine point)
-        (λ v. if_found (is_true v) (then_do (while_turns ways n mask expr body) (body point)) (Fine point)
-        (then_found (while_turns ways n mask expr body) (while_found n mask if_mask expr is body each)
+        (λ v. if is_true v then then_do (while_turns ways n mask expr body) (body point) else Fine
+        point)
+        (λ v. if_found (is_true v) (then_do (while_turns ways n mask expr body) (body point))
+        (Fine point)
+        (then_found (while_turns ways n mask expr body)
+        (while_found n mask if_mask expr is body each)
         (body point) (each point keeps)) (FoundFine keeps)))
 
     until_found : (more : Point (List Array) → Told (Point (List Array)))
@@ -330,7 +343,8 @@ module _ (code : Tables) (fits : Fits code) (start : List Array) where
     repeat_found (suc n) mask if_mask expr is body each point keeps =
         masked_found mask if_mask point keeps _
         (then_found (until_done ways (repeat_turns ways n mask expr body) expr)
-        (until_found (repeat_turns ways n mask expr body) (repeat_found n mask if_mask expr is body each)
+        (until_found (repeat_turns ways n mask expr body)
+        (repeat_found n mask if_mask expr is body each)
         expr is) (body point) (each point keeps))
 
     -- ---- a tree of members
@@ -344,19 +358,24 @@ module _ (code : Tables) (fits : Fits code) (start : List Array) where
       nest_found (Putting array expr mask line after) has point keeps =
           let one = has (member.Put array expr mask line) (inl refl) in
           then_found (nested ways n after) (nest_found after (λ m h. has m (inr h))) _
-          (leaf_found expr (expr_of (member.Put array expr mask line) one expr (inl refl) one.fit.1) mask
-          (mask_of (member.Put array expr mask line) one mask (λ e h. inr h) one.fit.2) (ways.put array)
+          (leaf_found expr (expr_of (member.Put array expr mask line) one expr (inl refl) one.fit.1)
+          mask
+          (mask_of (member.Put array expr mask line) one mask (λ e h. inr h) one.fit.2)
+          (ways.put array)
           (put_leaves array (one.reach (array, unmoved) (inl refl)) still) point keeps)
       nest_found (Keeping cell expr mask line after) has point keeps =
           let one = has (member.Cell cell expr mask line) (inl refl) in
           then_found (nested ways n after) (nest_found after (λ m h. has m (inr h))) _
-          (leaf_found expr (expr_of (member.Cell cell expr mask line) one expr (inl refl) one.fit.1) mask
-          (mask_of (member.Cell cell expr mask line) one mask (λ e h. inr h) one.fit.2) (ways.keep cell)
+          (leaf_found expr (expr_of (member.Cell cell expr mask line) one expr (inl refl) one.fit.1)
+          mask
+          (mask_of (member.Cell cell expr mask line) one mask (λ e h. inr h) one.fit.2)
+          (ways.keep cell)
           (keep_leaves cell) point keeps)
       nest_found (Joining scalar fold expr mask line after) has point keeps =
           let one = has (member.Acc scalar fold expr mask line) (inl refl) in
           then_found (nested ways n after) (nest_found after (λ m h. has m (inr h))) _
-          (leaf_found expr (expr_of (member.Acc scalar fold expr mask line) one expr (inl refl) one.fit.1)
+          (leaf_found expr (expr_of (member.Acc scalar fold expr mask line) one expr (inl refl)
+          one.fit.1)
           mask (mask_of (member.Acc scalar fold expr mask line) one mask (λ e h. inr h) one.fit.2)
           (ways.join scalar fold) (join_leaves scalar fold one.fit.0) point keeps)
       nest_found (Choosing expr mask line body after) has point keeps =
@@ -364,19 +383,22 @@ module _ (code : Tables) (fits : Fits code) (start : List Array) where
           let one = has head (inl refl) in
           let is = expr_of head one expr (inl refl) one.fit.0 in
           then_found (nested ways n after)
-          (nest_found after (λ m h. has m (inr (in_back (members_of body) (member.CloseIf ∷ members_of after) m (inr h)))))
+          (nest_found after (λ m h. has m (inr
+          (in_back (members_of body) (member.CloseIf ∷ members_of after) m (inr h)))))
           _ (masked_found mask (mask_of head one mask (λ e h. inr h) one.fit.1) point keeps _
           (value_found point keeps (ways.value point expr)
           (value_there point keeps expr is.has is.readable)
           (λ v. if is_true v then nested ways n body point else Fine point)
           (λ v. if_found (is_true v) (nested ways n body point) (Fine point)
-          (nest_found body (λ m h. has m (inr (in_front (members_of body) (member.CloseIf ∷ members_of after) m h)))
+          (nest_found body (λ m h. has m (inr (in_front (members_of body)
+          (member.CloseIf ∷ members_of after) m h)))
           point keeps) (FoundFine keeps))))
       nest_found (ChoosingElse expr mask line body otherwise after) has point keeps =
           let head = member.OpenIf expr mask line in
           let one = has head (inl refl) in
           let is = expr_of head one expr (inl refl) one.fit.0 in
-          let rest : List Member = member.Otherwise ∷ (members_of otherwise ++ member.CloseIf ∷ members_of after) in
+          let rest : List Member = member.Otherwise ∷
+          (members_of otherwise ++ member.CloseIf ∷ members_of after) in
           then_found (nested ways n after)
           (nest_found after (λ m h. has m (inr (in_back (members_of body) rest m
           (inr (in_back (members_of otherwise) (member.CloseIf ∷ members_of after) m (inr h)))))))
@@ -387,26 +409,32 @@ module _ (code : Tables) (fits : Fits code) (start : List Array) where
           (λ v. if_found (is_true v) (nested ways n body point) (nested ways n otherwise point)
           (nest_found body (λ m h. has m (inr (in_front (members_of body) rest m h))) point keeps)
           (nest_found otherwise (λ m h. has m (inr (in_back (members_of body) rest m
-          (inr (in_front (members_of otherwise) (member.CloseIf ∷ members_of after) m h))))) point keeps))))
+          (inr (in_front (members_of otherwise) (member.CloseIf ∷ members_of after) m h))))) point
+          keeps))))
       nest_found (Looping expr mask line body after) has point keeps =
           let head = member.OpenWhile expr mask line in
           let one = has head (inl refl) in
           then_found (nested ways n after)
-          (nest_found after (λ m h. has m (inr (in_back (members_of body) (member.CloseWhile ∷ members_of after) m (inr h)))))
+          (nest_found after (λ m h. has m (inr
+          (in_back (members_of body) (member.CloseWhile ∷ members_of after) m (inr h)))))
           _ (while_found n mask (mask_of head one mask (λ e h. inr h) one.fit.1) expr
           (expr_of head one expr (inl refl) one.fit.0) (nested ways n body)
-          (nest_found body (λ m h. has m (inr (in_front (members_of body) (member.CloseWhile ∷ members_of after) m h))))
+          (nest_found body (λ m h. has m (inr (in_front (members_of body)
+          (member.CloseWhile ∷ members_of after) m h))))
           point keeps)
       nest_found (Repeating mask line body until after) has point keeps =
           let head = member.OpenRepeat mask line in
           let one = has head (inl refl) in
           let last = has (member.Until until)
-          (inr (in_back (members_of body) (member.Until until ∷ members_of after) (member.Until until) (inl refl))) in
+          (inr (in_back (members_of body) (member.Until until ∷ members_of after)
+          (member.Until until) (inl refl))) in
           then_found (nested ways n after)
-          (nest_found after (λ m h. has m (inr (in_back (members_of body) (member.Until until ∷ members_of after) m (inr h)))))
+          (nest_found after (λ m h. has m (inr
+          (in_back (members_of body) (member.Until until ∷ members_of after) m (inr h)))))
           _ (repeat_found n mask (mask_of head one mask (λ e h. h) one.fit) until
           (expr_of (member.Until until) last until (inl refl) last.fit) (nested ways n body)
-          (nest_found body (λ m h. has m (inr (in_front (members_of body) (member.Until until ∷ members_of after) m h))))
+          (nest_found body (λ m h. has m (inr (in_front (members_of body)
+          (member.Until until ∷ members_of after) m h))))
           point keeps)
 
       -- ---- the units of a group
@@ -433,14 +461,24 @@ module _ (code : Tables) (fits : Fits code) (start : List Array) where
 
       pub units_have : (nest : Nest) → HaveAll (members_of nest) → UnitsHave (units_of nest)
       units_have Nothing has = tt
-      units_have (Putting array expr mask line after) has =
-          (λ m h. has m (alone_in _ (members_of after) m h), units_have after (λ m h. has m (inr h)))
-      units_have (Keeping cell expr mask line after) has =
-          (λ m h. has m (alone_in _ (members_of after) m h), units_have after (λ m h. has m (inr h)))
-      units_have (Joining scalar fold expr mask line after) has =
-          (λ m h. has m (alone_in _ (members_of after) m h), units_have after (λ m h. has m (inr h)))
+      units_have (Putting array expr mask line after) has = (
+        λ m h. has m (alone_in _ (members_of after) m h),
+        units_have after
+            (λ m h. has m (inr h)),
+      )
+      units_have (Keeping cell expr mask line after) has = (
+        λ m h. has m (alone_in _ (members_of after) m h),
+        units_have after
+            (λ m h. has m (inr h)),
+      )
+      units_have (Joining scalar fold expr mask line after) has = (
+        λ m h. has m (alone_in _ (members_of after) m h),
+        units_have after
+            (λ m h. has m (inr h)),
+      )
       units_have (Choosing expr mask line body after) has = (
-        λ m h. has m (behind_in _ _ _ m (shorter (members_of body) member.CloseIf (members_of after) m) h),
+        λ m h. has m (behind_in _ _ _ m (shorter (members_of body) member.CloseIf (members_of after)
+            m) h),
         units_have after (λ m h. has m (inr (in_back (members_of body) _ m (inr h)))),
       )
       units_have (ChoosingElse expr mask line body otherwise after) has = (
@@ -450,8 +488,12 @@ module _ (code : Tables) (fits : Fits code) (start : List Array) where
       )
         where
           inner : (m : Member)
-              → In (members_of body ++ member.Otherwise ∷ (members_of otherwise ++ member.CloseIf ∷ [])) m
-              → In (members_of body ++ member.Otherwise ∷ (members_of otherwise ++ member.CloseIf ∷ members_of after)) m
+              → In
+              (members_of body ++ member.Otherwise ∷ (members_of otherwise ++ member.CloseIf ∷ []))
+              m
+              → In
+              (members_of body ++ member.Otherwise ∷
+              (members_of otherwise ++ member.CloseIf ∷ members_of after)) m
           inner m h =
               by (in_append (members_of body)
               (member.Otherwise ∷ (members_of otherwise ++ member.CloseIf ∷ [])) m h)
@@ -461,21 +503,26 @@ module _ (code : Tables) (fits : Fits code) (start : List Array) where
 
               by : In (members_of body) m
                   ⊎ In (member.Otherwise ∷ (members_of otherwise ++ member.CloseIf ∷ [])) m
-                  → In (members_of body ++ member.Otherwise ∷ (members_of otherwise ++ member.CloseIf ∷ members_of after)) m
+                  → In
+                  (members_of body ++ member.Otherwise ∷
+                  (members_of otherwise ++ member.CloseIf ∷ members_of after)) m
               by (inl h) =
                   in_front (members_of body)
-                  (member.Otherwise ∷ (members_of otherwise ++ member.CloseIf ∷ members_of after)) m h
+                  (member.Otherwise ∷ (members_of otherwise ++ member.CloseIf ∷ members_of after)) m
+                  h
               by (inr h) =
                   in_back (members_of body)
                   (member.Otherwise ∷ (members_of otherwise ++ member.CloseIf ∷ members_of after)) m
                   (behind_in member.Otherwise _ _ m
                   (shorter (members_of otherwise) member.CloseIf (members_of after) m) h)
       units_have (Looping expr mask line body after) has = (
-        λ m h. has m (behind_in _ _ _ m (shorter (members_of body) member.CloseWhile (members_of after) m) h),
+        λ m h. has m (behind_in _ _ _ m (shorter (members_of body) member.CloseWhile
+            (members_of after) m) h),
         units_have after (λ m h. has m (inr (in_back (members_of body) _ m (inr h)))),
       )
       units_have (Repeating mask line body until after) has = (
-        λ m h. has m (behind_in _ _ _ m (shorter (members_of body) (member.Until until) (members_of after) m) h),
+        λ m h. has m (behind_in _ _ _ m (shorter (members_of body) (member.Until until)
+            (members_of after) m) h),
         units_have after (λ m h. has m (inr (in_back (members_of body) _ m (inr h)))),
       )
 

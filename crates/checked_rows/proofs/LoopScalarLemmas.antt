@@ -51,7 +51,8 @@ module _ (chosen : ℕ) (start : Option ℤ) where
     put_stays : (other : ℕ) → AreLeaves Stays ways ways (PutLeaf other) (PutLeaf other)
     put_stays other = record {
       steps = λ v p q like.
-          subst (λ q. AreBoth Stays (way_of ways (PutLeaf other) v p) (way_of ways (PutLeaf other) v q))
+          subst (λ q. AreBoth Stays (way_of ways (PutLeaf other) v p)
+          (way_of ways (PutLeaf other) v q))
           like.0 (by v p like.1 (with_value p.store other t v));
     }
       where
@@ -65,7 +66,8 @@ module _ (chosen : ℕ) (start : Option ℤ) where
     keep_stays : (cell : ℕ) → AreLeaves Stays ways ways (KeepLeaf cell) (KeepLeaf cell)
     keep_stays cell = record {
       steps = λ v p q like.
-          subst (λ q. AreBoth Stays (way_of ways (KeepLeaf cell) v p) (way_of ways (KeepLeaf cell) v q))
+          subst (λ q. AreBoth Stays (way_of ways (KeepLeaf cell) v p)
+          (way_of ways (KeepLeaf cell) v q))
           like.0 (Both (refl, like.1));
     }
 
@@ -80,7 +82,9 @@ module _ (chosen : ℕ) (start : Option ℤ) where
       where
         by : (v : ℤ) (p : Point (List Array)) → slice_get p.scalars chosen ≡ start → (o : Option ℤ)
             → (let next : Option (Point (List Array)) =
-            option_map (λ own. record p { scalars = slice_set p.scalars scalar (joined fold own v) }) o in
+            option_map (λ own. record p {
+              scalars = slice_set p.scalars scalar (joined fold own v);
+            }) o in
             AreBoth Stays next next)
         by v p like None = Neither
         by v p like (Some own) =
@@ -103,14 +107,20 @@ module _ (chosen : ℕ) (start : Option ℤ) where
     nest_stays (Joining scalar fold expr mask line after) none =
         let parts = neither (scalar == chosen)
         (list_any (λ a. a == chosen) (flat_map accumulated_by (members_of after))) none in (
-          (mask_stays mask, value_stays expr, join_stays scalar fold (differs scalar chosen parts.0)),
+          (
+            mask_stays mask,
+            value_stays expr,
+            join_stays scalar fold
+                (differs scalar chosen parts.0),
+          ),
           nest_stays after parts.1,
         )
     nest_stays (Choosing expr mask line body after) none =
         let parts = split (members_of body) (_ ∷ members_of after) none in
         (mask_stays mask, value_stays expr, nest_stays body parts.0, nest_stays after parts.1)
     nest_stays (ChoosingElse expr mask line body otherwise after) none =
-        let parts = split (members_of body) (_ ∷ (members_of otherwise ++ _ ∷ members_of after)) none in
+        let parts = split (members_of body) (_ ∷ (members_of otherwise ++ _ ∷ members_of after))
+        none in
         let more = split (members_of otherwise) (_ ∷ members_of after) parts.1 in (
           mask_stays mask,
           value_stays expr,
@@ -179,7 +189,8 @@ module _ (chosen : ℕ) (start : Option ℤ) where
         (λ point flag same. tuples_shared_stay units tuples flag point all same)
       where
         by : (some : Shared) → SharedStays some
-            → ((point : Point (List Array)) (flag : Option ℕ) → slice_get point.scalars chosen ≡ start
+            → ((point : Point (List Array)) (flag : Option ℕ) → slice_get point.scalars chosen
+            ≡ start
             → SharedStays (tuples_shared code n units tuples flag point))
             → SharedStays (tuple_next flag some
             (λ point flag. tuples_shared code n units tuples flag point))

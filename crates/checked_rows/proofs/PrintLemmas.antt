@@ -30,7 +30,7 @@ use Rattle.plan_passes.proofs.of_needs_runs.HoldsLemmas.{some_processors}
 use Rattle.plan_orders.specs.Brings.{standing_at}
 use Rattle.plan_orders.proofs.TestLemmas.{all_at, both}
 use Rattle.node_check.specs.Demand.{has_own, leaves_slots}
-use Rattle.node_check.specs.Fact.{Fact}
+use Rattle.node_check.specs.declared.facts.Fact.{Fact}
 use Rattle.node_check.specs.Learn.{is_uniform}
 use Rattle.checked_rows.specs.Faced.{AreTables}
 use Rattle.checked_rows.specs.Right.{AllEndThere, Fares, GoesRight, Meets, RowFares}
@@ -65,7 +65,8 @@ text_leaves : (p : ℕ) (share : Share) (text : Option (List ℕ)) (bytes : List
 text_leaves p share None bytes is = cc
 text_leaves p share (Some text) bytes is = prints_leave p share text
 
-room_leaves : (code : Tables) (p array : ℕ) (share : Share) (o : Option ArrayRow) (r : Option Region)
+room_leaves : (code : Tables) (p array : ℕ) (share : Share) (o : Option ArrayRow)
+    (r : Option Region)
     (row : ArrayRow) (region : Region) → o ≡ Some row → r ≡ Some region
     → leaves_row (roomed code p (standing share) array o r) ≡ true
 room_leaves code p array share None r row region is there = cc
@@ -94,7 +95,8 @@ module _ (code : Tables) (tables : AreTables code) (links : Option ℕ) (n : ℕ
   pub room_fares : (array slot : ℕ) → Fare (instr.Room array slot)
   room_fares array slot next opened facts all meets wants =
       let fits = fit_here (instr.Room array slot) opened facts all meets in
-      let row = array_there (λ row. row.rank ≡ fits.rank) (slice_get code.arrays array) fits.fit.1 in
+      let row = array_there (λ row. row.rank ≡ fits.rank) (slice_get code.arrays array) fits.fit.1
+      in
       let region = meets.faced.told.there slot fits.rank fits.fit.0 in
       GoesRight (alone_right code (instr.Room array slot) all (λ p below.
       room_leaves code p array (all.shares p) (slice_get code.arrays array)
@@ -154,7 +156,8 @@ module _ (code : Tables) (tables : AreTables code) (links : Option ℕ) (n : ℕ
     divided is =
         AllEndThere (Trap DivideByZero 0) (λ at p below.
         plain p (standing_at at (all.shares p))
-        ∙ ap (λ value. prints_value p (standing_at at (all.shares p)) value text) (same p below ∙ is))
+        ∙ ap (λ value. prints_value p (standing_at at (all.shares p)) value text)
+        (same p below ∙ is))
 
     pub value_fares : Fares code links n row next all
     value_fares = by (value 0) refl
@@ -168,12 +171,14 @@ module _ (code : Tables) (tables : AreTables code) (links : Option ℕ) (n : ℕ
   number_fares expr next opened facts all meets wants =
       value_fares (instr.Number expr) expr signed_decimal next opened facts all meets
       (λ p local. refl) refl (fit_here (instr.Number expr) opened facts all meets).fit
-      (both (has_own code facts opened (instr.Number expr)) (leaves_slots code opened (instr.Number expr))
+      (both (has_own code facts opened (instr.Number expr))
+      (leaves_slots code opened (instr.Number expr))
       meets.met).0
 
   pub truth_fares : (expr : ℕ) → Fare (instr.Truth expr)
   truth_fares expr next opened facts all meets wants =
       value_fares (instr.Truth expr) expr truth_text next opened facts all meets
       (λ p local. refl) refl (fit_here (instr.Truth expr) opened facts all meets).fit
-      (both (has_own code facts opened (instr.Truth expr)) (leaves_slots code opened (instr.Truth expr))
+      (both (has_own code facts opened (instr.Truth expr))
+      (leaves_slots code opened (instr.Truth expr))
       meets.met).0

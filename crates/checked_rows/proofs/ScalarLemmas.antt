@@ -136,7 +136,8 @@ gather_kept code p truth source slot = record {
         printed local (values_at local.stores source (tuples_of code 0 (region_in local slot)))
     by (suc p) local = refl
 
-module _ (code : Tables) (p : ℕ) (f : Fold) (along from : ℕ) (mask : Option ℕ) (array slot : ℕ) where
+module _ (code : Tables) (p : ℕ) (f : Fold) (along from : ℕ) (mask : Option ℕ)
+    (array slot : ℕ) where
   line_kept : (old : Local) (region : Region) (own : List ℤ) (head : List ℤ) (local : Local)
       → IfLocal local (scan.with_line code p f along from mask array old region own head local)
   line_kept old region own head local =
@@ -145,10 +146,12 @@ module _ (code : Tables) (p : ℕ) (f : Fold) (along from : ℕ) (mask : Option 
       (with_values array (scan.line_of code p region (scan.line_dim region along) head)
       (running f (scan.before_line code p f along from mask old region own head) values)
       local.stores))
-      (scan.scan_values old from mask (scan.line_of code p region (scan.line_dim region along) head))
+      (scan.scan_values old from mask (scan.line_of code p region (scan.line_dim region along)
+      head))
       (λ values. with_stores local _)
 
-  lines_kept : (old : Local) (region : Region) (own : List ℤ) (heads : List (List ℤ)) (local : Local)
+  lines_kept : (old : Local) (region : Region) (own : List ℤ) (heads : List (List ℤ))
+      (local : Local)
       → IfLocal local (scan.with_lines code p f along from mask array old region own heads local)
   lines_kept old region own [] local = refl
   lines_kept old region own (head ∷ heads) local =
@@ -163,10 +166,12 @@ module _ (code : Tables) (p : ℕ) (f : Fold) (along from : ℕ) (mask : Option 
     last = λ local.
         done local _ (value_then local
         (λ own. scan.with_lines code p f along from mask array local (region_in local slot) own
-        (scan.line_heads code p (region_in local slot) (scan.line_dim (region_in local slot) along)) local)
+        (scan.line_heads code p (region_in local slot) (scan.line_dim (region_in local slot) along))
+        local)
         (scan.line_totals code p f along from mask local (region_in local slot))
         (λ own. lines_kept local (region_in local slot) own
-        (scan.line_heads code p (region_in local slot) (scan.line_dim (region_in local slot) along)) local));
+        (scan.line_heads code p (region_in local slot) (scan.line_dim (region_in local slot) along))
+        local));
   }
     where
       done : (local : Local) (o : Option Local) → IfLocal local o
@@ -199,7 +204,8 @@ module _ (code : Tables) (p array slot from : ℕ) (parts : List ℕ) (row : Arr
         (remap.first_values code p array slot from parts row local
         (remap.wants_at_once code p array slot from parts row all))
         (λ values. written_kept _ values local));
-    taken = λ local q words. by local q words (remap.is_asking code p array slot from parts row local);
+    taken =
+        λ local q words. by local q words (remap.is_asking code p array slot from parts row local);
     last = λ local. refl;
   }
     where

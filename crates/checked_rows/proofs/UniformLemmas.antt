@@ -20,7 +20,8 @@ use Rattle.plan_meaning.specs.Act.{registers_of, registers_or, row_does, shares_
 use Rattle.plan_passes.proofs.LoopLemmas.{Misses}
 use Rattle.plan_passes.proofs.of_needs_runs.HoldsLemmas.{some_processors}
 use Rattle.plan_orders.proofs.TestLemmas.{all_at}
-use Rattle.node_check.specs.Fact.{Fact, Made, Stands, Uniform}
+use Rattle.node_check.specs.declared.facts.Fact.{Fact}
+use Rattle.node_check.specs.declared.facts.Fact.TheVariants.{Made, Stands, Uniform}
 use Rattle.node_check.specs.Learn.{is_side, is_uniform, learnt, loses, made, made_where, regions_of}
 use Rattle.node_check.specs.Told.{Says}
 use Rattle.node_check.proofs.EffectLemmas.{set_there}
@@ -93,7 +94,8 @@ module _ (code : Tables) (tables : AreTables code) (links : Option ℕ) (n : ℕ
         step_goes (go_one_way code set_row all) [] (shares_on code set_row all) first in
         ap (λ (all : Abreast). slice_get (all.shares p).scalars scalar) (sym whole)
         ∙ (ap (λ o. slice_get (registers_or (with_computed o line
-        (with_scalar (registers_of (all.shares p)) scalar)) (registers_of (all.shares p))).scalars scalar)
+        (with_scalar (registers_of (all.shares p)) scalar)) (registers_of (all.shares p))).scalars
+        scalar)
         (same p below ∙ is)
         ∙ in_range set_row meets scalar p small below v)
 
@@ -132,31 +134,39 @@ module _ (code : Tables) (tables : AreTables code) (links : Option ℕ) (n : ℕ
       → In (made code facts row) (Uniform scalar) → IsUniform scalar
   made_says (instr.Set other expr line) meets e scalar h =
       let one = only_where (is_uniform code facts expr) (Uniform other) (Uniform scalar) h in
-      subst (λ s. IsUniform s) (uniform_same other scalar one.1) (set_says other expr line meets e one.0)
+      subst (λ s. IsUniform s) (uniform_same other scalar one.1)
+      (set_says other expr line meets e one.0)
   made_says (instr.Fold other f) meets e scalar (inl is) =
       subst (λ s. IsUniform s) (uniform_same other scalar is)
       (fold_says (instr.Fold other f) meets other f
-      (all_at (FitsInstr code) code.code meets.at (instr.Fold other f) tables.fits.code meets.here).fit e)
+      (all_at (FitsInstr code) code.code meets.at (instr.Fold other f) tables.fits.code
+      meets.here).fit e)
   made_says (instr.Fold other f) meets e scalar (inr h) = absurd h
   made_says (instr.TreeFold other f) meets e scalar (inl is) =
       subst (λ s. IsUniform s) (uniform_same other scalar is)
       (fold_says (instr.TreeFold other f) meets other f
-      (all_at (FitsInstr code) code.code meets.at (instr.TreeFold other f) tables.fits.code meets.here).fit e)
+      (all_at (FitsInstr code) code.code meets.at (instr.TreeFold other f) tables.fits.code
+      meets.here).fit e)
   made_says (instr.TreeFold other f) meets e scalar (inr h) = absurd h
   made_says (instr.Fix slot region) meets e scalar (inl is) = cc
   made_says (instr.Fix slot region) meets e scalar (inr h) = absurd h
   made_says (instr.Formed form slot from shift line) meets e scalar h =
       by (in_append
-      (map (Stands slot) (filter is_within_limit (map (formed_by form shift) (regions_of facts from))))
-      (made_where (is_side form && not (slot == from)) (Made form slot from shift)) (Uniform scalar) h)
+      (map (Stands slot) (filter is_within_limit
+      (map (formed_by form shift) (regions_of facts from))))
+      (made_where (is_side form && not (slot == from)) (Made form slot from shift)) (Uniform scalar)
+      h)
     where
       by : In (map (Stands slot)
-          (filter is_within_limit (map (formed_by form shift) (regions_of facts from)))) (Uniform scalar)
-          ⊎ In (made_where (is_side form && not (slot == from)) (Made form slot from shift)) (Uniform scalar)
+          (filter is_within_limit (map (formed_by form shift) (regions_of facts from))))
+          (Uniform scalar)
+          ⊎ In (made_where (is_side form && not (slot == from)) (Made form slot from shift))
+          (Uniform scalar)
           → IsUniform scalar
       by (inl h) =
           let one = from_mapped (Stands slot)
-          (filter is_within_limit (map (formed_by form shift) (regions_of facts from))) (Uniform scalar) h in
+          (filter is_within_limit (map (formed_by form shift) (regions_of facts from)))
+          (Uniform scalar) h in
           let is = one.2 in cc
       by (inr h) =
           let one = only_where (is_side form && not (slot == from)) (Made form slot from shift)
@@ -180,7 +190,8 @@ module _ (code : Tables) (tables : AreTables code) (links : Option ℕ) (n : ℕ
     where
       by : (b : Bool) → (other == scalar) ≡ b → IsUniform scalar
       by true same =
-          subst (λ s. IsUniform s) (eqb-true other scalar same) (fold_says row meets other f small does)
+          subst (λ s. IsUniform s) (eqb-true other scalar same)
+          (fold_says row meets other f small does)
       by false apart =
           kept row meets e scalar
           (subst (λ numbers. Misses scalar numbers) (sym is) (ap (λ b. b || false) apart)) told
@@ -189,11 +200,13 @@ module _ (code : Tables) (tables : AreTables code) (links : Option ℕ) (n : ℕ
       → loses code row (Uniform scalar) ≡ false → Contains facts (Uniform scalar) → IsUniform scalar
   kept_says (instr.Fold other f) meets e scalar lost told =
       fold_kept (instr.Fold other f) meets e other f
-      (all_at (FitsInstr code) code.code meets.at (instr.Fold other f) tables.fits.code meets.here).fit refl
+      (all_at (FitsInstr code) code.code meets.at (instr.Fold other f) tables.fits.code
+      meets.here).fit refl
       e scalar told
   kept_says (instr.TreeFold other f) meets e scalar lost told =
       fold_kept (instr.TreeFold other f) meets e other f
-      (all_at (FitsInstr code) code.code meets.at (instr.TreeFold other f) tables.fits.code meets.here).fit
+      (all_at (FitsInstr code) code.code meets.at (instr.TreeFold other f) tables.fits.code
+      meets.here).fit
       refl e scalar told
   kept_says (instr.Set other expr line) meets e scalar lost told =
       kept (instr.Set other expr line) meets e scalar lost told

@@ -17,7 +17,8 @@ use Rattle.node_form.proofs.ValueLemmas.{applied-None, value_of-scalar}
 use Rattle.code_parts.specs.Uses.{divides_in, is_division, may_divide, rows_or_none, scalars_in, words_of}
 use Rattle.code_parts.proofs.ListLemmas.{In, contained, in_back, in_front, one_passes}
 use Rattle.plan_orders.proofs.TestLemmas.{all_at, both}
-use Rattle.node_check.specs.Fact.{Fact, Uniform}
+use Rattle.node_check.specs.declared.facts.Fact.{Fact}
+use Rattle.node_check.specs.declared.facts.Fact.TheVariants.{Uniform}
 use Rattle.node_check.specs.Learn.{is_uniform, tells_uniform}
 use Rattle.std.proofs.Common.{Contains, eqb-true}
 
@@ -60,9 +61,11 @@ module _ (s t : List ℤ) where
   evaluated_alike [] alike stack = refl
   evaluated_alike (one ∷ words) alike stack =
       ap (and_then (evaluated (scalar_operands s) words))
-      (stepped_alike one (λ k h. alike k (in_front (scalars_in one) (flat_map scalars_in words) k h)) stack)
+      (stepped_alike one (λ k h. alike k (in_front (scalars_in one) (flat_map scalars_in words) k
+      h)) stack)
       ∙ by (stepped (scalar_operands t) one stack)
-      (evaluated_alike words (λ k h. alike k (in_back (scalars_in one) (flat_map scalars_in words) k h)))
+      (evaluated_alike words (λ k h. alike k (in_back (scalars_in one) (flat_map scalars_in words) k
+      h)))
     where
       by : (o : Computed (List ℤ))
           → ((stack : List ℤ) → evaluated (scalar_operands s) words stack

@@ -15,7 +15,8 @@ use Rattle.grid_meaning.specs.State.{HasParts}
 use Rattle.row_orders.specs.Rows.{Flight}
 use Rattle.plan_meaning.specs.Abreast.{Abreast, locals_of}
 use Rattle.node_check.specs.Demand.{is_near}
-use Rattle.node_check.specs.Fact.{Fact, Held, Uniform}
+use Rattle.node_check.specs.declared.facts.Fact.{Fact}
+use Rattle.node_check.specs.declared.facts.Fact.TheVariants.{Held, Uniform}
 use Rattle.node_check.specs.Told.{AreTold, Says}
 
 -- ---- tables that fit, and have what the types of a program give
@@ -26,7 +27,8 @@ pub record AreTables (code : Tables) : Type 0 where
 -- ---- open exchanges
 -- What is on its way in an exchange goes where its items want words by the slots that there are
 -- now, and is as long as they want it; and its items are within fringes.
-pub record IsFlightOf (code : Tables) (all : Abreast) (exchange : ℕ) (flight : Flight) : Type 0 where
+pub record IsFlightOf (code : Tables) (all : Abreast) (exchange : ℕ)
+    (flight : Flight) : Type 0 where
   pub items : List Item
   pub there : slice_get code.exchanges exchange ≡ Some items
   pub number : flight.exchange ≡ exchange
@@ -41,8 +43,8 @@ abbrev pub AreFlightsOf : Tables → Abreast → List ℕ → List Flight → Ty
 AreFlightsOf code all opened flights = AllZip (IsFlightOf code all) opened flights
 
 -- ---- With these exchanges open, and these facts: what they say holds, and of temporaries they say
--- nothing of places that are moved; each processor has what is the program's; and what is on its way
--- is that of the open exchanges.
+-- nothing of places that are moved; each processor has what is the program's; and what is on its
+-- way is that of the open exchanges.
 pub record IsFaced (code : Tables) (opened : List ℕ) (facts : List Fact) (all : Abreast)
     : Type 0 where
   pub told : AreTold code all facts

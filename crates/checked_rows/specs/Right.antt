@@ -29,7 +29,7 @@ use Rattle.plan_meaning.specs.Act.{row_does}
 use Rattle.plan_meaning.specs.Loops.{WantsTurn, shared}
 use Rattle.plan_orders.specs.Brings.{standing_at}
 use Rattle.node_check.specs.Demand.{is_met}
-use Rattle.node_check.specs.Fact.{Fact}
+use Rattle.node_check.specs.declared.facts.Fact.{Fact}
 use Rattle.node_check.specs.Path.{open_behind}
 use Rattle.checked_rows.specs.Faced.{AreFlightsOf, IsFaced}
 

@@ -4,12 +4,12 @@ use Rattle.std.proofs.Common.{◌+◌, ◌*◌, ◌<◌, ℕ, suc, List, length,
 use Rattle.node_form.specs.Fits.{Fits}
 use Rattle.node_form.specs.declared.instructions.Instr.TheVariants as instr
 use Rattle.node_form.specs.declared.tables.Tables.{Tables}
-use Rattle.row_orders.specs.Rows.{HasRoom}
-use Rattle.plan_meaning.specs.Abreast.{Abreast}
+use Rattle.counted_code.specs.of_row_orders.Rows.{HasRoom}
+use Rattle.counted_code.specs.of_plan_meaning.Abreast.{Abreast}
 use Rattle.every_order.proofs.GoodLemmas.{KnowsOrders}
-use Rattle.node_check.specs.Sound.{IsLinksNeeded, IsSound}
-use Rattle.checked_rows.specs.Faced.{AreTables}
-use Rattle.checked_rows.specs.Visits.{GoesOn, LeapsTo, NeverWants, PassesOn, Starts, Visits}
+use Rattle.counted_code.specs.of_node_check.Sound.{IsLinksNeeded, IsSound}
+use Rattle.checked_messages.specs.of_checked_rows.Faced.{AreTables}
+use Rattle.checked_messages.specs.of_checked_rows.Visits.{GoesOn, LeapsTo, NeverWants, PassesOn, Starts, Visits}
 use Rattle.counted_code.specs.Counted.{counted}
 use Rattle.counted_code.specs.Within.{AreWithin}
 use Rattle.counted_code.proofs.FitLemmas.{counted_fits, counted_typed}
@@ -27,7 +27,8 @@ module _ (code : Tables) (fits : Fits code) (links : Option ℕ) (n m : ℕ) (ab
   -- wherever its run comes, the counting cell is in its range
   within : (at : ℕ) (all : Abreast) → Visits real links m at all → AreWithin n code all
   within at all Starts = within_start n code
-  within at all (GoesOn {at = before} {all = old} {next = after} {row = row} {bytes = bytes} visits here e) =
+  within at all
+      (GoesOn {at = before} {all = old} {next = after} {row = row} {bytes = bytes} visits here e) =
       within_behind n code m above fits links row _ old after bytes (within before old visits) e
   within at all (LeapsTo {at = before} {all = old} visits here e) = within before old visits
   within at all (PassesOn {at = before} {all = old} visits here e) = within before old visits
@@ -35,7 +36,8 @@ module _ (code : Tables) (fits : Fits code) (links : Option ℕ) (n m : ℕ) (ab
   never_wants : NeverWants real links m
   never_wants at all (instr.Loop slot group) visits here =
       λ members nest p there tree below.
-      wants_none n code m above fits group slot p members nest all there tree (within at all visits p below)
+      wants_none n code m above fits group slot p members nest all there tree
+      (within at all visits p below)
   never_wants at all row visits here = tt
 
 module _ (code : Tables) (links : Option ℕ) (needed : ℕ) (tables : AreTables code)
@@ -48,7 +50,8 @@ module _ (code : Tables) (links : Option ℕ) (needed : ℕ) (tables : AreTables
   counted_never : (n : ℕ) → NeverStops (counted n code) links
   counted_never n =
       let fits : Fits (counted n code) = counted_fits n code tables.fits in
-      never_stops (counted n code) links (suc n) (states (counted n code) fits) (knows (counted n code))
+      never_stops (counted n code) links (suc n) (states (counted n code) fits)
+      (knows (counted n code))
       (sound_over (counted n code) links needed
       (record { fits = fits; typed = counted_typed n code tables.typed })
       (counted_sound n code tables.fits sound) (counted_links n code needed enough) room)

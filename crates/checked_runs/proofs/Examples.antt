@@ -16,10 +16,10 @@ use Rattle.node_form.specs.declared.arrays.Item.{Item}
 use Rattle.node_form.specs.declared.instructions.Instr.TheVariants as instr
 use Rattle.node_form.specs.declared.tables.Tables.{Tables}
 use Rattle.typed_tables.specs.Typed.{IsTypedArray, IsTypedItem, IsTypedRow, IsTypedWord}
-use Rattle.node_check.specs.Path.{Begins, Comes, Follows}
-use Rattle.node_check.specs.Sound.{IsChecked, IsLinksNeeded}
-use Rattle.node_check.proofs.StraightLemmas.{straight_sound, walked_are_open, walked_open}
-use Rattle.checked_rows.specs.Faced.{AreTables}
+use Rattle.counted_code.specs.of_node_check.Path.{Begins, Comes, Follows}
+use Rattle.counted_code.specs.of_node_check.Sound.{IsChecked, IsLinksNeeded}
+use Rattle.counted_code.proofs.of_node_check.StraightLemmas.{straight_sound, walked_are_open, walked_open}
+use Rattle.checked_messages.specs.of_checked_rows.Faced.{AreTables}
 
 abbrev no_range : ArrayDim
 no_range = axis.Range (pos 0) (pos 0) (pos 0) (pos 0)
@@ -67,8 +67,13 @@ is_rank = (omega arith, omega arith)
 
 vector : (d : ℤ) → IsUpTo 31 d → IsVector 1 (along d)
 vector d is = (
-  All-from_recursion (IsUpTo 31) (along d)
-      (is, ((omega (arith, ints), omega (arith, ints)), ((omega (arith, ints), omega (arith, ints)), tt))),
+  All-from_recursion (IsUpTo 31) (along d) (
+    is,
+    (
+      (omega (arith, ints), omega (arith, ints)),
+      ((omega (arith, ints), omega (arith, ints)), tt),
+    ),
+  ),
   All-from_recursion (λ component. component ≡ pos 0) (pos 0 ∷ pos 0 ∷ []) (refl, (refl, tt)),
 )
 
@@ -122,12 +127,16 @@ line_fits = record {
     points = omega arith;
   };
   fringes = λ stored.
-      All-from_recursion HasFringe (axis.Range (pos 1) (pos 4) (pos 1) (pos 1) ∷ no_range ∷ no_range ∷ []) (
+      All-from_recursion HasFringe (axis.Range (pos 1) (pos 4) (pos 1) (pos 1) ∷ no_range ∷ no_range
+      ∷ []) (
         ((omega (arith, ints), omega (arith, ints)), (omega (arith, ints), omega (arith, ints))),
         (
           ((omega (arith, ints), omega (arith, ints)), (omega (arith, ints), omega (arith, ints))),
           (
-            ((omega (arith, ints), omega (arith, ints)), (omega (arith, ints), omega (arith, ints))),
+            (
+              (omega (arith, ints), omega (arith, ints)),
+              (omega (arith, ints), omega (arith, ints)),
+            ),
             tt,
           ),
         ),
@@ -236,14 +245,16 @@ first x = (0, omega arith, refl)
 
 two_open : Comes crossed 3 (0 ∷ 1 ∷ [])
 two_open =
-    Follows {next = 3} (Follows {next = 2} (Follows {next = 1} Begins refl (first 1)) refl (first 2)) refl
+    Follows {next = 3} (Follows {next = 2} (Follows {next = 1} Begins refl (first 1)) refl
+    (first 2)) refl
     (first 3)
 
 crossed_needs : IsLinksNeeded crossed 2
 crossed_needs = record {
   positive = omega arith;
   enough = λ at opened comes.
-      subst (λ opened. length opened ≤ 2) (sym (walked_are_open crossed refl at opened comes)) (few at);
+      subst (λ opened. length opened ≤ 2) (sym (walked_are_open crossed refl at opened comes))
+      (few at);
   least = inr (3, (0 ∷ 1 ∷ []), two_open, refl);
 }
 

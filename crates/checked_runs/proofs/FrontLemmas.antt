@@ -23,29 +23,30 @@ use Rattle.grid_meaning.specs.Grid.{system_over}
 use Rattle.grid_meaning.specs.Local.{Local, processors, start_local}
 use Rattle.grid_meaning.specs.State.{HasParts, HasThree, IsLocal, NextHasThree}
 use Rattle.grid_meaning.specs.Turn.{act, fed}
-use Rattle.row_orders.specs.Rows.{HasRoom}
-use Rattle.row_orders.proofs.StarLemmas.{processor_count}
+use Rattle.counted_code.specs.of_row_orders.Rows.{HasRoom}
+use Rattle.counted_code.proofs.of_row_orders.StarLemmas.{processor_count}
 use Rattle.row_runs.specs.Run.{Does, Effect, Goes, Leaps, Passes, Stops}
-use Rattle.plan_meaning.specs.Abreast.{Abreast, is_quiet, locals_of, start_abreast}
-use Rattle.plan_meaning.specs.Act.{control_of, controlled, controlled_as, ends_where, go_one_way, leaps_where}
-use Rattle.plan_meaning.specs.Act.{registers_of, row_does, tested}
+use Rattle.counted_code.specs.of_plan_meaning.Abreast.{Abreast, is_quiet, locals_of, start_abreast}
+use Rattle.counted_code.specs.of_plan_meaning.Act.{control_of, controlled, controlled_as, ends_where, go_one_way, leaps_where}
+use Rattle.counted_code.specs.of_plan_meaning.Act.{registers_of, row_does, tested}
 use Rattle.plan_orders.specs.Brings.{standing_at}
 use Rattle.plan_orders.proofs.ReachLemmas.{order_kept}
 use Rattle.plan_orders.proofs.StartLemmas.{Reach}
 use Rattle.plan_orders.proofs.TestLemmas.{all_at}
-use Rattle.node_check.specs.Fact.{Fact, Held, Made, Stands, Uniform}
-use Rattle.node_check.specs.Learn.{is_side, is_uniform, learnt, loses, made, made_where, regions_of, start_facts}
-use Rattle.node_check.specs.Learn.{start_slots}
-use Rattle.node_check.specs.Path.{AreFacts, Begins, Comes, Follows, nexts, open_behind}
-use Rattle.node_check.specs.Sound.{IsSound}
-use Rattle.node_check.specs.Demand.{is_met}
-use Rattle.node_check.specs.Told.{AreTold, Says}
-use Rattle.node_check.proofs.AlongLemmas.{told_behind}
-use Rattle.node_check.proofs.ToldLemmas.{only_where, told_at_start}
-use Rattle.checked_rows.specs.Faced.{AreTables, IsFaced}
-use Rattle.checked_rows.specs.Right.{Fares, KeepsFlights, Meets, RowFares}
-use Rattle.checked_rows.specs.Visits.{GoesOn, LeapsTo, NeverWants, PassesOn, Starts, Visits}
-use Rattle.checked_rows.proofs.UniformLemmas.{uniform_behind}
+use Rattle.counted_code.specs.of_node_check.declared.facts.Fact.{Fact}
+use Rattle.counted_code.specs.of_node_check.declared.facts.Fact.TheVariants.{Held, Made, Stands, Uniform}
+use Rattle.counted_code.specs.of_node_check.Learn.{is_side, is_uniform, learnt, loses, made, made_where, regions_of, start_facts}
+use Rattle.counted_code.specs.of_node_check.Learn.{start_slots}
+use Rattle.counted_code.specs.of_node_check.Path.{AreFacts, Begins, Comes, Follows, nexts, open_behind}
+use Rattle.counted_code.specs.of_node_check.Sound.{IsSound}
+use Rattle.counted_code.specs.of_node_check.Demand.{is_met}
+use Rattle.counted_code.specs.of_node_check.Told.{AreTold, Says}
+use Rattle.counted_code.proofs.of_node_check.AlongLemmas.{told_behind}
+use Rattle.counted_code.proofs.of_node_check.ToldLemmas.{only_where, told_at_start}
+use Rattle.checked_messages.specs.of_checked_rows.Faced.{AreTables, IsFaced}
+use Rattle.checked_messages.specs.of_checked_rows.Right.{Fares, KeepsFlights, Meets, RowFares}
+use Rattle.checked_messages.specs.of_checked_rows.Visits.{GoesOn, LeapsTo, NeverWants, PassesOn, Starts, Visits}
+use Rattle.checked_messages.proofs.of_checked_rows.UniformLemmas.{uniform_behind}
 use Rattle.checked_runs.proofs.OrderLemmas.{start_is}
 use Rattle.checked_runs.proofs.StageLemmas.{Rows}
 
@@ -74,7 +75,8 @@ module _ (code : Tables) (links : Option ℕ) (n at : ℕ) (all : Abreast) where
       by : (b : Bool) → leaps_where b goal ≡ Does (Goes bytes after) → ⊥
       by true e = cc
       by false e = cc
-  never_goes (control.Ends ending) row bytes after never e = by (go_one_way code row all && is_quiet all) e
+  never_goes (control.Ends ending) row bytes after never e =
+      by (go_one_way code row all && is_quiet all) e
     where
       by : (b : Bool) → Does (ends_where b ending) ≡ Does (Goes bytes after) → ⊥
       by true e = cc
@@ -96,10 +98,12 @@ module _ (code : Tables) (links : Option ℕ) (n at : ℕ) (all : Abreast) where
   goes_straight (instr.Unless expr goal line) next bytes after e =
       absurd (tested_never (controlled code (instr.Unless expr goal line) all) bytes after e)
   goes_straight (instr.Trap kind line) next bytes after e =
-      absurd (never_goes (control_of code (instr.Trap kind line) all 0) (instr.Trap kind line) bytes after
+      absurd (never_goes (control_of code (instr.Trap kind line) all 0) (instr.Trap kind line) bytes
+      after
       (λ registers e. cc) e)
   goes_straight instr.End next bytes after e =
-      absurd (never_goes (control_of code instr.End all 0) instr.End bytes after (λ registers e. cc) e)
+      absurd (never_goes (control_of code instr.End all 0) instr.End bytes after (λ registers e. cc)
+      e)
   goes_straight row next bytes after e = refl
 
   next_is : (row : Instr) → ends_stretch row ≡ false → Contains (nexts at row) (at + 1)
@@ -148,7 +152,8 @@ module _ (code : Tables) (links : Option ℕ) (n at : ℕ) (all : Abreast) where
   straight_never (instr.Jump goal) none registers = absurd (true≢false none)
   straight_never (instr.Unless expr goal line) none registers = absurd (true≢false none)
   straight_never (instr.Set scalar expr line) none registers =
-      computed_never (control.register_value code registers expr) line (control.with_scalar registers scalar)
+      computed_never (control.register_value code registers expr) line
+      (control.with_scalar registers scalar)
       (set_never registers scalar)
   straight_never (instr.Fix slot region) none registers = λ goal e. cc
   straight_never (instr.Dims slot parts line) none registers =
@@ -191,7 +196,8 @@ module _ (code : Tables) (links : Option ℕ) (n at : ℕ) (all : Abreast) where
       by false e = cc
   leap_of row control.Outside goal e = cc
 
-  tested_leap : (effect : Effect Abreast) (goal : ℕ) → tested effect ≡ Leaps goal → effect ≡ Leaps goal
+  tested_leap : (effect : Effect Abreast) (goal : ℕ) → tested effect ≡ Leaps goal
+      → effect ≡ Leaps goal
   tested_leap (Does (Goes shown next)) goal e = cc
   tested_leap (Does (Stops stop)) goal e = cc
   tested_leap (Leaps other) goal e = e
@@ -219,11 +225,16 @@ module _ (code : Tables) (links : Option ℕ) (n at : ℕ) (all : Abreast) where
       let same : control.Leaps other ≡ control.Leaps goal =
       leap_of (instr.Jump other) (control.Leaps other) goal e in
       let is : other ≡ goal = cc in
-      record { ends = refl; among = subst (λ g. Contains (g ∷ []) goal) (sym is) (contains_first goal []) }
+      record {
+        ends = refl;
+        among = subst (λ g. Contains (g ∷ []) goal) (sym is)
+            (contains_first goal []);
+      }
   leaps (instr.Unless expr other line) next goal e =
       let is = branch_goal (registers_of (all.shares 0))
       (control.register_value code (registers_of (all.shares 0)) expr) line other goal
-      (leap_of (instr.Unless expr other line) (control_of code (instr.Unless expr other line) all 0) goal
+      (leap_of (instr.Unless expr other line) (control_of code (instr.Unless expr other line) all 0)
+      goal
       (tested_leap (controlled code (instr.Unless expr other line) all) goal e)) in
       record {
         ends = refl;
@@ -231,25 +242,34 @@ module _ (code : Tables) (links : Option ℕ) (n at : ℕ) (all : Abreast) where
       }
   leaps (instr.Set scalar expr line) next goal e =
       absurd (straight_never (instr.Set scalar expr line) refl (registers_of (all.shares 0)) goal
-      (leap_of (instr.Set scalar expr line) (control_of code (instr.Set scalar expr line) all 0) goal e))
+      (leap_of (instr.Set scalar expr line) (control_of code (instr.Set scalar expr line) all 0)
+      goal e))
   leaps (instr.Fix slot region) next goal e =
       absurd (straight_never (instr.Fix slot region) refl (registers_of (all.shares 0)) goal
       (leap_of (instr.Fix slot region) (control_of code (instr.Fix slot region) all 0) goal e))
   leaps (instr.Dims slot parts line) next goal e =
       absurd (straight_never (instr.Dims slot parts line) refl (registers_of (all.shares 0)) goal
-      (leap_of (instr.Dims slot parts line) (control_of code (instr.Dims slot parts line) all 0) goal e))
+      (leap_of (instr.Dims slot parts line) (control_of code (instr.Dims slot parts line) all 0)
+      goal e))
   leaps (instr.Formed form slot from shift line) next goal e =
-      absurd (straight_never (instr.Formed form slot from shift line) refl (registers_of (all.shares 0)) goal
-      (leap_of (instr.Formed form slot from shift line) (control_of code (instr.Formed form slot from shift line) all 0) goal e))
+      absurd (straight_never (instr.Formed form slot from shift line) refl
+      (registers_of (all.shares 0)) goal
+      (leap_of (instr.Formed form slot from shift line)
+      (control_of code (instr.Formed form slot from shift line) all 0) goal e))
   leaps (instr.Need slot array shift line) next goal e =
-      absurd (straight_never (instr.Need slot array shift line) refl (registers_of (all.shares 0)) goal
-      (leap_of (instr.Need slot array shift line) (control_of code (instr.Need slot array shift line) all 0) goal e))
+      absurd (straight_never (instr.Need slot array shift line) refl (registers_of (all.shares 0))
+      goal
+      (leap_of (instr.Need slot array shift line)
+      (control_of code (instr.Need slot array shift line) all 0) goal e))
   leaps (instr.Same target source kind line) next goal e =
-      absurd (straight_never (instr.Same target source kind line) refl (registers_of (all.shares 0)) goal
-      (leap_of (instr.Same target source kind line) (control_of code (instr.Same target source kind line) all 0) goal e))
+      absurd (straight_never (instr.Same target source kind line) refl (registers_of (all.shares 0))
+      goal
+      (leap_of (instr.Same target source kind line)
+      (control_of code (instr.Same target source kind line) all 0) goal e))
   leaps (instr.Fits slot shift line) next goal e =
       absurd (straight_never (instr.Fits slot shift line) refl (registers_of (all.shares 0)) goal
-      (leap_of (instr.Fits slot shift line) (control_of code (instr.Fits slot shift line) all 0) goal e))
+      (leap_of (instr.Fits slot shift line) (control_of code (instr.Fits slot shift line) all 0)
+      goal e))
   leaps (instr.Trap kind line) next goal e =
       absurd (straight_never (instr.Trap kind line) refl (registers_of (all.shares 0)) goal
       (leap_of (instr.Trap kind line) (control_of code (instr.Trap kind line) all 0) goal e))
@@ -273,18 +293,31 @@ module _ (code : Tables) (links : Option ℕ) (n at : ℕ) (all : Abreast) where
       → IsLeap row (at + 1)
   passes (instr.Unless expr goal line) next e =
       record { ends = refl; among = contains_first (at + 1) (goal ∷ []) }
-  passes (instr.Jump goal) next e = absurd (passes_never (instr.Jump goal) (control_of code (instr.Jump goal) all 0) e)
-  passes (instr.Set scalar expr line) next e = absurd (passes_never (instr.Set scalar expr line) (control_of code (instr.Set scalar expr line) all 0) e)
-  passes (instr.Fix slot region) next e = absurd (passes_never (instr.Fix slot region) (control_of code (instr.Fix slot region) all 0) e)
-  passes (instr.Dims slot parts line) next e = absurd (passes_never (instr.Dims slot parts line) (control_of code (instr.Dims slot parts line) all 0) e)
+  passes (instr.Jump goal) next e =
+      absurd (passes_never (instr.Jump goal) (control_of code (instr.Jump goal) all 0) e)
+  passes (instr.Set scalar expr line) next e =
+      absurd (passes_never (instr.Set scalar expr line)
+      (control_of code (instr.Set scalar expr line) all 0) e)
+  passes (instr.Fix slot region) next e =
+      absurd (passes_never (instr.Fix slot region) (control_of code (instr.Fix slot region) all 0)
+      e)
+  passes (instr.Dims slot parts line) next e =
+      absurd (passes_never (instr.Dims slot parts line)
+      (control_of code (instr.Dims slot parts line) all 0) e)
   passes (instr.Formed form slot from shift line) next e =
-      absurd (passes_never (instr.Formed form slot from shift line) (control_of code (instr.Formed form slot from shift line) all 0) e)
+      absurd (passes_never (instr.Formed form slot from shift line)
+      (control_of code (instr.Formed form slot from shift line) all 0) e)
   passes (instr.Need slot array shift line) next e =
-      absurd (passes_never (instr.Need slot array shift line) (control_of code (instr.Need slot array shift line) all 0) e)
+      absurd (passes_never (instr.Need slot array shift line)
+      (control_of code (instr.Need slot array shift line) all 0) e)
   passes (instr.Same target source kind line) next e =
-      absurd (passes_never (instr.Same target source kind line) (control_of code (instr.Same target source kind line) all 0) e)
-  passes (instr.Fits slot shift line) next e = absurd (passes_never (instr.Fits slot shift line) (control_of code (instr.Fits slot shift line) all 0) e)
-  passes (instr.Trap kind line) next e = absurd (passes_never (instr.Trap kind line) (control_of code (instr.Trap kind line) all 0) e)
+      absurd (passes_never (instr.Same target source kind line)
+      (control_of code (instr.Same target source kind line) all 0) e)
+  passes (instr.Fits slot shift line) next e =
+      absurd (passes_never (instr.Fits slot shift line)
+      (control_of code (instr.Fits slot shift line) all 0) e)
+  passes (instr.Trap kind line) next e =
+      absurd (passes_never (instr.Trap kind line) (control_of code (instr.Trap kind line) all 0) e)
   passes instr.End next e = absurd (passes_never instr.End (control_of code instr.End all 0) e)
   passes row next e = cc
 
@@ -309,19 +342,22 @@ stored_not (Some one) has row is none =
     true≢false (sym has ∙ (ap (λ (row : ArrayRow). row.stored) same ∙ none))
 
 module _ (code : Tables) (facts : List Fact) where
-  made_rest : (row : Instr) → FitsInstr code row → (slot array : ℕ) (shift : List ℤ) (one : ArrayRow)
+  made_rest : (row : Instr) → FitsInstr code row
+      → (slot array : ℕ) (shift : List ℤ) (one : ArrayRow)
       → In (made code facts row) (Held slot array shift) → slice_get code.arrays array ≡ Some one
       → one.stored ≡ false → shift ≡ unmoved
   made_rest (instr.Need from of by line) fits slot array shift one (inl is) named temporary =
       let same = held_same from of by slot array shift is in
       absurd (stored_not (slice_get code.arrays of) fits.fit.2 one
       (ap (slice_get code.arrays) same.0 ∙ named) temporary)
-  made_rest (instr.Need from of by line) fits slot array shift one (inr h) named temporary = absurd h
+  made_rest (instr.Need from of by line) fits slot array shift one (inr h) named temporary =
+      absurd h
   made_rest (instr.Room of from) fits slot array shift one (inl is) named temporary =
       sym (held_same from of unmoved slot array shift is).1
   made_rest (instr.Room of from) fits slot array shift one (inr h) named temporary = absurd h
   made_rest (instr.Set scalar expr line) fits slot array shift one h named temporary =
-      let is = (only_where (is_uniform code facts expr) (Uniform scalar) (Held slot array shift) h).1 in cc
+      let is = (only_where (is_uniform code facts expr) (Uniform scalar) (Held slot array shift)
+      h).1 in cc
   made_rest (instr.Fold scalar f) fits slot array shift one (inl is) named temporary = cc
   made_rest (instr.Fold scalar f) fits slot array shift one (inr h) named temporary = absurd h
   made_rest (instr.TreeFold scalar f) fits slot array shift one (inl is) named temporary = cc
@@ -330,11 +366,14 @@ module _ (code : Tables) (facts : List Fact) where
   made_rest (instr.Fix other region) fits slot array shift one (inr h) named temporary = absurd h
   made_rest (instr.Formed form other from by line) fits slot array shift one h named temporary =
       by_part (in_append
-      (map (Stands other) (filter is_within_limit (map (formed_by form by) (regions_of facts from))))
-      (made_where (is_side form && not (other == from)) (Made form other from by)) (Held slot array shift) h)
+      (map (Stands other) (filter is_within_limit
+      (map (formed_by form by) (regions_of facts from))))
+      (made_where (is_side form && not (other == from)) (Made form other from by))
+      (Held slot array shift) h)
     where
       by_part : In (map (Stands other)
-          (filter is_within_limit (map (formed_by form by) (regions_of facts from)))) (Held slot array shift)
+          (filter is_within_limit (map (formed_by form by) (regions_of facts from))))
+          (Held slot array shift)
           ⊎ In (made_where (is_side form && not (other == from)) (Made form other from by))
           (Held slot array shift) → shift ≡ unmoved
       by_part (inl h) =
@@ -344,7 +383,8 @@ module _ (code : Tables) (facts : List Fact) where
       by_part (inr h) =
           let is = (only_where (is_side form && not (other == from)) (Made form other from by)
           (Held slot array shift) h).1 in cc
-  made_rest (instr.Same target source kind line) fits slot array shift one (inl is) named temporary = cc
+  made_rest (instr.Same target source kind line) fits slot array shift one (inl is) named temporary
+      = cc
   made_rest (instr.Same target source kind line) fits slot array shift one (inr h) named temporary =
       absurd h
   made_rest (instr.Fits other by line) fits slot array shift one (inl is) named temporary = cc
@@ -362,14 +402,16 @@ module _ (code : Tables) (facts : List Fact) where
       by_part (inl h) =
           rest slot array shift one
           (contained facts (Held slot array shift)
-          (unfiltered (λ fact. not (loses code row fact)) facts (Held slot array shift) h).0) named temporary
+          (unfiltered (λ fact. not (loses code row fact)) facts (Held slot array shift) h).0) named
+          temporary
       by_part (inr h) = made_rest row fits slot array shift one h named temporary
 
   -- behind jumps and tests nothing is told that wasn't
   no_news : (row : Instr) → ends_stretch row ≡ true → (fact : Fact)
       → Contains (learnt code facts row) fact → Contains facts fact
   no_news row ends fact told =
-      by_part (in_append (filter (λ fact. not (loses code row fact)) facts) (made code facts row) fact
+      by_part (in_append (filter (λ fact. not (loses code row fact)) facts) (made code facts row)
+      fact
       (in_list (learnt code facts row) fact told))
     where
       nothing : (row : Instr) → ends_stretch row ≡ true → In (made code facts row) fact → ⊥
@@ -379,7 +421,8 @@ module _ (code : Tables) (facts : List Fact) where
       nothing instr.End ends h = h
       nothing row ends h = true≢false (sym ends)
 
-      by_part : In (filter (λ fact. not (loses code row fact)) facts) fact ⊎ In (made code facts row) fact
+      by_part : In (filter (λ fact. not (loses code row fact)) facts) fact ⊎ In
+          (made code facts row) fact
           → Contains facts fact
       by_part (inl h) =
           contained facts fact (unfiltered (λ fact. not (loses code row fact)) facts fact h).0
@@ -390,7 +433,8 @@ slots_rest : (ranks : List ℕ) (from slot array : ℕ) (shift : List ℤ)
     → In (start_slots from ranks) (Held slot array shift) → ⊥
 slots_rest [] from slot array shift h = h
 slots_rest (rank ∷ ranks) from slot array shift (inl is) = cc
-slots_rest (rank ∷ ranks) from slot array shift (inr h) = slots_rest ranks (from + 1) slot array shift h
+slots_rest (rank ∷ ranks) from slot array shift (inr h) =
+    slots_rest ranks (from + 1) slot array shift h
 
 start_rest : (code : Tables) → AtRest code (start_facts code)
 start_rest code slot array shift row told named temporary =
@@ -400,7 +444,8 @@ start_rest code slot array shift row told named temporary =
     by_part : In (map Uniform (range_with_len 0 code.scalars)) (Held slot array shift)
         ⊎ In (start_slots 0 code.slots) (Held slot array shift) → shift ≡ unmoved
     by_part (inl h) =
-        let is = (from_mapped Uniform (range_with_len 0 code.scalars) (Held slot array shift) h).2 in cc
+        let is = (from_mapped Uniform (range_with_len 0 code.scalars) (Held slot array shift) h).2
+        in cc
     by_part (inr h) = absurd (slots_rest code.slots 0 slot array shift h)
 
 -- ---- what processors have, where an order leads them
@@ -428,7 +473,8 @@ pub record KeepsStates (code : Tables) : Type 0 where
 module _ (code : Tables) (links : Option ℕ) (states : KeepsStates code)
     (three : All (HasThree code) code.code) where
   start_locals_are : (p : ℕ) (local : Local)
-      → slice_get (start_world (system_over code links)).locals p ≡ Some local → IsLocal code p local
+      → slice_get (start_world (system_over code links)).locals p ≡ Some local
+      → IsLocal code p local
   start_locals_are p local here =
       let (below, is) = numbered_back (start_local code) 0 (processors code) p local here in
       subst (IsLocal code p) (ap (start_local code) (from_zero p) ∙ is) (states.start p below)
@@ -483,7 +529,8 @@ module _ (code : Tables) (tables : AreTables code) (links : Option ℕ) (n : ℕ
           (told_at_start code);
       uniform = λ scalar told p below. refl;
       at_rest = λ slot array shift row told named temporary.
-          start_rest code slot array shift row (right.start (Held slot array shift) told) named temporary;
+          start_rest code slot array shift row (right.start (Held slot array shift) told) named
+          temporary;
       parts = λ p below.
           let parts = (states.start p below).parts in record {
             scalars = parts.scalars;
@@ -512,12 +559,14 @@ module _ (code : Tables) (tables : AreTables code) (links : Option ℕ) (n : ℕ
             subst (λ one. HasRoom links (length (open_behind opened one))) is
             (enough (at + 1) (open_behind opened row)
             (Follows front.comes here
-            (subst (λ one. Contains (nexts at one) (at + 1)) (sym is) (contains_first (at + 1) []))))
+            (subst (λ one. Contains (nexts at one) (at + 1)) (sym is)
+            (contains_first (at + 1) []))))
         by (instr.Finish number) is =
             subst (λ one. HasRoom links (length (open_behind opened one))) is
             (enough (at + 1) (open_behind opened row)
             (Follows front.comes here
-            (subst (λ one. Contains (nexts at one) (at + 1)) (sym is) (contains_first (at + 1) []))))
+            (subst (λ one. Contains (nexts at one) (at + 1)) (sym is)
+            (contains_first (at + 1) []))))
         by one is = enough at opened front.comes
 
     meets_by : (facts : List Fact) → IsFaced code opened facts all
@@ -534,47 +583,53 @@ module _ (code : Tables) (tables : AreTables code) (links : Option ℕ) (n : ℕ
 
     -- the row goes on
     module _ (after : Abreast) (bytes : List ℕ) (reach : Reach code links (at + 1) after)
-        (e : row_does code links n row (slice_get code.code (at + 1)) all ≡ Does (Goes bytes after)) where
-      straight : ends_stretch row ≡ false
-      straight =
-          goes_straight code links n at all row (slice_get code.code (at + 1)) bytes after e
+        (e : row_does code links n row (slice_get code.code (at + 1)) all ≡ Does (Goes bytes after))
+      where
+        straight : ends_stretch row ≡ false
+        straight =
+            goes_straight code links n at all row (slice_get code.code (at + 1)) bytes after e
 
-      among : Contains (nexts at row) (at + 1)
-      among = next_is code links n at all row straight
+        among : Contains (nexts at row) (at + 1)
+        among = next_is code links n at all row straight
 
-      front_goes : Facing code links n (at + 1) after
-      front_goes =
-          let has = (sound at row here).met opened front.comes in record {
-            visits = GoesOn front.visits here e;
-            opened = open_behind opened row;
-            comes = Follows front.comes here among;
-            faced = λ facts right.
-                let faced = front.faced facts right in
-                let more : (fact : Fact) → Contains (facts (at + 1)) fact
-                → Contains (learnt code (facts at) row) fact =
-                λ fact told. right.behind at (at + 1) opened row fact front.comes here among told in
-                record {
-                  told =
-                      told_less code after (facts (at + 1)) (learnt code (facts at) row) more
-                      (told_behind code links n (slice_get code.code (at + 1)) all after bytes (facts at)
-                      faced.told row fits straight e);
-                  uniform = λ scalar told. uniform_front (facts at) faced scalar (more (Uniform scalar) told);
-                  at_rest = λ slot array shift one told named temporary.
-                      rest_behind code (facts at) row fits faced.at_rest slot array shift one
-                      (more (Held slot array shift) told) named temporary;
-                  parts = reach_parts code links states three (at + 1) after reach;
-                  flights =
-                      well.flights row straight (slice_get code.code (at + 1)) opened (has.facts at) all after
-                      bytes
-                      (meets_by (has.facts at) (front.faced has.facts has.right) has.met) e;
-                };
-          }
-        where
-          uniform_front : (facts : List Fact) → IsFaced code opened facts all → (scalar : ℕ)
-              → Contains (learnt code facts row) (Uniform scalar) → Says code after (Uniform scalar)
-          uniform_front facts faced scalar told =
-              uniform_behind code tables links n (slice_get code.code (at + 1)) opened facts all after bytes row
-              (record { at = at; here = here; faced = faced }) e scalar told
+        front_goes : Facing code links n (at + 1) after
+        front_goes =
+            let has = (sound at row here).met opened front.comes in record {
+              visits = GoesOn front.visits here e;
+              opened = open_behind opened row;
+              comes = Follows front.comes here among;
+              faced = λ facts right.
+                  let faced = front.faced facts right in
+                  let more : (fact : Fact) → Contains (facts (at + 1)) fact
+                  → Contains (learnt code (facts at) row) fact =
+                  λ fact told. right.behind at (at + 1) opened row fact front.comes here among told in
+                  record {
+                    told =
+                        told_less code after (facts (at + 1)) (learnt code (facts at) row) more
+                        (told_behind code links n (slice_get code.code (at + 1)) all after bytes
+                        (facts at)
+                        faced.told row fits straight e);
+                    uniform =
+                        λ scalar told. uniform_front (facts at) faced scalar
+                        (more (Uniform scalar) told);
+                    at_rest = λ slot array shift one told named temporary.
+                        rest_behind code (facts at) row fits faced.at_rest slot array shift one
+                        (more (Held slot array shift) told) named temporary;
+                    parts = reach_parts code links states three (at + 1) after reach;
+                    flights =
+                        well.flights row straight (slice_get code.code (at + 1)) opened (has.facts at)
+                        all after
+                        bytes
+                        (meets_by (has.facts at) (front.faced has.facts has.right) has.met) e;
+                  };
+            }
+          where
+            uniform_front : (facts : List Fact) → IsFaced code opened facts all → (scalar : ℕ)
+                → Contains (learnt code facts row) (Uniform scalar) → Says code after (Uniform scalar)
+            uniform_front facts faced scalar told =
+                uniform_behind code tables links n (slice_get code.code (at + 1)) opened facts all
+                after bytes row
+                (record { at = at; here = here; faced = faced }) e scalar told
 
     -- all stay as they are
     same_opened : (row : Instr) → ends_stretch row ≡ true → open_behind opened row ≡ opened
@@ -588,7 +643,8 @@ module _ (code : Tables) (tables : AreTables code) (links : Option ℕ) (n : ℕ
       visits = visits;
       opened = opened;
       comes =
-          subst (Comes code there) (same_opened row leap.ends) (Follows front.comes here leap.among);
+          subst (Comes code there) (same_opened row leap.ends)
+          (Follows front.comes here leap.among);
       faced = λ facts right.
           let faced = front.faced facts right in
           let more : (fact : Fact) → Contains (facts there) fact → Contains (facts at) fact =
@@ -598,7 +654,8 @@ module _ (code : Tables) (tables : AreTables code) (links : Option ℕ) (n : ℕ
             told = told_less code all (facts there) (facts at) more faced.told;
             uniform = λ scalar told. faced.uniform scalar (more (Uniform scalar) told);
             at_rest = λ slot array shift one told named temporary.
-                faced.at_rest slot array shift one (more (Held slot array shift) told) named temporary;
+                faced.at_rest slot array shift one (more (Held slot array shift) told) named
+                temporary;
             parts = faced.parts;
             flights = faced.flights;
           };

@@ -16,9 +16,9 @@ use Rattle.grid_meaning.specs.Action.{StuckKind}
 use Rattle.grid_meaning.specs.Grid.{IsIdle, IsStuck, after, system_over}
 use Rattle.grid_meaning.specs.Local.{Local, processors, start_local}
 use Rattle.grid_meaning.specs.Turn.{act, act_at, unless_ended}
-use Rattle.row_orders.proofs.StarLemmas.{processor_count}
+use Rattle.counted_code.proofs.of_row_orders.StarLemmas.{processor_count}
 use Rattle.row_runs.specs.Run.{Ends}
-use Rattle.plan_meaning.specs.Abreast.{Abreast, start_abreast}
+use Rattle.counted_code.specs.of_plan_meaning.Abreast.{Abreast, start_abreast}
 use Rattle.plan_orders.specs.Brings.{AllWait, AreOpen, HaveOrders, in_front}
 use Rattle.plan_orders.specs.InStep.{IsInStep}
 use Rattle.plan_orders.proofs.PlanLemmas.{AtRow, AtWait, Onward}
@@ -67,7 +67,8 @@ module _ (code : Tables) (links : Option ℕ) where
 
   over_far : (many : ℕ) → AllOver code links first → Far code links many
   over_far many over =
-      let reached = reaches_from system first over.over over.many over.shown many start_is over.leads
+      let reached = reaches_from system first over.over over.many over.shown many start_is
+      over.leads
       (λ p below. inl (HasEnded (ended_act code p (over.over.locals p) over.ending
       (over.ended p below)))) in
       record {

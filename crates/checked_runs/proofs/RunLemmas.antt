@@ -38,7 +38,8 @@ module _ (one : Run) (start : one.start ≡ start_grid one.code)
 
   pub run_not_stuck : (p : ℕ) (kind : StuckKind) → IsStuckAt one k p kind → ⊥
   run_not_stuck p kind is =
-      let stuck = subst (λ grid. next_turn one.code one.capacity grid p ≡ Stuck kind) same is.stuck in
+      let stuck = subst (λ grid. next_turn one.code one.capacity grid p ≡ Stuck kind) same is.stuck
+      in
       never.not_stuck turns (record {
         processor = p;
         there =

@@ -10,15 +10,15 @@ use Rattle.node_form.specs.declared.tables.Tables.{Tables}
 use Rattle.typed_tables.specs.Typed.{IsTypedRow}
 use Rattle.grid_meaning.specs.Grid.{IsCapacity}
 use Rattle.grid_meaning.specs.State.{HasThree}
-use Rattle.row_orders.specs.Rows.{HasRoom}
-use Rattle.plan_meaning.specs.Abreast.{start_abreast}
+use Rattle.counted_code.specs.of_row_orders.Rows.{HasRoom}
+use Rattle.counted_code.specs.of_plan_meaning.Abreast.{start_abreast}
 use Rattle.plan_orders.specs.Brings.{AreOpen}
 use Rattle.plan_orders.proofs.RowLemmas.{have_orders}
 use Rattle.plan_orders.proofs.TestLemmas.{all_at, no_room}
 use Rattle.every_order.proofs.GoodLemmas.{KnowsOrders}
-use Rattle.node_check.specs.Sound.{IsLinksNeeded, IsSound}
-use Rattle.checked_rows.specs.Faced.{AreTables}
-use Rattle.checked_rows.specs.Visits.{NeverWants}
+use Rattle.counted_code.specs.of_node_check.Sound.{IsLinksNeeded, IsSound}
+use Rattle.checked_messages.specs.of_checked_rows.Faced.{AreTables}
+use Rattle.checked_messages.specs.of_checked_rows.Visits.{NeverWants}
 use Rattle.checked_runs.specs.Stops.{IsSoundOver, NeverStops}
 use Rattle.checked_runs.proofs.FrontLemmas.{Facing, KeepsStates, front_rows}
 use Rattle.checked_runs.proofs.OrderLemmas.{Far, far, never_idle, never_stuck}
@@ -35,7 +35,8 @@ three_row code tables (instr.Fix slot region) typed = typed
 three_row code tables (instr.Dims slot parts line) typed = typed
 three_row code tables (instr.Room array slot) typed =
     three_some (slice_get code.arrays array)
-    (λ row is. all_at (λ (row : ArrayRow). length row.dims ≡ 3) code.arrays array row tables.typed.arrays is)
+    (λ row is. all_at (λ (row : ArrayRow). length row.dims ≡ 3) code.arrays array row
+    tables.typed.arrays is)
 three_row code tables row typed = tt
 
 are_three : (code : Tables) → AreTables code → All (HasThree code) code.code
@@ -49,7 +50,8 @@ never_stops code links least states knows sound never =
     let open_now : AreOpen code links (start_abreast code) =
     record { flights = All-nil _; room = no_room links } in
     let all_far : (many : ℕ) → Far code links many =
-    far code links (λ n. Facing code links n) least (have_orders code links sound.capacity sound.tables.fits)
+    far code links (λ n. Facing code links n) least
+    (have_orders code links sound.capacity sound.tables.fits)
     open_now
     (λ n more.
     front_rows code sound.tables links n states (are_three code sound.tables) sound.sound sound.room
@@ -75,5 +77,7 @@ sound_over code links needed tables sound enough room = record {
   tables = tables;
   sound = sound;
   capacity = capable links needed enough.positive room;
-  room = λ at opened comes. less_room links (length opened) needed (enough.enough at opened comes) room;
+  room =
+      λ at opened comes. less_room links (length opened) needed (enough.enough at opened comes)
+      room;
 }

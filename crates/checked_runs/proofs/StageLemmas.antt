@@ -15,17 +15,17 @@ use Rattle.grid_meaning.specs.Action.{StuckKind, ended_as}
 use Rattle.grid_meaning.specs.Grid.{system_over}
 use Rattle.grid_meaning.specs.Local.{Local, processors}
 use Rattle.grid_meaning.specs.Turn.{act, act_at}
-use Rattle.row_orders.specs.Rows.{flying}
-use Rattle.row_orders.proofs.StarLemmas.{processor_count}
+use Rattle.counted_code.specs.of_row_orders.Rows.{flying}
+use Rattle.counted_code.proofs.of_row_orders.StarLemmas.{processor_count}
 use Rattle.row_runs.specs.Run.{Does, Effect, Ends, Goes, Leaps, Passes, Stops, Wrong}
-use Rattle.plan_meaning.specs.Abreast.{Abreast, start_abreast}
-use Rattle.plan_meaning.specs.Act.{row_does}
+use Rattle.counted_code.specs.of_plan_meaning.Abreast.{Abreast, start_abreast}
+use Rattle.counted_code.specs.of_plan_meaning.Act.{row_does}
 use Rattle.plan_orders.specs.Brings.{AllWait, AreOpen, ComesToEnd, ComesToWait, GoesWell}
 use Rattle.plan_orders.specs.Brings.{HaveOrders, LeadsTo, StaysInFront, Stopped, in_front, standing_at}
 use Rattle.plan_orders.proofs.PlanLemmas.{AllMove, AllRest, Onward}
 use Rattle.plan_orders.proofs.QuietLemmas.{brings_once}
 use Rattle.plan_orders.proofs.StartLemmas.{Reach, reach_on, start_reach}
-use Rattle.checked_rows.specs.Right.{AllEndThere, Fares, GoesRight}
+use Rattle.checked_messages.specs.of_checked_rows.Right.{AllEndThere, Fares, GoesRight}
 
 module _ (code : Tables) (links : Option ℕ) where
   abbrev system : run.System Local Message StuckKind
@@ -168,9 +168,11 @@ module _ (code : Tables) (links : Option ℕ) where
     -- ---- as many rows as are wanted
     pub data Stage (k : ℕ) : Type 0 where
       StageOver : AllOver first → Stage k
-      StageWait : (turns : ℕ) → n ≡ suc turns → (bytes : List ℕ) → AllWait code links first turns bytes
+      StageWait : (turns : ℕ) → n ≡ suc turns → (bytes : List ℕ)
+          → AllWait code links first turns bytes
           → Stage k
-      StageAt : (place : Place InFront k) → Onward code links (in_front place.at place.all) → Stage k
+      StageAt : (place : Place InFront k) → Onward code links (in_front place.at place.all)
+          → Stage k
 
     over_behind : (at : ℕ) (all : Abreast) → Reach code links at all → AllOver (in_front at all)
         → AllOver first

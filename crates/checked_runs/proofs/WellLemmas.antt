@@ -4,10 +4,10 @@ use Rattle.node_form.specs.declared.instructions.Instr.{Instr}
 use Rattle.node_form.specs.declared.instructions.Instr.TheVariants as instr
 use Rattle.node_form.specs.declared.tables.Tables.{Tables}
 use Rattle.code_parts.specs.Stretch.{ends_stretch}
-use Rattle.checked_rows.specs.Faced.{AreTables}
-use Rattle.checked_rows.specs.Right.{GoesRight, IsRight, KeepsFlights, RowFares}
-use Rattle.checked_rows.proofs.FareLemmas.{alone_fares}
-use Rattle.checked_rows.proofs.FlightLemmas.{other_keeps}
+use Rattle.checked_messages.specs.of_checked_rows.Faced.{AreTables}
+use Rattle.checked_messages.specs.of_checked_rows.Right.{GoesRight, IsRight, KeepsFlights, RowFares}
+use Rattle.checked_messages.proofs.of_checked_rows.FareLemmas.{alone_fares}
+use Rattle.checked_messages.proofs.of_checked_rows.FlightLemmas.{other_keeps}
 use Rattle.checked_messages.proofs.RightRows as messages
 use Rattle.checked_runs.proofs.FrontLemmas.{FareWell}
 

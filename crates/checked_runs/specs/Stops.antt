@@ -2,10 +2,10 @@
 use Rattle.std.specs.Prelude.{ℕ, List, length, Option}
 use Rattle.node_form.specs.declared.tables.Tables.{Tables}
 use Rattle.grid_meaning.specs.Grid.{IsCapacity, IsIdle, IsStuck, after}
-use Rattle.row_orders.specs.Rows.{HasRoom}
-use Rattle.node_check.specs.Path.{Comes}
-use Rattle.node_check.specs.Sound.{IsSound}
-use Rattle.checked_rows.specs.Faced.{AreTables}
+use Rattle.counted_code.specs.of_row_orders.Rows.{HasRoom}
+use Rattle.counted_code.specs.of_node_check.Path.{Comes}
+use Rattle.counted_code.specs.of_node_check.Sound.{IsSound}
+use Rattle.checked_messages.specs.of_checked_rows.Faced.{AreTables}
 
 -- after every order of turns
 pub record NeverStops (code : Tables) (links : Option ℕ) : Type 0 where

@@ -4,10 +4,10 @@ ghost use Rattle.node_form.specs.declared.tables.Tables.{Tables as Code};
 ghost use Rattle.grid_meaning.specs.Action.{StuckKind};
 ghost use Rattle.grid_meaning.specs.Grid.{start_grid};
 ghost use Rattle.grid_runs.specs.Run.{IsIdleAt, IsStuckAt, Run as OneRun};
-ghost use Rattle.row_orders.specs.Rows.{HasRoom};
-ghost use Rattle.node_check.specs.Sound.{IsChecked};
-ghost use Rattle.checked_rows.specs.Faced.{AreTables};
-ghost use Rattle.checked_rows.specs.Visits.{NeverWants};
+ghost use Rattle.counted_code.specs.of_row_orders.Rows.{HasRoom};
+ghost use Rattle.counted_code.specs.of_node_check.Sound.{IsChecked};
+ghost use Rattle.checked_messages.specs.of_checked_rows.Faced.{AreTables};
+ghost use Rattle.checked_messages.specs.of_checked_rows.Visits.{NeverWants};
 ghost use Rattle.checked_runs.specs.Stops.{IsSoundOver, NeverStops};
 
 use grid_meaning::{

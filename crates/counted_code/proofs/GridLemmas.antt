@@ -349,9 +349,9 @@ module _ (n : ℕ) (code : Tables) (links : Option ℕ) where
     }
     counted_alike p few most grid other _ _ less alike
         (BothMove {move = move} {other = there} moves) = record {
-          locals = set_locals most move.next there.next moves.next grid.world.locals other.world.locals
-              p
-              (λ q. weaker few most _ _ less (alike.locals q));
+          locals =
+              set_locals most move.next there.next moves.next grid.world.locals
+              other.world.locals p (λ q. weaker few most _ _ less (alike.locals q));
           links =
               ap₂ (λ sent l. links_sent count p sent l) moves.sent
               (ap₂ (λ from l. links_taken count p from l) moves.taken alike.links

@@ -12,3 +12,5 @@ pub mod NestLemmas
 pub mod StepLemmas
 pub mod FitLemmas
 pub mod SoundLemmas
+pub use Rattle.node_check.proofs as of_node_check
+pub use Rattle.row_orders.proofs as of_row_orders

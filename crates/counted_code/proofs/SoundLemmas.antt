@@ -28,7 +28,8 @@ use Rattle.code_parts.specs.Uses.{is_turning}
 use Rattle.code_parts.specs.Uses.{members_of, rows_or_none, scalars_in, words_of}
 use Rattle.node_check.specs.Demand.{has_own, has_place, is_met, is_uniform_part, leaves_slots}
 use Rattle.node_check.specs.Demand.{places_in, places_of}
-use Rattle.node_check.specs.Fact.{Agree, Border, Fact, Held, Made, Stands, Uniform}
+use Rattle.node_check.specs.declared.facts.Fact.{Fact}
+use Rattle.node_check.specs.declared.facts.Fact.TheVariants.{Agree, Border, Held, Made, Stands, Uniform}
 use Rattle.node_check.specs.Learn.{is_uniform, is_among, learnt, loses, made, made_where}
 use Rattle.node_check.specs.Learn.{tells_uniform}
 use Rattle.node_check.specs.Path.{AreFacts, Begins, Comes, Follows}

@@ -1,10 +1,18 @@
 -- One answer alone is right.
-use Rattle.std.proofs.Common.{◌≡◌, ◌≢◌, ◌⊎◌, inl, inr, ℕ, ◌<◌, ◌≤◌, List, length, refl, subst, arith}
+use Rattle.std.proofs.Common.{◌≡◌, ◌≢◌, ◌⊎◌, inl, inr, ℕ, ◌<◌, ◌≤◌, List, [], ◌∷◌, zero, suc, length, refl, subst, arith, Some}
+use Rattle.std.specs.Prelude.{slice_get}
+use Rattle.node_form.specs.declared.instructions.Instr.{Instr}
 use Rattle.node_form.specs.declared.tables.Tables.{Tables}
 use Rattle.node_check.specs.declared.faults.CheckFault.{CheckFault}
 use Rattle.node_check.specs.declared.faults.CheckFault.TheVariants.{NoMemory, TooLarge, Unsound}
 use Rattle.node_check.specs.Path.{Comes}
-use Rattle.node_check.specs.Sound.{IsChecked, IsFaulty, IsLeastUnmet, IsLinksNeeded}
+use Rattle.node_check.specs.Sound.{HaveOneList, IsChecked, IsFaulty, IsLarge, IsLeastUnmet, IsLinksNeeded}
+
+pub there_below : {X : Type 0} (xs : List X) (k : ℕ) (x : X) → slice_get xs k ≡ Some x
+    → k < length xs
+there_below [] k x there = cc
+there_below (y ∷ xs) zero x there = omega arith
+there_below (y ∷ xs) (suc k) x there = omega (arith, there_below xs k x there)
 
 pub no_fault : (code : Tables) (links : ℕ) (fault : CheckFault) → IsChecked code links
     → IsFaulty code fault → fault ≡ NoMemory
@@ -32,21 +40,33 @@ one_number code one other first second =
     )
 
 -- ---- one fault
-same_least : (code : Tables) (one other : ℕ) → IsLeastUnmet code one → IsLeastUnmet code other
-    → one ≡ other
-same_least code one other first second =
-    by (λ less. second.unmet (first.least other less)) (λ less. first.unmet (second.least one less))
-  where
-    by : ¬ (other < one) → ¬ (one < other) → one ≡ other
-    by later sooner = omega (arith, later, sooner)
+module _ (code : Tables) (lists : HaveOneList code) where
+  never_less : (one other : ℕ) → IsLeastUnmet code one → IsLeastUnmet code other → ¬ (one < other)
+  never_less one other first second less =
+      first.unmet (λ row there.
+      second.least one less (lists one (there_below code.code one row there)) row there)
 
-pub one_fault : (code : Tables) (one other : CheckFault) → one ≢ NoMemory → other ≢ NoMemory
-    → IsFaulty code one → IsFaulty code other → one ≡ other
-one_fault code NoMemory other here there first second = absurd (here refl)
-one_fault code one NoMemory here there first second = absurd (there refl)
-one_fault code TooLarge TooLarge here there first second = refl
-one_fault code TooLarge (Unsound at) here there first second = absurd (second.0 first)
-one_fault code (Unsound at) TooLarge here there first second = absurd (first.0 second)
-one_fault code (Unsound at) (Unsound by) here there first second =
-    let same : at ≡ by = same_least code at by first.1 second.1 in
-    subst (λ k. Unsound at ≡ Unsound k) same refl
+  same_least : (one other : ℕ) → IsLeastUnmet code one → IsLeastUnmet code other → one ≡ other
+  same_least one other first second =
+      by (never_less one other first second) (never_less other one second first)
+    where
+      by : ¬ (one < other) → ¬ (other < one) → one ≡ other
+      by later sooner = omega (arith, later, sooner)
+
+  pub one_fault : (one other : CheckFault) → one ≢ NoMemory → other ≢ NoMemory
+      → IsFaulty code one → IsFaulty code other → one ≡ other
+  one_fault NoMemory other here there first second = absurd (here refl)
+  one_fault one NoMemory here there first second = absurd (there refl)
+  one_fault TooLarge TooLarge here there first second = refl
+  one_fault TooLarge (Unsound at) here there first second = absurd (second.0 first)
+  one_fault (Unsound at) TooLarge here there first second = absurd (first.0 second)
+  one_fault (Unsound at) (Unsound by) here there first second =
+      let same : at ≡ by = same_least at by first.1 second.1 in
+      subst (λ k. Unsound at ≡ Unsound k) same refl
+
+-- ---- large code has no other fault
+pub large_alone : (code : Tables) (fault : CheckFault) → fault ≢ NoMemory → IsLarge code
+    → IsFaulty code fault → fault ≡ TooLarge
+large_alone code TooLarge wanted large faulty = refl
+large_alone code (Unsound at) wanted large faulty = absurd (faulty.0 large)
+large_alone code NoMemory wanted large faulty = absurd (wanted refl)

@@ -18,7 +18,7 @@ use Rattle.node_form.specs.declared.tables.Tables.{Tables}
 use Rattle.node_form.specs.declared.words.ExprOp.TheVariants as word
 use Rattle.node_check.specs.Along.{Goes, Learns, Starts}
 use Rattle.node_check.specs.Learn.{learnt, start_facts}
-use Rattle.node_check.specs.Sound.{IsFaulty, IsMet, IsSound, MeetsDemand}
+use Rattle.node_check.specs.Sound.{HasOneList, IsFaulty, IsMet, IsSound, MeetsDemand}
 use Rattle.node_check.specs.declared.faults.CheckFault.TheVariants.{Unsound}
 use Rattle.node_check.proofs.PathLemmas.{met_by_nothing, unmet_along}
 use Rattle.node_check.proofs.StraightLemmas.{straight_sound, walked_open}
@@ -132,16 +132,16 @@ sums_is_unmet = unmet_along sums 2 [] _ (instr.Unless 1 4 1) sums_learns refl re
 sums_is_faulty : IsFaulty sums (Unsound 2)
 sums_is_faulty = (λ large. omega (arith, large), record { unmet = sums_is_unmet; least = least })
   where
-    least : (earlier : ℕ) → earlier < 2 → IsMet sums earlier
-    least zero less row there =
+    least : (earlier : ℕ) → earlier < 2 → HasOneList sums earlier → IsMet sums earlier
+    least zero less alike row there =
         let same : instr.Fix 0 (line (pos 1) (pos 1)) ≡ row = cc in
         subst (λ row. MeetsDemand sums 0 row) same
         (met_by_nothing sums refl 0 (instr.Fix 0 (line (pos 1) (pos 1))) refl)
-    least (suc zero) less row there =
+    least (suc zero) less alike row there =
         let same : instr.Loop 0 0 ≡ row = cc in
         subst (λ row. MeetsDemand sums 1 row) same
         (met_by_nothing sums refl 1 (instr.Loop 0 0) refl)
-    least (suc (suc k)) less row there = absurd (omega (arith, less))
+    least (suc (suc k)) less alike row there = absurd (omega (arith, less))
 
 -- once it is folded, the test may stand
 abbrev folded : Tables

@@ -5,3 +5,8 @@ pub mod Along
 pub mod Demand
 pub mod Sound
 pub mod Told
+pub mod Alike
+pub mod Front
+pub mod Walk
+pub mod Settled
+pub mod Verdict

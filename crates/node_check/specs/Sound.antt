@@ -17,10 +17,14 @@ pub record HasFacts (code : Tables) (at : ℕ) (opened : List ℕ) (row : Instr)
   pub right : AreFacts code facts
   pub met : is_met code (facts at) opened row ≡ true
 
--- The same exchanges are open on all paths to the instruction, and its demand is met. An
--- instruction to which no path leads has none.
+-- the same exchanges are open on all paths to the instruction
+abbrev pub HasOneList : Tables → ℕ → Type 0
+HasOneList code at =
+    (one other : List ℕ) → Comes code at one → Comes code at other → one ≡ other
+
+-- That is so, and its demand is met. An instruction to which no path leads has none.
 pub record MeetsDemand (code : Tables) (at : ℕ) (row : Instr) : Type 0 where
-  pub alike : (one other : List ℕ) → Comes code at one → Comes code at other → one ≡ other
+  pub alike : HasOneList code at
   pub met : (opened : List ℕ) → Comes code at opened → HasFacts code at opened row
 
 abbrev pub IsMet : Tables → ℕ → Type 0
@@ -29,10 +33,15 @@ IsMet code at = (row : Instr) → slice_get code.code at ≡ Some row → MeetsD
 abbrev pub IsSound : Tables → Type 0
 IsSound code = (at : ℕ) → IsMet code at
 
--- the least instruction whose demand isn't met
+-- The instruction's demand isn't met, and none before it has one that isn't met, those aside in
+-- front of which other exchanges are open on other paths.
 pub record IsLeastUnmet (code : Tables) (at : ℕ) : Type 0 where
   pub unmet : ¬ IsMet code at
-  pub least : (earlier : ℕ) → earlier < at → IsMet code earlier
+  pub least : (earlier : ℕ) → earlier < at → HasOneList code earlier → IsMet code earlier
+
+-- in front of no instruction other exchanges are open on other paths
+abbrev pub HaveOneList : Tables → Type 0
+HaveOneList code = (at : ℕ) → at < length code.code → HasOneList code at
 
 -- ---- how many messages links have to hold: as many as exchanges are open at once, or one
 pub record IsLinksNeeded (code : Tables) (links : ℕ) : Type 0 where

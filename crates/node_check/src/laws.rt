@@ -18,23 +18,26 @@ ghost use Rattle.row_runs.specs.Run.{Does, Goes};
 ghost use Rattle.plan_meaning.specs.Abreast.{Abreast, start_abreast};
 ghost use Rattle.plan_meaning.specs.Act.{row_does};
 ghost use Rattle.node_check.specs.declared.faults.CheckFault.{CheckFault as Fault};
-ghost use Rattle.node_check.specs.declared.faults.CheckFault.TheVariants.{NoMemory};
+ghost use Rattle.node_check.specs.declared.faults.CheckFault.TheVariants.{NoMemory, TooLarge};
 ghost use Rattle.node_check.specs.Along.{Learns};
 ghost use Rattle.node_check.specs.Demand.{is_met};
 ghost use Rattle.node_check.specs.Fact.{Fact};
 ghost use Rattle.node_check.specs.Learn.{learnt, start_facts};
 ghost use Rattle.node_check.specs.Told.{AreTold};
-ghost use Rattle.node_check.specs.Sound.{IsChecked, IsFaulty, IsMet};
+ghost use Rattle.node_check.specs.Sound.{HaveOneList, IsChecked, IsFaulty, IsLarge, IsMet};
 
 /// What is said of code is said alone: of checked code no fault but want of memory, with one number
-/// of messages that links have to hold; and of faulty code no other fault.
+/// of messages that links have to hold; of large code no other fault; and of code in front of whose
+/// instructions the same exchanges are open on all paths one fault alone.
 pub fn answers_are_exact()
     ensures faults { (code : Code) (links : ℕ) (fault : Fault) →
         IsChecked code links → IsFaulty code fault → fault ≡ NoMemory }
     ensures links { (code : Code) (one other : ℕ) →
         IsChecked code one → IsChecked code other → one ≡ other }
-    ensures one { (code : Code) (one other : Fault) → one ≢ NoMemory → other ≢ NoMemory →
-        IsFaulty code one → IsFaulty code other → one ≡ other }
+    ensures large { (code : Code) (fault : Fault) → fault ≢ NoMemory → IsLarge code →
+        IsFaulty code fault → fault ≡ TooLarge }
+    ensures one { (code : Code) (one other : Fault) → HaveOneList code → one ≢ NoMemory →
+        other ≢ NoMemory → IsFaulty code one → IsFaulty code other → one ≡ other }
 {}
 
 /// Where the demand of an instruction isn't met by what is learnt along some path to it, it isn't

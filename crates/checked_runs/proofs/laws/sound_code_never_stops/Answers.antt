@@ -7,9 +7,11 @@ returns c code links least sound never =
     (record {
       start = λ p below. c.states_are_kept.ensures.start code p below sound.tables.fits;
       moves = λ p local next sent shown three is goes.
-          c.states_are_kept.ensures.moves code p local next sent shown sound.tables.fits three is goes;
+          c.states_are_kept.ensures.moves code p local next sent shown sound.tables.fits three is
+          goes;
       messages = λ p local next from message is waits takes.
-          c.states_are_kept.ensures.messages code p local next from message sound.tables.fits is waits takes;
+          c.states_are_kept.ensures.messages code p local next from message sound.tables.fits is
+          waits takes;
     })
     (record {
       dominates = c.orders_are_dominated.ensures.moves code links;
