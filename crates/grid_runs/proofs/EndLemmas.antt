@@ -472,7 +472,7 @@ module _ (code : Tables) (p : ℕ) (local : Local) (fine : IsFinal local) where
   turn_final heads rooms = turns_over heads rooms (act code p local) acts
 
 -- ---- grids
-abbrev AllFinal : List Local → Type 0
+abbrev pub AllFinal : List Local → Type 0
 AllFinal locals = All IsFinal locals
 
 all_at : (locals : List Local) (p : ℕ) → AllFinal locals → GivesWell (slice_get locals p)
@@ -530,3 +530,10 @@ run_final run k ending starts ends =
     let turns = given run.order (processors run.code) k in
     ends_final run.code run.capacity turns ending
     (subst (λ grid. EndsAs (after_from run.code run.capacity grid turns) ending) starts ends)
+
+-- of a run from any grid, in which no processor has ended so
+pub onward_final : (run : Run) (k : ℕ) (ending : End) → AllFinal run.start.world.locals
+    → EndsAs (grid_at run k) ending → ending ≢ More
+onward_final run k ending all ends =
+    let final = grids_final run.code run.capacity run.start (given run.order (processors run.code) k) all in
+    ended_final _ ending (all_at (grid_at run k).world.locals 0 final) ends.first

@@ -1,5 +1,5 @@
 //! The laws of runs.
-ghost use Rattle.std.specs.Prelude.{◌≡◌, ◌≢◌, ◌+◌, ℕ, List, Option};
+ghost use Rattle.std.specs.Prelude.{◌≡◌, ◌≢◌, ◌+◌, ℕ, All, List, Option, Some};
 ghost use Rattle.zpl_nums.specs.declared.ends.End.{End as Ending};
 ghost use Rattle.zpl_nums.specs.declared.ends.End.TheVariants.{More};
 ghost use Rattle.grid_meaning.specs.of_node_form.declared.tables.Tables.{Tables as Code};
@@ -11,10 +11,14 @@ pub fn turns_count()
     ensures { (run : Run) (k : ℕ) → (grid_at run k).turns ≡ run.start.turns + k }
 {}
 
-/// A grid of code that is over ended normally or with a trap: it never wants more.
+/// A grid of code that is over ended normally or with a trap: it never wants more. So it is of runs
+/// from any grid in which no processor has ended in wanting more.
 pub fn endings_are_final()
     ensures orders { (code : Code) (links : Option ℕ) (order : List ℕ) (ending : Ending) →
         EndsAs (after code links order) ending → ending ≢ More }
     ensures runs { (run : Run) (k : ℕ) (ending : Ending) → run.start ≡ start_grid run.code →
+        EndsAs (grid_at run k) ending → ending ≢ More }
+    ensures onward { (run : Run) (k : ℕ) (ending : Ending) →
+        All (λ local. local.ended ≢ Some More) run.start.world.locals →
         EndsAs (grid_at run k) ending → ending ≢ More }
 {}

@@ -1,3 +1,4 @@
+mod CountLemmas
 mod MarkLemmas
 mod RestLemmas
 mod TellLemmas
@@ -8,4 +9,5 @@ pub mod RunLemmas
 mod PlaceLemmas
 mod TurnLemmas
 mod StartLemmas
+mod RestoreLemmas
 pub use Rattle.node_turn.proofs.of_row_turn as of_row_turn

@@ -71,7 +71,7 @@ none_ended code workplaces p start =
     by None = refl
     by (Some n) = refl
 
-none_marked : (count p : ℕ) → get_or (replicate count false) p false ≡ false
+pub none_marked : (count p : ℕ) → get_or (replicate count false) p false ≡ false
 none_marked zero p = refl
 none_marked (suc count) zero = refl
 none_marked (suc count) (suc p) = none_marked count p

@@ -4,6 +4,7 @@ pub mod Counting
 pub mod Inside
 pub mod Marks
 pub mod Processors
+pub mod Restored
 pub mod Run
 pub mod Simulation
 pub mod Stop

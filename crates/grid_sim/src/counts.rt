@@ -1,6 +1,6 @@
 //! What a grid counts.
 ghost use Rattle.std.specs.Prelude.{◌≡◌, ◌+◌, ◌<◌, ◌^◌};
-ghost use Rattle.grid_sim.specs.Counting.{AreCounts, with_message, with_turn};
+ghost use Rattle.grid_sim.specs.Counting.{AddTurns, AreCounts, with_message, with_turn};
 
 /// How many turns were given, messages sent, and words in them.
 #[derive(Clone, Copy, Debug, PartialEq, Eq)]
@@ -28,6 +28,7 @@ impl Counts {
         requires room { self.old.turns < 2 ^ 63 }
         ensures counted { self.new ≡ with_turn self.old }
         ensures counts { AreCounts self.new }
+        ensures adds { AddTurns self.old self.new }
     {
         self.turns += 1;
     }
@@ -38,6 +39,7 @@ impl Counts {
         requires room { self.old.turns < 2 ^ 63 }
         ensures counted { self.new ≡ with_message self.old words }
         ensures counts { AreCounts self.new }
+        ensures adds { AddTurns self.old self.new }
     {
         self.turns += 1;
         self.sends += 1;

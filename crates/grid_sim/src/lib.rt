@@ -3,10 +3,12 @@
 
 mod counts;
 mod faults;
+mod locals;
 mod looks;
 mod marks;
 mod processors;
 mod readers;
+mod restores;
 mod runs;
 mod sims;
 mod starts;
@@ -14,6 +16,7 @@ mod turns;
 
 pub use counts::Counts;
 pub use faults::SimFault;
+pub use locals::Locals;
 pub use node_turn::{Local, StuckKind, row_turn};
 pub use runs::{Rounds, next_turn};
 pub use sims::Sim;

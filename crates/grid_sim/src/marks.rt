@@ -27,6 +27,14 @@ impl Model for Marks {
 }
 
 impl Marks {
+    /// These marks.
+    pub(crate) fn of(marks: Vec<bool>) -> Marks
+        ensures { result ≡ marks.items }
+    {
+        let unmarked = marks.iter().filter(|mark| !**mark).count();
+        Marks { marks, unmarked }
+    }
+
     /// So many processors, of which none is marked.
     pub(crate) fn none(alloc: Global, count: u32) -> Result<Marks, AllocError>
         ensures { IfOk result (λ marks. marks ≡ replicate count false) }

@@ -5,7 +5,9 @@ ghost use Rattle.zpl_io.specs.Faults.{CountsFaults};
 ghost use Rattle.zpl_io.specs.Sink.{StopsAtFault};
 ghost use Rattle.grid_meaning.specs.Local.{processors};
 ghost use Rattle.grid_meaning.specs.Order.{IsOrder};
+ghost use Rattle.grid_sim.specs.Counting.{AddTurns};
 ghost use Rattle.grid_sim.specs.Run.{IsRun, run_in};
+ghost use Rattle.grid_sim.specs.Simulation.{counts_of};
 ghost use Rattle.grid_sim.specs.Stop.{IsNext, IsPlace, IsRoundTurn, IsStop};
 
 use crate::faults::SimFault;
@@ -106,6 +108,7 @@ impl Sim {
         requires turns { self.old.grid.turns + length order.old + tail_limit ≤ 2 ^ 63 }
         ensures run { IsRun (run_in self.old order.old tail_limit) self.new order.new
             (O.tells out.old) (O.tells out.new) result }
+        ensures adds { AddTurns (counts_of self.old.grid) (counts_of self.new.grid) }
         ensures counts { CountsFaults (result ≡ Err SimFault.SinkFailed)
             (O.faults out.old) (O.faults out.new) }
         ensures stops { StopsAtFault (result ≡ Err SimFault.SinkFailed)

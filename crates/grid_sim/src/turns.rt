@@ -4,10 +4,10 @@ ghost use Rattle.zpl_io.specs.Faults.{CountsFaults};
 ghost use Rattle.zpl_io.specs.Sink.{StopsAtFault};
 ghost use Rattle.grid_meaning.specs.Local.{processors};
 ghost use Rattle.grid_meaning.specs.Stored.{arrangement_of};
-ghost use Rattle.grid_sim.specs.Counting.{AreCounts, with_traffic, with_turn};
+ghost use Rattle.grid_sim.specs.Counting.{AddTurns, AreCounts, with_traffic, with_turn};
 ghost use Rattle.grid_sim.specs.Inside.{simulation_in};
 ghost use Rattle.grid_sim.specs.Processors.{AreProcessors};
-ghost use Rattle.grid_sim.specs.Simulation.{IsMade, IsMadeAs};
+ghost use Rattle.grid_sim.specs.Simulation.{IsMade, IsMadeAs, counts_of};
 ghost use Rattle.grid_sim.specs.Telling.{told_of};
 
 use crate::counts::Counts;
@@ -53,6 +53,7 @@ impl Sim {
         requires turns { self.old.grid.turns < 2 ^ 63 }
         ensures made { IsMadeAs self.old self.new p (O.tells out.old) (O.tells out.new) result }
         ensures same_sink { result ≢ Err SimFault.SinkFailed → OnErr result (out.new ≡ out.old) }
+        ensures adds { AddTurns (counts_of self.old.grid) (counts_of self.new.grid) }
         ensures counts { CountsFaults (result ≡ Err SimFault.SinkFailed)
             (O.faults out.old) (O.faults out.new) }
         ensures stops { StopsAtFault (result ≡ Err SimFault.SinkFailed)
@@ -72,6 +73,7 @@ impl Sim {
         requires turns { self.old.grid.turns < 2 ^ 63 }
         ensures made { IsMade self.old self.new p (O.tells out.old) (O.tells out.new) result }
         ensures same_sink { result ≢ Err SimFault.SinkFailed → OnErr result (out.new ≡ out.old) }
+        ensures adds { AddTurns (counts_of self.old.grid) (counts_of self.new.grid) }
         ensures counts { CountsFaults (result ≡ Err SimFault.SinkFailed)
             (O.faults out.old) (O.faults out.new) }
         ensures stops { StopsAtFault (result ≡ Err SimFault.SinkFailed)
@@ -107,6 +109,7 @@ fn give<O: Sink>(
     requires turns { counts.old.turns < 2 ^ 63 }
     ensures processors { AreProcessors code.now team.new }
     ensures counts { AreCounts counts.new }
+    ensures adds { AddTurns counts.old counts.new }
     ensures made { IsMade (simulation_in code.now team.old counts.old)
         (simulation_in code.now team.new counts.new) p (O.tells out.old) (O.tells out.new) result }
     ensures same_sink { result ≢ Err SimFault.SinkFailed → OnErr result (out.new ≡ out.old) }
@@ -139,6 +142,7 @@ fn give_any<O: Sink>(
     requires turns { counts.old.turns < 2 ^ 63 }
     ensures processors { AreProcessors code.now team.new }
     ensures counts { AreCounts counts.new }
+    ensures adds { AddTurns counts.old counts.new }
     ensures made { IsMade (simulation_in code.now team.old counts.old)
         (simulation_in code.now team.new counts.new) p (O.tells out.old) (O.tells out.new) result }
     ensures same_sink { result ≢ Err SimFault.SinkFailed → OnErr result (out.new ≡ out.old) }
@@ -166,6 +170,7 @@ fn still(counts: &mut Counts, turned: Turned) -> Told
     requires turns { counts.old.turns < 2 ^ 63 }
     ensures counted { counts.new ≡ with_turn counts.old }
     ensures counts { AreCounts counts.new }
+    ensures adds { AddTurns counts.old counts.new }
     ensures told { result ≡ record { turned = turned; sent = None; took = None } }
 {
     counts.count_turn();
@@ -182,6 +187,7 @@ fn counted(counts: &mut Counts, traffic: Traffic) -> Told
     requires turns { counts.old.turns < 2 ^ 63 }
     ensures counted { counts.new ≡ with_traffic counts.old traffic }
     ensures counts { AreCounts counts.new }
+    ensures adds { AddTurns counts.old counts.new }
     ensures told { result ≡ told_of traffic }
 {
     match traffic {

@@ -7,6 +7,7 @@ use Rattle.grid_sim.specs.declared.faults.SimFault.TheVariants.{SinkFailed}
 use Rattle.grid_runs.specs.Run.{Run, grid_at}
 use Rattle.grid_sim.specs.Run.{IsRun, run_in}
 use Rattle.grid_sim.proofs.RunLemmas.{counts_same, given_more, next_turns, run_limited, run_refused, run_stopped}
+use Rattle.grid_sim.proofs.CountLemmas.{adds_on}
 use Rattle.grid_sim.proofs.sims.Sim.run.Goals as goal
 
 pub returns-in-Some-clause-run : goal.returns-in-Some-clause-run
@@ -37,6 +38,7 @@ turns-preserved g c =
           c.turns.rounds c.next_turn.new.rounds _ _ _ c.in-Some-next_turn.p so c.turns.invariant.count c.next_turn.ensures.count
           c.in_default.ensures turn made.0;
       count = c.next_turn.ensures.count ∙ c.turns.invariant.count;
+      adds = adds_on _ _ _ c.turns.invariant.adds c.in_ok-turn.ensures.adds;
       faults = counts_same _ _ _ c.in_ok-turn.ensures.counts (λ failed. cc) ∙ c.turns.invariant.faults;
       last = λ has. c.turns.invariant.last (c.in_ok-turn.ensures.stops.goes_on (λ failed. cc) has);
     }
