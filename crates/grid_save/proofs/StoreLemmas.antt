@@ -1,6 +1,7 @@
 -- The values at the places of an array are all its values.
-use Rattle.std.proofs.Common.{◌≡◌, ℕ, zero, suc, ◌+◌, ◌<◌, true, ℤ, pos, List, [], ◌∷◌, length, drop, get_or, refl, ap, sym, ◌∙◌, subst, arith}
+use Rattle.std.proofs.Common.{◌≡◌, ℕ, zero, suc, ◌+◌, ◌<◌, Bool, true, false, ℤ, pos, List, [], ◌∷◌, ◌++◌, length, drop, get_or, refl, ap, sym, ◌∙◌, subst, arith}
 use Rattle.std.specs.Prelude.{All, Option, Some, None, option_and_then, slice_get}
+use Rattle.std.specs.List.{AllZip}
 use Rattle.std.specs.Option.{option_map}
 use Rattle.std.proofs.lemmas.List.{drop_all}
 use Rattle.std.proofs.lemmas.Option.{get_or_from_slice_get, slice_get_within}
@@ -9,6 +10,7 @@ use Rattle.zpl_region.specs.declared.regions.Region.{Region}
 use Rattle.zpl_region.specs.Region.{members}
 use Rattle.zpl_arrays.specs.Array.{Array, IsArray, element, has_place}
 use Rattle.zpl_arrays.proofs.ArrayLemmas.{place_of_member, value_at_place}
+use Rattle.node_messages.specs.Reading.{IsRead}
 use Rattle.grid_meaning.specs.Place.{held_value, value_at, values_at, where_held}
 
 -- a tuple of the storage has its value there
@@ -55,6 +57,10 @@ values_from stores array store found is k (t ∷ ts) left many =
     rest_left (w ∷ us) zero u vs e = cc
     rest_left (w ∷ us) (suc n) u vs e = let more : suc n + 1 ≡ suc (n + 1) = omega arith in rw more (rest_left us n u vs e)
 
+pub values_there : (stores : List Array) (array : ℕ) (store : Array) → slice_get stores array ≡ Some store → IsArray store →
+    values_at stores array (members store.storage) ≡ Some store.values
+values_there stores array store found is = values_from stores array store found is 0 (members store.storage) refl (omega (arith, is.filled))
+
 pub all_values : (stores : List Array) (array : ℕ) (store : Array) (values : List ℤ) → slice_get stores array ≡ Some store → IsArray store →
     values_at stores array (members store.storage) ≡ Some values → values ≡ store.values
 all_values stores array store values found is read =
@@ -72,6 +78,20 @@ pub unboxed : (found : Option Array) → None ≡ option_map (λ (store : Array)
 unboxed (Some store) is = absurd cc
 unboxed None is = refl
 
+-- what was read is all that there is
+pub read_all : (found : Option (List ℤ)) (before after values : List ℤ) (all : Bool) → IsRead found before after all → found ≡ Some values →
+    after ≡ before ++ values
+read_all found before after values true read there =
+    let same : read.words ≡ values = let e : Some read.words ≡ Some values = sym read.there ∙ there in cc in
+    read.appended ∙ ap (λ words. before ++ words) same
+read_all found before after values false read there = let e : None ≡ Some values = sym read ∙ there in absurd cc
+
 pub array_there : (stores : List Array) (k : ℕ) (store : Array) → All IsArray stores → slice_get stores k ≡ Some store → IsArray store
 array_there stores k store all found =
     subst IsArray (get_or_from_slice_get stores k store store found) (all k store (slice_get_within stores k store found))
+
+pub zip_long : {A B : Type 0} (P : A → B → Type 0) (xs : List A) (ys : List B) → AllZip P xs ys → length xs ≡ length ys
+zip_long P [] [] all = refl
+zip_long P [] (y ∷ ys) all = absurd all
+zip_long P (x ∷ xs) [] all = absurd all
+zip_long P (x ∷ xs) (y ∷ ys) all = ap suc (zip_long P xs ys all.1)

@@ -3,13 +3,14 @@
 --   IsBadLine    the first line that has no form in its place
 --   IsBadTable   all have their forms, and the listing's tables break a rule
 --   IsBadState   the tables are right, and the states of the processors break a rule
-use Rattle.std.specs.Prelude.{◌≡◌, ◌≢◌, ◌⊎◌, ℕ, ◌+◌, List, [], ◌∷◌, ◌++◌, codes, length}
+use Rattle.std.specs.Prelude.{◌≡◌, ◌⊎◌, ℕ, ◌+◌, List, [], ◌∷◌, ◌++◌, codes, length}
 use Rattle.node_form.specs.declared.tables.Tables.{Tables}
 use Rattle.listing_lines.specs.declared.lines.Line.{Line}
 use Rattle.listing_lines.specs.Listing.{AreLines, IsBadLine as IsBadListingLine}
 use Rattle.node_text.specs.Listing.{IsListing, IsBadTable as IsBadListingTable}
 use Rattle.save_lines.specs.declared.lines.SavedLine.{SavedLine}
-use Rattle.save_lines.specs.Line.{AreSavedLines, IsSavedLine, line_text, saved_text}
+use Rattle.save_lines.specs.Line.{AreSavedLines, saved_text}
+use Rattle.save_lines.specs.Lines.{IsBadLine as IsBadSavedLine}
 use Rattle.grid_save.specs.declared.faults.SaveFault.{SaveFault}
 use Rattle.grid_save.specs.declared.faults.SaveFault.TheVariants.{BadLine, BadTable, BadState, NoMemory}
 use Rattle.grid_save.specs.Reads.{BreaksGrid}
@@ -52,12 +53,6 @@ pub record HasParts (bytes listing state : List ℕ) : Type 0 where
   pub cut : IsCut rest listing state
 
 -- ---- lines without a form
-pub record BeginsWithState (bytes : List ℕ) : Type 0 where
-  pub line : SavedLine
-  pub rest : List ℕ
-  pub is_line : IsSavedLine line
-  pub written : bytes ≡ line_text line ++ 10 ∷ rest
-
 -- Counts past their limits have no form. A part of the listing that is missing is missed at the
 -- line behind it.
 pub data IsBadLine (bytes : List ℕ) : ℕ → Type 0 where
@@ -65,9 +60,8 @@ pub data IsBadLine (bytes : List ℕ) : ℕ → Type 0 where
   AtCounts : (behind : List ℕ) → bytes ≡ version_text ++ behind → ((rest : List ℕ) → HasCounts behind rest → ⊥) → IsBadLine bytes 2
   AtListing : (listing state : List ℕ) (number : ℕ) → HasParts bytes listing state → IsBadListingLine listing number →
       IsBadLine bytes (number + 2)
-  AtState : (listing state : List ℕ) (code_lines : List Line) (front : List SavedLine) (left : List ℕ) →
-      HasParts bytes listing state → AreLines listing code_lines → AreSavedLines front → state ≡ saved_text front ++ left →
-      left ≢ [] → (BeginsWithState left → ⊥) → IsBadLine bytes (2 + length code_lines + length front + 1)
+  AtState : (listing state : List ℕ) (code_lines : List Line) (number : ℕ) → HasParts bytes listing state →
+      AreLines listing code_lines → IsBadSavedLine state number → IsBadLine bytes (number + (length code_lines + 2))
 
 -- ---- tables and states that break a rule
 -- all lines have their forms

@@ -4,6 +4,10 @@
 
 mod faults;
 mod laws;
+mod parts;
+mod states;
+mod writes;
 
 pub use faults::SaveFault;
 pub use laws::a_grid_has_one_text;
+pub use writes::write_save;
