@@ -1,5 +1,6 @@
 -- How the lines of saved grids are written that tell the states of processors.
 --
+--   kind_of       which line it is: its first word
 --   words_of      the words of a line
 --   words_text    words in a row, with one space between
 --   saved_text    lines in a row, each with a newline behind it
@@ -21,6 +22,8 @@ use Rattle.save_lines.specs.declared.lines.BoxDim.{BoxDim}
 use Rattle.save_lines.specs.declared.lines.BoxDim.TheVariants.{Range, Star}
 use Rattle.save_lines.specs.declared.lines.EndWord.{EndWord}
 use Rattle.save_lines.specs.declared.lines.EndWord.TheVariants.{Going, Done, Trap}
+use Rattle.save_lines.specs.declared.lines.Kind.{Kind}
+use Rattle.save_lines.specs.declared.lines.Kind.TheVariants as kind
 use Rattle.save_lines.specs.declared.lines.ProcRow.{ProcRow}
 use Rattle.save_lines.specs.declared.lines.SavedLine.{SavedLine}
 use Rattle.save_lines.specs.declared.lines.SavedLine.TheVariants.{Proc, Scalars, Slot, Cells, Store, Kept, Msg}
@@ -44,20 +47,42 @@ number_words numbers = map signed_decimal numbers
 
 abbrev pub proc_words : ProcRow → List (List ℕ)
 proc_words row =
-    codes "proc" ∷ signed_decimal row.processor ∷ codes "at" ∷ signed_decimal row.at
+    signed_decimal row.processor ∷ codes "at" ∷ signed_decimal row.at
     ∷ codes "made" ∷ signed_decimal row.made ∷ codes "index" ∷ signed_decimal row.index
     ∷ codes "member" ∷ signed_decimal row.member ∷ codes "flag" ∷ signed_decimal row.flag
     ∷ codes "end" ∷ end_word row.end ∷ []
 
+abbrev pub kind_text : Kind → List ℕ
+kind_text kind.Proc = codes "proc"
+kind_text kind.Scalars = codes "scalars"
+kind_text kind.Slot = codes "slot"
+kind_text kind.Cells = codes "cells"
+kind_text kind.Store = codes "store"
+kind_text kind.Kept = codes "kept"
+kind_text kind.Msg = codes "msg"
+
 -- ---- lines
+abbrev pub kind_of : SavedLine → Kind
+kind_of (Proc row) = kind.Proc
+kind_of (Scalars values) = kind.Scalars
+kind_of (Slot dims) = kind.Slot
+kind_of (Cells values) = kind.Cells
+kind_of (Store dims values) = kind.Store
+kind_of (Kept from values) = kind.Kept
+kind_of (Msg to tag values) = kind.Msg
+
+-- the words behind the first one
+abbrev pub words_behind : SavedLine → List (List ℕ)
+words_behind (Proc row) = proc_words row
+words_behind (Scalars values) = number_words values
+words_behind (Slot dims) = map dim_word dims
+words_behind (Cells values) = number_words values
+words_behind (Store dims values) = map box_word dims ++ codes ":" ∷ number_words values
+words_behind (Kept from values) = signed_decimal from ∷ number_words values
+words_behind (Msg to tag values) = signed_decimal to ∷ signed_decimal tag ∷ number_words values
+
 abbrev pub words_of : SavedLine → List (List ℕ)
-words_of (Proc row) = proc_words row
-words_of (Scalars values) = codes "scalars" ∷ number_words values
-words_of (Slot dims) = codes "slot" ∷ map dim_word dims
-words_of (Cells values) = codes "cells" ∷ number_words values
-words_of (Store dims values) = codes "store" ∷ (map box_word dims ++ codes ":" ∷ number_words values)
-words_of (Kept from values) = codes "kept" ∷ signed_decimal from ∷ number_words values
-words_of (Msg to tag values) = codes "msg" ∷ signed_decimal to ∷ signed_decimal tag ∷ number_words values
+words_of line = kind_text (kind_of line) ∷ words_behind line
 
 abbrev pub words_text : List (List ℕ) → List ℕ
 words_text [] = []

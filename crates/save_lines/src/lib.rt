@@ -4,6 +4,13 @@
 //! any of 64 bits.
 #![tactic(auto)]
 
+mod guesses;
+mod laws;
 mod lines;
+mod numbers;
+mod texts;
+mod words;
 
-pub use lines::{BoxDim, EndWord, ProcRow, SavedLine};
+pub use laws::{bytes_have_one_reading, lines_are_told_apart};
+pub use lines::{BoxDim, EndWord, Kind, ProcRow, SavedLine};
+pub use texts::{LinesFault, read_lines, write_line};

@@ -1,4 +1,8 @@
 //! Lines.
+ghost use Rattle.std.specs.Prelude.{◌≡◌, ◌≢◌, MatchOption};
+ghost use Rattle.save_lines.specs.declared.lines.Kind.{Kind as Word};
+ghost use Rattle.save_lines.specs.Line.{kind_of, kind_text};
+
 use node_form::Row;
 use zpl_region::Dim;
 
@@ -56,4 +60,75 @@ pub enum SavedLine {
     Kept(i128, Row<i64>),
     /// A message on its way to a processor, with its tag and its words.
     Msg(i128, i128, Row<i64>),
+}
+
+/// Which line it is.
+#[derive(Clone, Copy, Debug, PartialEq, Eq)]
+pub enum Kind {
+    /// `proc`.
+    Proc,
+    /// `scalars`.
+    Scalars,
+    /// `slot`.
+    Slot,
+    /// `cells`.
+    Cells,
+    /// `store`.
+    Store,
+    /// `kept`.
+    Kept,
+    /// `msg`.
+    Msg,
+}
+
+impl Kind {
+    /// The first word of such a line.
+    pub(crate) fn text(self) -> &'static [u8]
+        ensures { result.now ≡ kind_text self }
+    {
+        match self {
+            Kind::Proc => b"proc",
+            Kind::Scalars => b"scalars",
+            Kind::Slot => b"slot",
+            Kind::Cells => b"cells",
+            Kind::Store => b"store",
+            Kind::Kept => b"kept",
+            Kind::Msg => b"msg",
+        }
+    }
+}
+
+impl SavedLine {
+    /// Which line this is.
+    pub fn kind(&self) -> Kind
+        ensures { result ≡ kind_of self.now }
+    {
+        match self {
+            SavedLine::Proc(_) => Kind::Proc,
+            SavedLine::Scalars(_) => Kind::Scalars,
+            SavedLine::Slot(_) => Kind::Slot,
+            SavedLine::Cells(_) => Kind::Cells,
+            SavedLine::Store(..) => Kind::Store,
+            SavedLine::Kept(..) => Kind::Kept,
+            SavedLine::Msg(..) => Kind::Msg,
+        }
+    }
+}
+
+/// The line with this first word.
+pub(crate) fn kind_named(word: &[u8]) -> Option<Kind>
+    ensures { MatchOption result
+        ((kind : Word) → word.now ≢ kind_text kind)
+        (λ kind. word.now ≡ kind_text kind) }
+{
+    match word {
+        b"proc" => Some(Kind::Proc),
+        b"scalars" => Some(Kind::Scalars),
+        b"slot" => Some(Kind::Slot),
+        b"cells" => Some(Kind::Cells),
+        b"store" => Some(Kind::Store),
+        b"kept" => Some(Kind::Kept),
+        b"msg" => Some(Kind::Msg),
+        _ => None,
+    }
 }
