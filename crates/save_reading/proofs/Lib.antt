@@ -1,0 +1,4 @@
+mod BoxLemmas
+mod PlaceLemmas
+mod ReadLemmas
+mod SentLemmas

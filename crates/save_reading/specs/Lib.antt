@@ -1,0 +1,4 @@
+pub mod Box
+pub mod Fault
+pub mod Place
+pub mod Sent
