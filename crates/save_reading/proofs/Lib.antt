@@ -1,4 +1,6 @@
 mod BoxLemmas
-mod PlaceLemmas
+mod OneLine
+mod OneReading
+mod OneWay
 mod ReadLemmas
 mod SentLemmas

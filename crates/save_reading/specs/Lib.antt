@@ -2,3 +2,4 @@ pub mod Box
 pub mod Fault
 pub mod Place
 pub mod Sent
+pub mod Three
