@@ -2,20 +2,21 @@
 --
 --   ReadsState, BreaksState   the lines of a processor are those of a state; or one is of none
 --   ReadsGrid, BreaksGrid     so of all processors
-use Rattle.std.specs.Prelude.{◌≡◌, ◌⊎◌, ℕ, ◌<◌, ◌≤◌, Bool, true, false, ℤ, Option, Some, None, List, [], ◌∷◌, ◌++◌, length, is_some, slice_get, All, ⊤}
+use Rattle.std.specs.Prelude.{◌≡◌, ◌⊎◌, ℕ, ◌<◌, ◌≤◌, Bool, true, false, ℤ, unsigned_abs, Option, Some, None, List, [], ◌∷◌, ◌++◌, length, map, take, is_some, slice_get, All, ⊤}
 use Rattle.std.specs.List.{Any}
 use Rattle.std.specs.Option.{IfSome, IsSomeAnd}
 use Rattle.zpl_region.specs.declared.regions.Region.{Region}
 use Rattle.zpl_arrays.specs.Array.{Array}
+use Rattle.grid_links.specs.of_zpl_lists.Front.{IsFrontOf}
 use Rattle.grid_links.specs.declared.messages.Message.{Message}
 use Rattle.node_form.specs.declared.arrays.ArrayRow.{ArrayRow}
 use Rattle.node_form.specs.declared.instructions.Instr.{Instr}
 use Rattle.node_form.specs.declared.instructions.Instr.TheVariants as instr
 use Rattle.node_form.specs.declared.tables.Tables.{Tables}
-use Rattle.grid_meaning.specs.Collective.{Collective, others}
+use Rattle.grid_meaning.specs.Collective.{Collective, Use, AtOnce, InLast, Asking, others}
 use Rattle.grid_meaning.specs.Local.{Local, processor_numbers}
 use Rattle.grid_meaning.specs.Rows.{collective}
-use Rattle.grid_meaning.specs.State.{IsAgain, IsLooping, IsOutside, IsSlot, IsStore, Stands}
+use Rattle.grid_meaning.specs.State.{IsAgain, IsLooping, IsOutside, IsSlot, IsStore, KeepsWords, Stands, ascending, senders}
 use Rattle.save_lines.specs.declared.lines.SavedLine.{SavedLine}
 use Rattle.save_lines.specs.declared.lines.SavedLine.TheVariants.{Proc, Scalars, Cells, Kept, Msg}
 use Rattle.grid_save.specs.Kept.{IsEnding}
@@ -93,36 +94,64 @@ pub record IsStoreLine (code : Tables) (p : ℕ) (row : ArrayRow) (line : SavedL
   pub fits : IsStore code p row store
 
 -- ---- how far the processor is, against its values: a rule of the line `proc`
+abbrev pub with_kept : Local → List (ℕ × List ℤ) → Local
+with_kept local kept = record local { kept = kept }
+
+-- The words that the next lines say are kept, whether or not they may be: a `remap` has a turn more
+-- for each.
+abbrev pub told_kept : List SavedLine → List (ℕ × List ℤ)
+told_kept [] = []
+told_kept (Kept from words ∷ lines) = (unsigned_abs from, words) ∷ told_kept lines
+told_kept (line ∷ lines) = []
+
 -- fewer turns were made than the row has
 abbrev pub IsUnder : Option Collective → Local → Type 0
 IsUnder None local = local.made ≡ 0
 IsUnder (Some row) local = local.made < length (row.stages local)
 
-abbrev pub IsFarAt : Tables → ℕ → Local → Option Instr → Type 0
-IsFarAt code p local None = ⊤
-IsFarAt code p local (Some (instr.Loop slot group)) =
+abbrev pub IsFarAt : Tables → ℕ → Local → List (ℕ × List ℤ) → Option Instr → Type 0
+IsFarAt code p local told None = ⊤
+IsFarAt code p local told (Some (instr.Loop slot group)) =
     IsLooping code p local (slice_get local.slots slot) (slice_get code.groups group)
-IsFarAt code p local (Some row) = IsUnder (collective code p row) local
+IsFarAt code p local told (Some row) = IsUnder (collective code p row) (with_kept local told)
 
-abbrev pub IsFar : Tables → ℕ → Local → Bool → Type 0
-IsFar code p local true = ⊤
-IsFar code p local false = IsFarAt code p local (slice_get code.code local.at)
+abbrev pub IsFar : Tables → ℕ → Local → List (ℕ × List ℤ) → Bool → Type 0
+IsFar code p local told true = ⊤
+IsFar code p local told false = IsFarAt code p local told (slice_get code.code local.at)
 
 -- ---- words that are kept
-abbrev pub with_kept : Local → List (ℕ × List ℤ) → Local
-with_kept local kept = record local { kept = kept }
-
 abbrev pub MayKeepAs : Tables → ℕ → Local → Bool → Type 0
 MayKeepAs code p local true = local.kept ≡ []
 MayKeepAs code p local false = Stands code p local
 
--- the state may have just these words; they are the first of some that it may have
+-- the state may have just these words
 abbrev pub MayKeep : Tables → ℕ → Local → List (ℕ × List ℤ) → Type 0
 MayKeep code p local kept = MayKeepAs code p (with_kept local kept) (is_some local.ended)
 
-pub record MayBegin (code : Tables) (p : ℕ) (local : Local) (kept : List (ℕ × List ℤ)) : Type 0 where
-  pub more : List (ℕ × List ℤ)
-  pub may : MayKeep code p local (kept ++ more)
+-- The words begin those that the row has taken and not used: their senders are the first ones, and
+-- each has as many as the row awaits. Of requests any may be the next that the row may have.
+abbrev pub BeginsWords : Tables → ℕ → Use → Collective → Local → Type 0
+BeginsWords code p AtOnce row local = KeepsWords code p AtOnce row local
+BeginsWords code p InLast row local =
+    IsFrontOf (map (λ entry. entry.0) local.kept) (ascending (senders (take local.made (row.stages local))))
+    × All (λ entry. row.awaits local entry.0 (length entry.1) ≡ true) local.kept
+BeginsWords code p Asking row local = KeepsWords code p Asking row local
+
+abbrev pub BeginsIn : Tables → ℕ → Local → Option Collective → Type 0
+BeginsIn code p local None = local.kept ≡ []
+BeginsIn code p local (Some row) = BeginsWords code p row.use_of_words row local
+
+abbrev pub BeginsAt : Tables → ℕ → Local → Option Instr → Type 0
+BeginsAt code p local None = local.kept ≡ []
+BeginsAt code p local (Some row) = BeginsIn code p local (collective code p row)
+
+abbrev pub BeginsAs : Tables → ℕ → Local → Bool → Type 0
+BeginsAs code p local true = local.kept ≡ []
+BeginsAs code p local false = BeginsAt code p local (slice_get code.code local.at)
+
+-- these words are the first of some that the state may have
+abbrev pub MayBegin : Tables → ℕ → Local → List (ℕ × List ℤ) → Type 0
+MayBegin code p local kept = BeginsAs code p (with_kept local kept) (is_some local.ended)
 
 abbrev pub is_kept : SavedLine → Bool
 is_kept (Kept from words) = true
@@ -209,7 +238,7 @@ pub record ReadsState (code : Tables) (p : ℕ) (lines : List SavedLine) (state 
   pub values : Local
   pub behind_values : List SavedLine
   pub values_are : ReadsValues code p lines values behind_values
-  pub far : IsFar code p values (is_some values.ended)
+  pub far : IsFar code p values (told_kept behind_values) (is_some values.ended)
   pub kept : List (ℕ × List ℤ)
   pub behind_kept : List SavedLine
   pub kept_is : Run is_kept (IsKeptLine code p values) [] behind_values kept behind_kept
@@ -222,15 +251,15 @@ pub record ReadsState (code : Tables) (p : ℕ) (lines : List SavedLine) (state 
 pub data BreaksState (code : Tables) (p : ℕ) (lines : List SavedLine) : List SavedLine → Type 0 where
   AtValues : (left : List SavedLine) → BreaksValues code p lines left → BreaksState code p lines left
   TooFar : (values : Local) (behind : List SavedLine) → ReadsValues code p lines values behind →
-      (IsFar code p values (is_some values.ended) → ⊥) → BreaksState code p lines lines
+      (IsFar code p values (told_kept behind) (is_some values.ended) → ⊥) → BreaksState code p lines lines
   AtKept : (values : Local) (behind left : List SavedLine) → ReadsValues code p lines values behind →
-      IsFar code p values (is_some values.ended) → RunBreaks is_kept (IsKeptLine code p values) [] behind left →
+      IsFar code p values (told_kept behind) (is_some values.ended) → RunBreaks is_kept (IsKeptLine code p values) [] behind left →
       BreaksState code p lines left
   LacksKept : (values : Local) (kept : List (ℕ × List ℤ)) (behind left : List SavedLine) → ReadsValues code p lines values behind →
-      IsFar code p values (is_some values.ended) → Run is_kept (IsKeptLine code p values) [] behind kept left →
+      IsFar code p values (told_kept behind) (is_some values.ended) → Run is_kept (IsKeptLine code p values) [] behind kept left →
       (MayKeep code p values kept → ⊥) → BreaksState code p lines left
   AtMessage : (values : Local) (kept : List (ℕ × List ℤ)) (behind one left : List SavedLine) → ReadsValues code p lines values behind →
-      IsFar code p values (is_some values.ended) → Run is_kept (IsKeptLine code p values) [] behind kept one →
+      IsFar code p values (told_kept behind) (is_some values.ended) → Run is_kept (IsKeptLine code p values) [] behind kept one →
       MayKeep code p values kept → RunBreaks is_message (IsMessageLine code p) [] one left → BreaksState code p lines left
 
 -- ---- all processors, and nothing behind them

@@ -1,0 +1,6 @@
+mod BoxLemmas
+mod OneLine
+mod OneReading
+mod OneWay
+mod ReadLemmas
+mod SentLemmas

@@ -1,0 +1,5 @@
+pub mod Box
+pub mod Fault
+pub mod Place
+pub mod Sent
+pub mod Three
