@@ -105,11 +105,11 @@ module _ (call : Call) (file : List ℕ) (asked : Asked) (work : Work) (before a
   -- ---- what out took
   tells : {Holds : List ℕ → Type 0} (code : Tables) → IsListedIn call file code
       → IsToldSound Holds code → TellsSound call Holds
-  tells code is sound = record {
+  tells code is checked = record {
     file = file;
     asked = asked;
     given = given;
-    holds = record { source = is.source; code = code; listing = is.listing; holds = sound };
+    holds = record { source = is.source; code = code; listing = is.listing; holds = checked };
   }
 
   -- the text, and the work was done; or nothing, and it wasn't
@@ -136,8 +136,8 @@ module _ (call : Call) (file : List ℕ) (asked : Asked) (work : Work) (before a
   taken : IsWorkOn call file work before after → work.answer ≢ answer.PutFailed → Taken
   taken (unread none reads nothing) put =
       has_none (unread_done none reads nothing) nothing.printed
-  taken (read code made none is (told same sound)) put = has_text same (tells code is sound)
-  taken (read code made none is (cut same sound)) put = absurd (put same)
+  taken (read code made none is (told same checked)) put = has_text same (tells code is checked)
+  taken (read code made none is (cut same checked)) put = absurd (put same)
   taken (read code made none is (failed why takes)) put =
       has_none (failed_done code work.answer why) takes
 
@@ -163,9 +163,9 @@ module _ (call : Call) (file : List ℕ) (asked : Asked) (work : Work) (before a
   pub cut_for : IsWorkOn call file work before after → work.answer ≡ answer.PutFailed
       → TakesSoundFront call before after
   cut_for (unread none reads nothing) same = absurd (nothing.put same)
-  cut_for (read code made none is (told done sound)) same =
+  cut_for (read code made none is (told done checked)) same =
       absurd (let no : answer.PutFailed ≡ answer.Stopped stop.Done None = sym same ∙ done in cc)
-  cut_for (read code made none is (cut put sound)) same = tells code is sound
+  cut_for (read code made none is (cut put checked)) same = tells code is checked
   cut_for (read code made none is (failed why takes)) same =
       absurd (failed_not_put code work.answer why same)
 

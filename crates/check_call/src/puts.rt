@@ -49,11 +49,7 @@ fn put_sound<'a, O: Sink>(alloc: Global, links: u32, out: &mut O) -> Answer<'a>
 }
 
 /// Checks code, and puts that line where it is sound.
-pub(crate) fn put_check<'a, O: Sink>(
-    alloc: Global,
-    code: &NodeProgram,
-    out: &mut O,
-) -> Answer<'a>
+pub(crate) fn put_check<'a, O: Sink>(alloc: Global, code: &NodeProgram, out: &mut O) -> Answer<'a>
     ensures check { IsCheckWork code.now result (O.tells out.old) (O.tells out.new) }
     ensures puts { CountsFaults (result ≡ Answer.PutFailed)
         (O.faults out.old) (O.faults out.new) }
