@@ -2,7 +2,7 @@
 --
 --   Asked, AskFor          what the words behind the file ask for
 --   IsWorded, IsCommandOf  words of one command, by its name and by what it takes
---   IsList, IsMean, IsRun, IsExec, IsTime, IsCheck, IsResume, IsGen
+--   IsList, IsMean, IsRun, IsExec, IsTime, IsCheck, IsGen
 --   IsNoCommand            words that are none of these
 --   Asks                   what holds of the file of a command and of what is asked for
 use Rattle.std.specs.Prelude.{◌≡◌, ℕ, Bool, true, false, IsTrue, List, [], ◌∷◌, ◌++◌, codes, Option, Some, None}
@@ -240,9 +240,8 @@ pub record CheckTakes (asked : Asked) : Type 0 where
 abbrev pub IsCheck : List (List ℕ) → List ℕ → Asked → Type 0
 IsCheck = IsCommandOf (codes "check") CheckTakes
 
--- ---- resume FILE [order=FILE] [turns=N] [report]
--- Links hold any number of messages.
-pub record ResumeTakes (asked : Asked) : Type 0 where
+-- ---- no more than an order, turns and a report
+pub record AsksPlainly (asked : Asked) : Type 0 where
   pub no_checked : asked.checked ≡ false
   pub no_save : asked.save ≡ false
   pub no_links : asked.links ≡ None
@@ -250,9 +249,6 @@ pub record ResumeTakes (asked : Asked) : Type 0 where
   pub no_latency : asked.latency ≡ None
   pub no_grid : asked.grid ≡ None
   pub no_letters : asked.options ≡ None
-
-abbrev pub IsResume : List (List ℕ) → List ℕ → Asked → Type 0
-IsResume = IsCommandOf (codes "resume") ResumeTakes
 
 -- ---- gen N [opt=LETTERS] [turns=N]
 -- The program is drawn from a number, and runs on grids that no word tells.
@@ -280,7 +276,6 @@ pub record IsNoCommand (words : List (List ℕ)) : Type 0 where
   pub no_exec : IsNoCommandOf (codes "exec") ExecTakes words
   pub no_time : IsNoCommandOf (codes "time") TimeTakes words
   pub no_check : IsNoCommandOf (codes "check") CheckTakes words
-  pub no_resume : IsNoCommandOf (codes "resume") ResumeTakes words
   pub no_gen : (n : ℕ) (asked : Asked) → ¬ IsGen words n asked
 
 -- ---- a call of a command

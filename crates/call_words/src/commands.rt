@@ -1,6 +1,6 @@
 //! The commands.
 ghost use Rattle.std.specs.Prelude.{◌≢◌, ◌≡◌, ◌∷◌, ℕ, map, MatchBool, MatchOption, string_bytes};
-ghost use Rattle.call_claims.specs.Command.{GoTogether, IsNoCommand, ResumeTakes};
+ghost use Rattle.call_claims.specs.Command.{GoTogether, IsNoCommand, AsksPlainly};
 ghost use Rattle.call_claims.specs.Words.{IsSeed};
 ghost use Rattle.call_words.specs.Reading.{asked_in, name_of, IsCommandIn, IsRead, IsSecond};
 ghost use Rattle.call_words.specs.Reading.{Takes};
@@ -46,8 +46,6 @@ pub enum Command<'a> {
     Time(FileCommand<'a>),
     /// `check FILE`.
     Check(FileCommand<'a>),
-    /// `resume FILE`, then `order=FILE`, `turns=N` and `report`.
-    Resume(FileCommand<'a>),
     /// `gen N`, then `opt=LETTERS` and `turns=N`.
     Gen(GenCommand<'a>),
 }
@@ -61,7 +59,6 @@ enum Verb {
     Exec,
     Time,
     Check,
-    Resume,
     Gen,
 }
 
@@ -128,9 +125,6 @@ fn verb_of(word: &[u8]) -> Option<Verb>
     if word == b"check".as_slice() {
         return Some(Verb::Check);
     }
-    if word == b"resume".as_slice() {
-        return Some(Verb::Resume);
-    }
     if word == b"gen".as_slice() {
         return Some(Verb::Gen);
     }
@@ -182,7 +176,6 @@ fn takes(verb: Verb, asked: Asked<'_>) -> bool
             && asked.order.is_none()
             && !asked.report
             && is_plain(asked),
-        Verb::Resume => is_plain(asked),
         Verb::Gen => {
             asked.order.is_none()
                 && !asked.report
@@ -208,7 +201,7 @@ fn go_together(asked: Asked<'_>) -> bool
 /// Whether no more is asked for than an order, turns and a report.
 fn is_plain(asked: Asked<'_>) -> bool
     ensures { MatchBool result
-        (ResumeTakes (asked_in asked.entry)) (¬ ResumeTakes (asked_in asked.entry)) }
+        (AsksPlainly (asked_in asked.entry)) (¬ AsksPlainly (asked_in asked.entry)) }
 {
     !asked.checked
         && !asked.save
@@ -231,7 +224,6 @@ fn command_with<'a>(verb: Verb, of: FileCommand<'a>) -> Option<Command<'a>>
         Verb::Exec => Some(Command::Exec(of)),
         Verb::Time => Some(Command::Time(of)),
         Verb::Check => Some(Command::Check(of)),
-        Verb::Resume => Some(Command::Resume(of)),
         Verb::Gen => match seed_of(of.file.as_bytes()) {
             Some(seed) => Some(Command::Gen(GenCommand {
                 seed,

@@ -30,7 +30,6 @@ name_in (command.Run of) = codes "run"
 name_in (command.Exec of) = codes "exec"
 name_in (command.Time of) = codes "time"
 name_in (command.Check of) = codes "check"
-name_in (command.Resume of) = codes "resume"
 name_in (command.Gen of) = codes "gen"
 
 -- the first two letters of a name, as a number
@@ -51,7 +50,6 @@ module _ (one : AreOne) (words : List (List ℕ)) where
   read_named (command.Exec of) is = record { second = _; asked = _; worded = is.worded }
   read_named (command.Time of) is = record { second = _; asked = _; worded = is.worded }
   read_named (command.Check of) is = record { second = _; asked = _; worded = is.worded }
-  read_named (command.Resume of) is = record { second = _; asked = _; worded = is.worded }
   read_named (command.Gen of) is = record { second = _; asked = _; worded = is.worded }
 
   -- they are no command of another name: names differ by their first two letters
@@ -81,9 +79,6 @@ module _ (one : AreOne) (words : List (List ℕ)) where
   of_list call ran out errs (command.Check of) is asks done =
       absurd (other_named (codes "list") (record { second = _; asked = _; worded = asks.2.worded })
       (command.Check of) is (λ e. omega (arith, e)))
-  of_list call ran out errs (command.Resume of) is asks done =
-      absurd (other_named (codes "list") (record { second = _; asked = _; worded = asks.2.worded })
-      (command.Resume of) is (λ e. omega (arith, e)))
   of_list call ran out errs (command.Gen of) is asks done =
       absurd (other_named (codes "list") (record { second = _; asked = _; worded = asks.2.worded })
       (command.Gen of) is (λ e. omega (arith, e)))
@@ -106,9 +101,6 @@ module _ (one : AreOne) (words : List (List ℕ)) where
   of_mean call ran out errs (command.Check of) is asks done =
       absurd (other_named (codes "mean") (record { second = _; asked = _; worded = asks.2.worded })
       (command.Check of) is (λ e. omega (arith, e)))
-  of_mean call ran out errs (command.Resume of) is asks done =
-      absurd (other_named (codes "mean") (record { second = _; asked = _; worded = asks.2.worded })
-      (command.Resume of) is (λ e. omega (arith, e)))
   of_mean call ran out errs (command.Gen of) is asks done =
       absurd (other_named (codes "mean") (record { second = _; asked = _; worded = asks.2.worded })
       (command.Gen of) is (λ e. omega (arith, e)))
@@ -131,9 +123,6 @@ module _ (one : AreOne) (words : List (List ℕ)) where
   of_run call ran out errs (command.Check of) is asks done =
       absurd (other_named (codes "run") (record { second = _; asked = _; worded = asks.2.worded })
       (command.Check of) is (λ e. omega (arith, e)))
-  of_run call ran out errs (command.Resume of) is asks done =
-      absurd (other_named (codes "run") (record { second = _; asked = _; worded = asks.2.worded })
-      (command.Resume of) is (λ e. omega (arith, e)))
   of_run call ran out errs (command.Gen of) is asks done =
       absurd (other_named (codes "run") (record { second = _; asked = _; worded = asks.2.worded })
       (command.Gen of) is (λ e. omega (arith, e)))
@@ -156,9 +145,6 @@ module _ (one : AreOne) (words : List (List ℕ)) where
   of_exec call ran out errs (command.Check of) is asks done =
       absurd (other_named (codes "exec") (record { second = _; asked = _; worded = asks.2.worded })
       (command.Check of) is (λ e. omega (arith, e)))
-  of_exec call ran out errs (command.Resume of) is asks done =
-      absurd (other_named (codes "exec") (record { second = _; asked = _; worded = asks.2.worded })
-      (command.Resume of) is (λ e. omega (arith, e)))
   of_exec call ran out errs (command.Gen of) is asks done =
       absurd (other_named (codes "exec") (record { second = _; asked = _; worded = asks.2.worded })
       (command.Gen of) is (λ e. omega (arith, e)))
@@ -181,9 +167,6 @@ module _ (one : AreOne) (words : List (List ℕ)) where
   of_time call ran out errs (command.Check of) is asks done =
       absurd (other_named (codes "time") (record { second = _; asked = _; worded = asks.2.worded })
       (command.Check of) is (λ e. omega (arith, e)))
-  of_time call ran out errs (command.Resume of) is asks done =
-      absurd (other_named (codes "time") (record { second = _; asked = _; worded = asks.2.worded })
-      (command.Resume of) is (λ e. omega (arith, e)))
   of_time call ran out errs (command.Gen of) is asks done =
       absurd (other_named (codes "time") (record { second = _; asked = _; worded = asks.2.worded })
       (command.Gen of) is (λ e. omega (arith, e)))
@@ -206,9 +189,6 @@ module _ (one : AreOne) (words : List (List ℕ)) where
       absurd (other_named (codes "check") (record { second = _; asked = _; worded = asks.2.worded })
       (command.Time of) is (λ e. omega (arith, e)))
   of_check call ran out errs (command.Check of) is asks done = done
-  of_check call ran out errs (command.Resume of) is asks done =
-      absurd (other_named (codes "check") (record { second = _; asked = _; worded = asks.2.worded })
-      (command.Resume of) is (λ e. omega (arith, e)))
   of_check call ran out errs (command.Gen of) is asks done =
       absurd (other_named (codes "check") (record { second = _; asked = _; worded = asks.2.worded })
       (command.Gen of) is (λ e. omega (arith, e)))
@@ -233,9 +213,6 @@ module _ (one : AreOne) (words : List (List ℕ)) where
   of_gen call ran out errs (command.Check of) is asks done =
       absurd (other_named (codes "gen") (record { second = _; asked = _; worded = asks.2.worded })
       (command.Check of) is (λ e. omega (arith, e)))
-  of_gen call ran out errs (command.Resume of) is asks done =
-      absurd (other_named (codes "gen") (record { second = _; asked = _; worded = asks.2.worded })
-      (command.Resume of) is (λ e. omega (arith, e)))
   of_gen call ran out errs (command.Gen of) is asks done = done
 
   -- words that are a command aren't none
@@ -246,5 +223,4 @@ module _ (one : AreOne) (words : List (List ℕ)) where
   is_some (command.Exec of) is none = none.no_exec of.file.now (asked_in of.asked) is
   is_some (command.Time of) is none = none.no_time of.file.now (asked_in of.asked) is
   is_some (command.Check of) is none = none.no_check of.file.now (asked_in of.asked) is
-  is_some (command.Resume of) is none = none.no_resume of.file.now (asked_in of.asked) is
   is_some (command.Gen of) is none = none.no_gen of.seed (asked_in of.asked) is
