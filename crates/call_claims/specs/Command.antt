@@ -240,8 +240,9 @@ pub record CheckTakes (asked : Asked) : Type 0 where
 abbrev pub IsCheck : List (List ℕ) → List ℕ → Asked → Type 0
 IsCheck = IsCommandOf (codes "check") CheckTakes
 
--- ---- no more than an order, turns and a report
-pub record AsksPlainly (asked : Asked) : Type 0 where
+-- ---- resume FILE [order=FILE] [turns=N] [report]
+-- Links hold any number of messages. No call reads saved grids yet: words so worded are no command.
+pub record ResumeTakes (asked : Asked) : Type 0 where
   pub no_checked : asked.checked ≡ false
   pub no_save : asked.save ≡ false
   pub no_links : asked.links ≡ None
@@ -249,6 +250,9 @@ pub record AsksPlainly (asked : Asked) : Type 0 where
   pub no_latency : asked.latency ≡ None
   pub no_grid : asked.grid ≡ None
   pub no_letters : asked.options ≡ None
+
+abbrev pub IsResume : List (List ℕ) → List ℕ → Asked → Type 0
+IsResume = IsCommandOf (codes "resume") ResumeTakes
 
 -- ---- gen N [opt=LETTERS] [turns=N]
 -- The program is drawn from a number, and runs on grids that no word tells.

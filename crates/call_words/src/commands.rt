@@ -1,6 +1,6 @@
 //! The commands.
 ghost use Rattle.std.specs.Prelude.{◌≢◌, ◌≡◌, ◌∷◌, ℕ, map, MatchBool, MatchOption, string_bytes};
-ghost use Rattle.call_claims.specs.Command.{GoTogether, IsNoCommand, AsksPlainly};
+ghost use Rattle.call_claims.specs.Command.{GoTogether, IsNoCommand, ResumeTakes};
 ghost use Rattle.call_claims.specs.Words.{IsSeed};
 ghost use Rattle.call_words.specs.Reading.{asked_in, name_of, IsCommandIn, IsRead, IsSecond};
 ghost use Rattle.call_words.specs.Reading.{Takes};
@@ -201,7 +201,7 @@ fn go_together(asked: Asked<'_>) -> bool
 /// Whether no more is asked for than an order, turns and a report.
 fn is_plain(asked: Asked<'_>) -> bool
     ensures { MatchBool result
-        (AsksPlainly (asked_in asked.entry)) (¬ AsksPlainly (asked_in asked.entry)) }
+        (ResumeTakes (asked_in asked.entry)) (¬ ResumeTakes (asked_in asked.entry)) }
 {
     !asked.checked
         && !asked.save
