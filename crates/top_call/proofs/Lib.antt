@@ -4,3 +4,4 @@ pub mod ListLemmas
 pub mod RunLemmas
 pub mod UnknownLemmas
 pub mod WordLemmas
+mod CheckedLemmas

@@ -2,7 +2,7 @@
 -- are which command. Of `exec` it is said by `IsExecuted` of `exec_call`, of `mean` by `IsMeant` of
 -- `mean_call`, of `time` by `IsTimed` of `time_call`, of `check` by `IsValidated` of `check_call`, of
 -- `gen` by `IsGenerated` of `gen_call`.
-use Rattle.std.specs.Prelude.{◌≡◌, ◌≢◌, ◌⊎◌, ℕ, List, [], IfSome, MatchOption, None}
+use Rattle.std.specs.Prelude.{◌≡◌, ◌≢◌, ◌⊎◌, ℕ, IsTrue, List, [], IfSome, MatchOption, None}
 use Rattle.zpl_io.specs.Faults.{Rose}
 use Rattle.zpl_io.specs.Sink.{Takes, TakesFront}
 use Rattle.call_claims.specs.declared.ran.Ran.{Ran}
@@ -39,6 +39,11 @@ AsksRun words = (file : List ℕ) × (asked : Asked) × IsRun words file asked
 
 abbrev pub AsksExec : List (List ℕ) → Type 0
 AsksExec words = (file : List ℕ) × (asked : Asked) × IsExec words file asked
+
+-- with the word that has the code checked
+abbrev pub AsksChecked : List (List ℕ) → Type 0
+AsksChecked words =
+    (file : List ℕ) × (asked : Asked) × IsExec words file asked × IsTrue asked.checked
 
 abbrev pub AsksTime : List (List ℕ) → Type 0
 AsksTime words = (file : List ℕ) × (asked : Asked) × IsTime words file asked

@@ -1,5 +1,5 @@
 //! The call that the program makes.
-ghost use Rattle.std.specs.Prelude.{◌≡◌, map, string_bytes};
+ghost use Rattle.std.specs.Prelude.{◌≡◌, ◌≢◌, map, string_bytes};
 ghost use Rattle.zpl_io.specs.Files.{SameTexts};
 ghost use Rattle.call_claims.specs.Answer.{CountsFetches, CountsPuts};
 ghost use Rattle.call_claims.specs.Call.{call_of};
@@ -9,16 +9,19 @@ ghost use Rattle.call_claims.specs.declared.status.TheConstants.{USAGE};
 ghost use Rattle.mean_call.specs.of_call_answers.Stops.{CallStopsAtFault};
 ghost use Rattle.check_call.specs.Call.{IsValidated};
 ghost use Rattle.time_call.specs.of_exec_call.Call.{IsExecuted};
+ghost use Rattle.time_call.specs.of_exec_call.of_exec_claims.declared.status.TheConstants.{STUCK};
 ghost use Rattle.gen_call.specs.Call.{IsGenerated};
 ghost use Rattle.mean_call.specs.Call.{IsMeant};
 ghost use Rattle.time_call.specs.Call.{IsTimed};
-ghost use Rattle.top_call.specs.Call.{AsksCheck, AsksExec, AsksGen, AsksList, AsksMean, AsksRun};
+ghost use Rattle.top_call.specs.Call.{AsksCheck, AsksChecked};
+ghost use Rattle.top_call.specs.Call.{AsksExec, AsksGen, AsksList, AsksMean, AsksRun};
 ghost use Rattle.top_call.specs.Call.{AsksTime};
 ghost use Rattle.top_call.specs.Call.{IsListed, IsRan, IsUnknown};
 
 use crate::commands::perform;
 use call_claims::{Ran, commands_are_one};
 use call_words::command_of;
+use check_call::check_claims::checked_calls_are_never_stuck;
 use mean_call::call_answers::{Answer, Work, answered};
 use std::alloc::Global;
 use zpl_io::{Files, Sink};
@@ -61,6 +64,10 @@ pub fn zplgrid<F: Files, O: Sink, E: Sink>(
         (out.new ≡ out.old))
         (stream_of (E.tells errs.old) (E.tells errs.new) (E.faults errs.old) (E.faults errs.new)
         (errs.new ≡ errs.old)) }
+
+    // `exec` with the word `checked`: it never tells that the run is stuck, or that no processor can
+    // move.
+    ensures checked { AsksChecked (map string_bytes words.now) → result.status ≢ STUCK }
 
     // `mean`: that the program's meaning is printed, and why the status is what it is.
     ensures mean { let call = call_of (map string_bytes words.now) (F.tells files.old)
@@ -119,6 +126,7 @@ pub fn zplgrid<F: Files, O: Sink, E: Sink>(
         (E.has_failed errs.old) (E.has_failed errs.new) (errs.new ≡ errs.old) }
 {
     commands_are_one();
+    checked_calls_are_never_stuck::<F>();
     match command_of(words) {
         Some(command) => perform(alloc, command, files, out, errs),
         None => answered(alloc, Work::without_turns(None, Answer::Usage), errs),

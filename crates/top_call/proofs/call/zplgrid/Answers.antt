@@ -4,6 +4,7 @@ use Rattle.call_claims.specs.Stream.{stream_of}
 use Rattle.mean_call.specs.of_call_answers.declared.answers.Answer.TheVariants as answer
 use Rattle.mean_call.proofs.of_call_answers.CallLemmas.{call_stops}
 use Rattle.top_call.specs.Call.{IsUnknown}
+use Rattle.top_call.proofs.CheckedLemmas.{goes_on}
 use Rattle.top_call.proofs.UnknownLemmas.{none_fetched, tells_usage, usage_read}
 use Rattle.top_call.proofs.WordLemmas.{is_some, of_check, of_exec, of_gen, of_list, of_mean, of_run, of_time}
 use Rattle.top_call.proofs.call.zplgrid.Goals as goal
@@ -32,6 +33,17 @@ returns-in-Some-clause-exec g c = λ asks.
     let is = c.in-Some.ensures {u = tt} in
     of_exec c.commands_are_one.ensures words _ _ _ _ c.in-Some.command is asks
     (c.perform.ensures.done words is)
+
+pub returns-in-Some-clause-checked : goal.returns-in-Some-clause-checked
+returns-in-Some-clause-checked g c = λ asks.
+    let words = map string_bytes c.args.words.now in
+    let is = c.in-Some.ensures {u = tt} in
+    let call = call_of words (g.F.Files.tells c.args.files.now)
+    (g.F.Files.may_fail c.args.files.now) (g.F.Files.may_fail_later c.args.files.now) in
+    goes_on call _ _ _ (λ ran file asked text.
+    c.checked_calls_are_never_stuck.ensures c.args.files.now words ran file asked text)
+    (of_exec c.commands_are_one.ensures words _ _ _ _ c.in-Some.command is
+    (asks.0, asks.1, asks.2) (c.perform.ensures.done words is)) asks
 
 pub returns-in-Some-clause-mean : goal.returns-in-Some-clause-mean
 returns-in-Some-clause-mean g c = λ asks.
@@ -81,6 +93,10 @@ returns-in-None-clause-list g c = λ asks.
 
 pub returns-in-None-clause-exec : goal.returns-in-None-clause-exec
 returns-in-None-clause-exec g c = λ asks.
+    absurd ((c.in-None.ensures {u = tt}).no_exec asks.0 asks.1 asks.2)
+
+pub returns-in-None-clause-checked : goal.returns-in-None-clause-checked
+returns-in-None-clause-checked g c = λ asks.
     absurd ((c.in-None.ensures {u = tt}).no_exec asks.0 asks.1 asks.2)
 
 pub returns-in-None-clause-mean : goal.returns-in-None-clause-mean
