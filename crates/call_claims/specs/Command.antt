@@ -187,18 +187,11 @@ pub record RunTakes (asked : Asked) : Type 0 where
 abbrev pub IsRun : List (List ℕ) → List ℕ → Asked → Type 0
 IsRun = IsCommandOf (codes "run") RunTakes
 
--- ---- exec FILE [order=FILE] [turns=N] [report] [links=C] [checked] [save]
--- A grid is saved of a run without a report, over links that hold any number of messages, of code
--- that isn't checked.
-pub record SavesAlone (asked : Asked) : Type 0 where
-  pub no_report : asked.report ≡ false
-  pub no_links : asked.links ≡ None
-  pub no_checked : asked.checked ≡ false
-
--- Checked code is run over such links too.
+-- ---- exec FILE [order=FILE] [turns=N] [report] [links=C] [checked]
+-- Checked code is run over links that hold any number of messages. No call saves grids yet.
 pub record GoTogether (asked : Asked) : Type 0 where
   pub unbounded : IsTrue asked.checked → asked.links ≡ None
-  pub alone : IsTrue asked.save → SavesAlone asked
+  pub no_save : asked.save ≡ false
 
 pub record ExecTakes (asked : Asked) : Type 0 where
   pub together : GoTogether asked

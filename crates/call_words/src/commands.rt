@@ -39,8 +39,7 @@ pub enum Command<'a> {
     /// `run FILE`, then `grid=AxBxC`, `opt=LETTERS`, `order=FILE`, `turns=N`, `report`, `links=C`
     /// and settings.
     Run(FileCommand<'a>),
-    /// `exec FILE`, then `order=FILE`, `turns=N`, `report`, `links=C`, `checked` and `save`:
-    /// `checked` not with `links=C`, and `save` with none of `report`, `links=C` and `checked`.
+    /// `exec FILE`, then `order=FILE`, `turns=N`, `report`, and `links=C` or `checked`.
     Exec(FileCommand<'a>),
     /// `time FILE`, then `order=FILE`, `turns=N` and `latency=L`.
     Time(FileCommand<'a>),
@@ -189,13 +188,12 @@ fn takes(verb: Verb, asked: Asked<'_>) -> bool
     }
 }
 
-/// Whether `checked` stands without `links=C`, and `save` without these and `report`.
+/// Whether `checked` stands without `links=C`, and nothing is to be saved.
 fn go_together(asked: Asked<'_>) -> bool
     ensures { MatchBool result
         (GoTogether (asked_in asked.entry)) (¬ GoTogether (asked_in asked.entry)) }
 {
-    (!asked.checked || asked.links.is_none())
-        && (!asked.save || !asked.report && asked.links.is_none() && !asked.checked)
+    (!asked.checked || asked.links.is_none()) && !asked.save
 }
 
 /// Whether no more is asked for than an order, turns and a report.

@@ -197,7 +197,7 @@ run_counted status call code asked work before after (ran order is run) = inr (r
 
 -- ---- orders
 -- the text of an order isn't too long
-pub text_few : (call : Call) (named : Option (List ℕ)) (text : List ℕ)
+text_few : (call : Call) (named : Option (List ℕ)) (text : List ℕ)
     → IsOrderText call named text → length text ≤ 16777216
 text_few call None text is = subst (λ t. length t ≤ 16777216) (sym is) (omega arith)
 text_few call (Some file) text is = subst (λ t. length t ≤ 16777216) is.1 is.0.short

@@ -59,7 +59,7 @@ pub fn answer_to(alloc: Global, call: Call<'_>) -> Result<Answer, AllocError> {
     files.add(alloc, "a", call.text)?;
     files.add(alloc, "o", call.order.as_bytes())?;
     let mut out = MemSink::new(alloc, 400)?;
-    let mut errs = MemSink::new(alloc, 400)?;
+    let mut errs = MemSink::new(alloc, 100)?;
     let [fetch, put, told] = call.fails;
     files.fail_at(alloc, fetch)?;
     out.fail_at(alloc, put)?;
