@@ -1,5 +1,5 @@
 -- The places that a processor holds of an array make a region.
-use Rattle.std.proofs.Common.{◌≡◌, ℕ, zero, suc, ◌+◌, ◌*◌, ◌/◌, ◌^◌, ◌<◌, ◌≤◌, Bool, true, false, ℤ, pos, neg_ℤ, ◌-ℤ◌, ◌+ℤ◌, ◌≤ℤ◌, List, [], ◌∷◌, length, get_or, map, inl, inr, ◌⊎◌, refl, ap, sym, ◌∙◌, subst, arith, rules}
+use Rattle.std.proofs.Common.{◌≡◌, ℕ, zero, suc, ◌*◌, ◌/◌, ◌^◌, ◌<◌, ◌≤◌, Bool, true, false, ℤ, pos, neg_ℤ, ◌-ℤ◌, ◌≤ℤ◌, List, [], ◌∷◌, length, get_or, map, inl, inr, ◌⊎◌, refl, ap, sym, ◌∙◌, subst, arith, rules}
 use Rattle.std.specs.Prelude.{◌≢◌, ◌==◌, All, Contains, IfSome, Option, Some, None, fold, slice_get, if◌then◌else◌}
 use Rattle.std.specs.Option.{option_map}
 use Rattle.std.specs.List.{AllZip}
@@ -30,7 +30,7 @@ use Rattle.grid_meaning.specs.of_grid_layout.Grid.{blocks_at, cuts, processors_o
 use Rattle.grid_meaning.specs.of_grid_layout.Layout.{AreAxes, AreBlocks, IsAxis, IsHull, around, axes_at, axes_of, axis_over, blocks_of, counts, each_bound, hull_in, laid_out, own_first, own_last, widened}
 use Rattle.grid_meaning.proofs.BoxLemmas.{box_is}
 use Rattle.grid_meaning.proofs.WorldLemmas.{processors_alike}
-use Rattle.grid_meaning.proofs.of_grid_layout.OwnerLemmas.{AreCuts, EachSome, are_cuts, axes_three}
+use Rattle.grid_meaning.proofs.of_grid_layout.OwnerLemmas.{AreCuts, are_cuts, axes_three}
 use Rattle.grid_meaning.proofs.of_grid_layout.PartLemmas.{AreBelow, blocks_are_below, blocks_length}
 use Rattle.grid_meaning.proofs.of_grid_layout.SoundLemmas.{held_is_region}
 use Rattle.grid_meaning.specs.Local.{Local, processors}

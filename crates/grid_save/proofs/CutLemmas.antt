@@ -1,5 +1,5 @@
 -- A text is cut in one way: into its counts, its listing and the lines of its states.
-use Rattle.std.proofs.Common.{◌≡◌, ℕ, zero, suc, ◌+◌, ◌^◌, ◌<◌, ◌≤◌, Bool, true, false, List, [], ◌∷◌, ◌++◌, drop, map, refl, ap, sym, ◌∙◌, subst, arith}
+use Rattle.std.proofs.Common.{◌≡◌, ℕ, ◌^◌, ◌<◌, true, false, List, [], ◌∷◌, ◌++◌, drop, map, refl, ap, sym, ◌∙◌, subst, arith}
 use Rattle.std.specs.Prelude.{◌≢◌, ◌==◌, All, codes}
 use Rattle.std.specs.Fmt.{decimal}
 use Rattle.std.specs.List.{slice_split}
@@ -17,10 +17,9 @@ use Rattle.listing_lines.specs.Keyword.{keyword_text}
 use Rattle.listing_lines.specs.Line.{IsLine, line_text as listed_text, lines_text}
 use Rattle.listing_lines.proofs.LineTexts.{line_ends as listed_ends, split_line as split_listed}
 use Rattle.listing_lines.proofs.OneText.{same_line as same_listed}
-use Rattle.save_lines.specs.declared.lines.Kind.{Kind}
 use Rattle.save_lines.specs.declared.lines.Kind.TheVariants as kind
 use Rattle.save_lines.specs.declared.lines.SavedLine.{SavedLine}
-use Rattle.save_lines.specs.Line.{AreSavedLines, IsSavedLine, kind_of, kind_text, line_text, saved_text, words_behind, words_of}
+use Rattle.save_lines.specs.Line.{AreSavedLines, IsSavedLine, kind_of, kind_text, line_text, saved_text, words_of}
 use Rattle.save_lines.proofs.Gaps.{line_ends, split_line}
 use Rattle.grid_save.specs.Written.{counts_text}
 

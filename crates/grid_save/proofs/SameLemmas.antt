@@ -1,8 +1,8 @@
 -- Lines of states are those of one grid: each part of a state is told by its lines.
-use Rattle.std.proofs.Common.{◌≡◌, ℕ, zero, suc, ◌+◌, ◌-◌, ◌*◌, ◌<◌, ◌≤◌, Bool, true, false, not, ℤ, pos, negsuc, List, [], ◌∷◌, ◌++◌, length, take, drop, map, inl, inr, refl, ap, sym, ◌∙◌, subst, arith}
-use Rattle.std.specs.Prelude.{◌≢◌, ◌==◌, All, Option, Some, None, replicate, slice_get, unsigned_abs}
-use Rattle.std.specs.List.{AllZip, flat_map, range_with_len}
-use Rattle.std.proofs.lemmas.List.{append_assoc, take-append-drop}
+use Rattle.std.proofs.Common.{◌≡◌, ℕ, zero, suc, ◌-◌, ◌<◌, ◌≤◌, Bool, true, false, ℤ, List, [], ◌∷◌, ◌++◌, length, take, drop, map, inl, inr, refl, ap, sym, ◌∙◌, subst, arith}
+use Rattle.std.specs.Prelude.{All, replicate}
+use Rattle.std.specs.List.{AllZip, flat_map}
+use Rattle.std.proofs.lemmas.List.{take-append-drop}
 use Rattle.std.proofs.lemmas.List.Elements.{All-head, All-tail}
 use Rattle.zpl_region.specs.declared.dims.Dim.{Dim}
 use Rattle.zpl_region.specs.declared.dims.Dim.TheVariants as dim
@@ -10,7 +10,6 @@ use Rattle.zpl_region.specs.declared.regions.Region.{Region}
 use Rattle.zpl_region.specs.Hull.{all_from}
 use Rattle.zpl_region.specs.Region.{IsPadded, members, padding}
 use Rattle.zpl_arrays.specs.Array.{Array}
-use Rattle.grid_links.specs.declared.messages.Message.{Message}
 use Rattle.node_form.specs.declared.arrays.ArrayDim.{ArrayDim}
 use Rattle.node_form.specs.declared.arrays.ArrayDim.TheVariants as axis
 use Rattle.node_form.specs.declared.arrays.ArrayRow.{ArrayRow}
@@ -21,14 +20,8 @@ use Rattle.grid_meaning.proofs.WorldLemmas.{processors_alike}
 use Rattle.grid_meaning.specs.Local.{processors}
 use Rattle.grid_meaning.specs.State.{ArePlaces, AreRoomIn, IsRoom, IsRoomIn, IsSlot, IsStore}
 use Rattle.grid_meaning.specs.Stored.{arrangement_of, no_places}
-use Rattle.save_lines.specs.declared.lines.BoxDim.{BoxDim}
-use Rattle.save_lines.specs.declared.lines.BoxDim.TheVariants.{Range, Star}
 use Rattle.node_text.specs.Typed.{TypedArray}
-use Rattle.save_lines.specs.declared.lines.Kind.{Kind}
-use Rattle.save_lines.specs.declared.lines.Kind.TheVariants as kind
-use Rattle.save_lines.specs.declared.lines.SavedLine.{SavedLine}
-use Rattle.save_lines.specs.declared.lines.SavedLine.TheVariants.{Proc, Scalars, Slot, Cells, Store, Kept, Msg}
-use Rattle.grid_save.specs.Written.{box_dim, message_line, slot_line, store_line}
+use Rattle.grid_save.specs.Written.{box_dim, slot_line, store_line}
 use Rattle.grid_save.proofs.BoxLemmas.{blocks_of_code, firsts_are, lasts_are}
 use Rattle.grid_save.proofs.CutLemmas.{Every, every-append}
 

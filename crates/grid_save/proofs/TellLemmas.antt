@@ -1,30 +1,23 @@
 -- Lines of states tell the states, with what they keep, and the messages.
-use Rattle.std.proofs.Common.{◌≡◌, ℕ, zero, suc, ◌+◌, ◌*◌, ◌/◌, ◌%◌, ◌<◌, ◌≤◌, Bool, true, false, not, ℤ, pos, negsuc, List, [], ◌∷◌, ◌++◌, length, get_or, map, inl, inr, ◌⊎◌, refl, ap, sym, ◌∙◌, subst, arith}
-use Rattle.std.specs.Prelude.{◌≢◌, ◌==◌, All, Option, Some, None, find, if◌then◌else◌, nat_eq, slice_get, unsigned_abs}
+use Rattle.std.proofs.Common.{◌≡◌, ℕ, zero, suc, ◌+◌, ◌<◌, Bool, true, false, not, ℤ, List, [], ◌∷◌, ◌++◌, map, refl, ap, sym, ◌∙◌, arith}
+use Rattle.std.specs.Prelude.{◌≢◌, ◌==◌, Option, Some, None, find, unsigned_abs}
 use Rattle.std.specs.List.{flat_map, range_with_len}
 use Rattle.std.proofs.lemmas.Bool.Decides.{nat_tests}
 use Rattle.std.proofs.lemmas.List.{append_assoc}
-use Rattle.zpl_nums.specs.declared.ends.End.{End}
-use Rattle.zpl_nums.specs.declared.ends.End.TheVariants as ending
-use Rattle.zpl_nums.specs.declared.ends.TrapKind.{TrapKind}
-use Rattle.zpl_nums.specs.declared.ends.TrapKind.TheVariants as trap
 use Rattle.zpl_region.specs.declared.regions.Region.{Region}
 use Rattle.zpl_arrays.specs.Array.{Array}
 use Rattle.grid_links.specs.declared.messages.Message.{Message}
 use Rattle.grid_links.specs.Links.{link_of}
 use Rattle.node_form.specs.declared.tables.Tables.{Tables}
-use Rattle.grid_meaning.specs.Local.{Local, processor_numbers, processors}
-use Rattle.listing_rows.specs.Rows.{trap_number}
-use Rattle.save_lines.specs.declared.lines.EndWord.{EndWord}
+use Rattle.grid_meaning.specs.Local.{processor_numbers, processors}
 use Rattle.save_lines.specs.declared.lines.Kind.{Kind}
 use Rattle.save_lines.specs.declared.lines.Kind.TheVariants as kind
 use Rattle.save_lines.specs.declared.lines.ProcRow.{ProcRow}
 use Rattle.save_lines.specs.declared.lines.SavedLine.{SavedLine}
-use Rattle.save_lines.specs.declared.lines.SavedLine.TheVariants.{Proc, Scalars, Slot, Cells, Store, Kept, Msg}
+use Rattle.save_lines.specs.declared.lines.SavedLine.TheVariants.{Proc, Scalars, Cells, Kept, Msg}
 use Rattle.save_lines.specs.Line.{kind_of}
-use Rattle.grid_save.specs.Kept.{IsEnding}
-use Rattle.grid_save.specs.Written.{end_of, flag_number, found_lines, kept_from, kept_line, kept_lines, message_line, message_lines, proc_row, slot_line, store_line}
-use Rattle.grid_save.proofs.CutLemmas.{Every, every-append, every-map}
+use Rattle.grid_save.specs.Written.{kept_from, kept_lines, message_line, message_lines, slot_line, store_line}
+use Rattle.grid_save.proofs.CutLemmas.{Every, every-map}
 use Rattle.grid_save.proofs.SameLemmas.{GoesOn, Stops, cut_lists, every-flat_map, every_more, stops_append, stops_every}
 
 -- ---- a state's lines by their kinds

@@ -1,4 +1,4 @@
-use Rattle.std.proofs.Common.{◌≡◌, ◌++◌, [], ◌∷◌, ap, arith, length, map, sym, ◌∙◌}
+use Rattle.std.proofs.Common.{◌≡◌, ◌++◌, [], ◌∷◌, ap, map, sym, ◌∙◌}
 use Rattle.save_lines.specs.declared.lines.SavedLine.TheVariants.{Proc, Scalars, Cells}
 use Rattle.save_lines.specs.Line.{line_text, saved_text}
 use Rattle.save_lines.proofs.Appends.{by_ok}

@@ -1,4 +1,4 @@
-use Rattle.std.proofs.Common.{◌≡◌, arith, length, ap, sym, ◌∙◌}
+use Rattle.std.proofs.Common.{◌≡◌, arith, length, ap}
 use Rattle.node_form.specs.declared.tables.Tables.{Tables}
 use Rattle.grid_meaning.specs.State.{IsStore}
 use Rattle.grid_save.specs.Written.{store_line}
