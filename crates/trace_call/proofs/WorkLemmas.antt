@@ -1,6 +1,6 @@
 -- From a traced run to the cause of its answer, and from what was fetched, read and run to what is
 -- said of the call.
-use Rattle.std.proofs.Common.{◌≡◌, ◌≢◌, ◌⊎◌, ℕ, ◌+◌, Bool, List, Option, Some, None, MatchOption, Result, Ok, Err, drop, refl, sym, ◌∙◌, ap, subst, inl, inr, append-nil, arith, zero-add}
+use Rattle.std.proofs.Common.{◌≡◌, ◌≢◌, ◌⊎◌, ℕ, ◌+◌, Bool, List, Option, Some, None, MatchOption, Result, Ok, Err, drop, refl, sym, ◌∙◌, ap, subst, inl, inr, append-nil, arith, zero-add, false}
 use Rattle.zpl_io.specs.Files.{SameTexts}
 use Rattle.zpl_io.specs.Sink.{Takes}
 use Rattle.zpl_nums.specs.declared.ends.End.{End}

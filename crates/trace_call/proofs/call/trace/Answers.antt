@@ -32,7 +32,8 @@ returns-clause-traced g c = λ words given.
     let turns = work.result.counts.turns in
     let is = work.ensures.work words in
     let caused_by = Cause call (execution_in work.result) in
-    let has_cause = caused call file asked work.result before after given c.requires.plain.checked is in
+    let has_cause = caused call file asked work.result before after given
+    c.requires.plain.checked is in
     let cause = status_caused work.result.answer status _ told caused_by no_memory has_cause in
     let all = c.exec_statuses_are_exact.ensures in
     let at = execution_in work.result in
@@ -89,7 +90,7 @@ returns-clause-known g c = λ e.
     c.answered.ensures.told (Cause call (execution_in work.result)) no_memory
     (caused call c.args.command.file.now (asked_in c.args.command.asked) work.result
     (g.O.Sink.tells c.args.out.now) (g.O.Sink.tells work.new.out) given.1
-    (work.ensures.work given.0)) (λ f. omega (arith, e, f))) e
+    c.requires.plain.checked (work.ensures.work given.0)) (λ f. omega (arith, e, f))) e
 
 pub returns-clause-fetches : goal.returns-clause-fetches
 returns-clause-fetches g c =
