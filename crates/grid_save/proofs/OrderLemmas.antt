@@ -63,7 +63,7 @@ every-placed P (m ∷ ns) n each here = by (nat_lt n m) (every-placed P ns n eac
   by true others = (here, each)
   by false others = (each.0, others)
 
-order : (a b : ℕ) → (a ≡ b) ⊎ ((a < b) ⊎ (b < a))
+pub order : (a b : ℕ) → (a ≡ b) ⊎ ((a < b) ⊎ (b < a))
 order zero zero = inl refl
 order zero (suc b) = inr (inl (omega arith))
 order (suc a) zero = inr (inr (omega arith))
@@ -154,7 +154,7 @@ senders_of kept = map (λ entry. entry.0) kept
 own_test : (a : ℕ) → (a == a) ≡ true
 own_test a = grind (arith, nat_tests)
 
-other_test : (a b : ℕ) → a ≢ b → (a == b) ≡ false
+pub other_test : (a b : ℕ) → a ≢ b → (a == b) ≡ false
 other_test a b h = by (a == b) refl where
   by : (t : Bool) → (a == b) ≡ t → t ≡ false
   by false e = refl

@@ -9,5 +9,5 @@ mod states;
 mod writes;
 
 pub use faults::SaveFault;
-pub use laws::a_grid_has_one_text;
+pub use laws::{a_grid_has_one_text, texts_tell_one_grid};
 pub use writes::write_save;
