@@ -1,7 +1,19 @@
-//! The law of runs that go on.
-ghost use Rattle.std.specs.Prelude.{ℕ};
+//! The laws of saved grids and of runs that go on from them.
+ghost use Rattle.std.specs.Prelude.{◌≡◌, ℕ, List, None};
+ghost use Rattle.grid_meaning.specs.Grid.{Grid};
 ghost use Rattle.grid_runs.specs.Run.{Run};
+ghost use Rattle.grid_save.specs.Saved.{IsSaved};
+ghost use Rattle.node_form.specs.declared.tables.Tables.{Tables as Code};
+ghost use Rattle.exec_claims.specs.of_call_claims.Call.{call_of};
+ghost use Rattle.exec_claims.specs.of_call_claims.Command.{Asked};
+ghost use Rattle.exec_claims.specs.of_call_claims.Execution.{Execution};
+ghost use Rattle.resume_claims.specs.Cause.{Cause, onward_run};
+ghost use Rattle.resume_claims.specs.Decided.{IsExact};
 ghost use Rattle.resume_claims.specs.Onward.{AreOne, GoesOnFrom};
+ghost use Rattle.resume_claims.specs.Saving.{saved_at};
+
+use grid_save::texts_tell_one_grid;
+use zpl_io::Files;
 
 /// A run that goes on from the grid of another one, as that was saved after some turns, is one with
 /// these: after the turns of both, the grid has printed what both printed, and has the states, the
@@ -10,3 +22,25 @@ pub fn runs_go_on()
     ensures { (run : Run) (k : ℕ) (onward : Run) (j : ℕ) → GoesOnFrom run k onward →
         AreOne run k onward j }
 {}
+
+/// So it is where the run goes on from any grid that the saved text stands for: it stands for no
+/// other.
+pub fn saved_runs_go_on()
+    ensures { (bytes : List ℕ) (run : Run) (k : ℕ) → run.capacity ≡ None →
+        IsSaved bytes run.code (saved_at run k) → (code : Code) (grid : Grid) →
+        IsSaved bytes code grid → (asked : Asked) (order : List ℕ) (j : ℕ) →
+        AreOne run k (onward_run code grid asked order) j }
+{
+    texts_tell_one_grid();
+}
+
+/// A status of `resume` that has its cause comes just where its own cause is, where memory wasn't
+/// wanting, no put or fetch failed, and the files tell one text a name.
+pub fn resume_statuses_are_exact<F: Files>()
+    ensures { (files : F) (words : List (List ℕ)) (ran : Execution) (n : ℕ) (told : List ℕ) →
+        let call = call_of words (F.tells files) (F.may_fail files)
+        (F.may_fail_later files) in
+        Cause call ran n told → IsExact call ran n }
+{
+    texts_tell_one_grid();
+}

@@ -9,5 +9,5 @@ mod laws;
 mod limits;
 
 pub use grid_save;
-pub use laws::runs_go_on;
+pub use laws::{resume_statuses_are_exact, runs_go_on, saved_runs_go_on};
 pub use limits::MOST_SAVED;

@@ -11,7 +11,8 @@ use Rattle.time_call.specs.of_exec_call.Call.{IsExecuted}
 use Rattle.gen_call.specs.Call.{IsGenerated}
 use Rattle.mean_call.specs.Call.{IsMeant}
 use Rattle.time_call.specs.Call.{IsTimed}
-use Rattle.top_call.specs.Call.{AsksCheck, AsksExec, AsksGen, AsksList, AsksMean, AsksRun, AsksTime}
+use Rattle.resume_call.specs.Call.{IsResumed}
+use Rattle.top_call.specs.Call.{AsksCheck, AsksExec, AsksGen, AsksList, AsksMean, AsksResume, AsksRun, AsksTime}
 use Rattle.top_call.specs.Call.{IsListed, IsRan}
 use Rattle.top_call.specs.Done.{IsDone}
 use Rattle.call_claims.specs.Command.{Asked, IsNoCommand, IsWorded}
@@ -211,6 +212,31 @@ module _ (one : AreOne) (words : List (List ℕ)) where
       (command.Resume of) is (λ e. omega (arith, e)))
   of_check call ran out errs (command.Gen of) is asks done =
       absurd (other_named (codes "check") (record { second = _; asked = _; worded = asks.2.worded })
+      (command.Gen of) is (λ e. omega (arith, e)))
+
+  pub of_resume : (call : Call) (ran : Ran) (out errs : Stream) (c : Command) → IsRead words c
+      → AsksResume words → IsDone c call ran out errs → IsResumed call ran out errs
+  of_resume call ran out errs (command.List of) is asks done =
+      absurd (other_named (codes "resume") (record { second = _; asked = _; worded = asks.2.worded })
+      (command.List of) is (λ e. omega (arith, e)))
+  of_resume call ran out errs (command.Mean of) is asks done =
+      absurd (other_named (codes "resume") (record { second = _; asked = _; worded = asks.2.worded })
+      (command.Mean of) is (λ e. omega (arith, e)))
+  of_resume call ran out errs (command.Run of) is asks done =
+      absurd (other_named (codes "resume") (record { second = _; asked = _; worded = asks.2.worded })
+      (command.Run of) is (λ e. omega (arith, e)))
+  of_resume call ran out errs (command.Exec of) is asks done =
+      absurd (other_named (codes "resume") (record { second = _; asked = _; worded = asks.2.worded })
+      (command.Exec of) is (λ e. omega (arith, e)))
+  of_resume call ran out errs (command.Time of) is asks done =
+      absurd (other_named (codes "resume") (record { second = _; asked = _; worded = asks.2.worded })
+      (command.Time of) is (λ e. omega (arith, e)))
+  of_resume call ran out errs (command.Check of) is asks done =
+      absurd (other_named (codes "resume") (record { second = _; asked = _; worded = asks.2.worded })
+      (command.Check of) is (λ e. omega (arith, e)))
+  of_resume call ran out errs (command.Resume of) is asks done = done
+  of_resume call ran out errs (command.Gen of) is asks done =
+      absurd (other_named (codes "resume") (record { second = _; asked = _; worded = asks.2.worded })
       (command.Gen of) is (λ e. omega (arith, e)))
 
   pub of_gen : (call : Call) (ran : Ran) (out errs : Stream) (c : Command) → IsRead words c

@@ -12,8 +12,9 @@ ghost use Rattle.time_call.specs.of_exec_call.Call.{IsExecuted};
 ghost use Rattle.gen_call.specs.Call.{IsGenerated};
 ghost use Rattle.mean_call.specs.Call.{IsMeant};
 ghost use Rattle.time_call.specs.Call.{IsTimed};
-ghost use Rattle.top_call.specs.Call.{AsksCheck, AsksExec, AsksGen, AsksList, AsksMean, AsksRun};
-ghost use Rattle.top_call.specs.Call.{AsksTime};
+ghost use Rattle.resume_call.specs.Call.{IsResumed};
+ghost use Rattle.top_call.specs.Call.{AsksCheck, AsksExec, AsksGen, AsksList, AsksMean};
+ghost use Rattle.top_call.specs.Call.{AsksResume, AsksRun, AsksTime};
 ghost use Rattle.top_call.specs.Call.{IsListed, IsRan, IsUnknown};
 
 use crate::commands::perform;
@@ -24,8 +25,8 @@ use std::alloc::Global;
 use zpl_io::{Files, Sink};
 
 /// Does what the words ask for: what the program prints, its listing, the time of its run, that its
-/// code is sound, or the lines of runs of a drawn program go to `out`, and what is told of the answer
-/// to `errs`.
+/// code is sound, or the lines of runs of a drawn program go to `out`, and what is told of the answer,
+/// or a saved grid, to `errs`.
 ///
 /// The status has its cause. After a failed put nothing more is put on either sink.
 pub fn zplgrid<F: Files, O: Sink, E: Sink>(
@@ -85,6 +86,15 @@ pub fn zplgrid<F: Files, O: Sink, E: Sink>(
     ensures check { let call = call_of (map string_bytes words.now) (F.tells files.old)
         (F.may_fail files.old) (F.may_fail_later files.old) in
         AsksCheck call.words → IsValidated call result
+        (stream_of (O.tells out.old) (O.tells out.new) (O.faults out.old) (O.faults out.new)
+        (out.new ≡ out.old))
+        (stream_of (E.tells errs.old) (E.tells errs.new) (E.faults errs.old) (E.faults errs.new)
+        (errs.new ≡ errs.old)) }
+
+    // `resume`: what grid is read, how its run goes on, and why the status is what it is.
+    ensures resume { let call = call_of (map string_bytes words.now) (F.tells files.old)
+        (F.may_fail files.old) (F.may_fail_later files.old) in
+        AsksResume call.words → IsResumed call result
         (stream_of (O.tells out.old) (O.tells out.new) (O.faults out.old) (O.faults out.new)
         (out.new ≡ out.old))
         (stream_of (E.tells errs.old) (E.tells errs.new) (E.faults errs.old) (E.faults errs.new)

@@ -1,0 +1,13 @@
+//! The call that goes on from a saved grid: `resume FILE`, with an order of turns, a limit and a
+//! report.
+//!
+//! A saved grid is fetched and read, then the text of an order where the words name one, and the
+//! run goes on under that order and then round the processors. Each status has its cause.
+#![tactic(auto)]
+
+mod call;
+mod lines;
+mod runs;
+mod texts;
+
+pub use call::resume;
