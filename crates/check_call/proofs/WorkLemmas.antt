@@ -131,7 +131,7 @@ module _ (call : Call) (file : List ℕ) (asked : Asked) (work : Work) (before a
       none_done (too_long long ends) = λ e. omega arith
       none_done (of_text source (bad_line line is none)) = λ e. omega arith
       none_done (of_text source (bad_table line is none)) = λ e. omega arith
-      none_done (of_text source (listed code is made no)) = absurd no
+      none_done (of_text source (listed code is made never)) = absurd never
 
   taken : IsWorkOn call file work before after → work.answer ≢ answer.PutFailed → Taken
   taken (unread none reads nothing) put =
@@ -173,7 +173,7 @@ module _ (call : Call) (file : List ℕ) (asked : Asked) (work : Work) (before a
   pub none_for : IsWorkOn call file work before after → (status : ℕ) (errs : Stream)
       → (answered : IsAnswerOf work.answer status errs) → work.answer ≢ answer.PutFailed
       → answered.answer ≡ answer.PutFailed → Takes before [] after
-  none_for is status errs answered put failed = elim (taken is put) [
-    | has_text same tells ↦ absurd (not_done work.answer status errs answered failed same)
+  none_for is status errs answered put fault = elim (taken is put) [
+    | has_text same tells ↦ absurd (not_done work.answer status errs answered fault same)
     | has_none other takes ↦ takes
   ]

@@ -224,9 +224,9 @@ pub saved_code : (call : Call) (code : Tables) (asked : Asked) (telling : Tellin
     → asked.save ≡ true → IsOrderOf call code asked.order order
     → GoesOnTo (run_of code asked order) telling.work.counts.turns
     → IsSavedRun (run_of code asked order) telling → IsSavedCode call code asked telling
-saved_code call code asked telling order wanted is goes_on saved =
+saved_code call code asked telling order wanted is goes_on kept =
     match_on telling.text (λ other. λ e. other)
-    (λ text saves. (wanted, record { order = order; is = is; goes_on = goes_on; saves = saves })) saved
+    (λ text saves. (wanted, record { order = order; is = is; goes_on = goes_on; saves = saves })) kept
 
 pub answer_unrun : (work inner : Work) (a : Answer) → work ≡ inner → inner.answer ≡ a → IsUnrun a
     → IsUnrun work.answer
@@ -248,7 +248,7 @@ unsaved_listed call file asked telling none other =
 
 -- of the listed code
 pub unchecked : (asked : Asked) (code : Tables) → SavesAlone asked → PassesCheck asked code
-unchecked asked code alone checked = absurd (subst IsTrue alone.no_checked checked)
+unchecked asked code alone checked = (let off : false ≡ true = sym alone.no_checked ∙ checked in cc)
 
 pub saved_listed : (call : Call) (file : List ℕ) (asked : Asked) (code : Tables) (telling : Telling)
     → (IsTrue asked.save → SavesAlone asked) → IsListedIn call file code → telling.work.code ≡ Some code → IsSavedCode call code asked telling
@@ -264,7 +264,7 @@ saved_listed call file asked code telling alone listed made is =
           code = code;
           listing = listed.listing;
           made = made;
-          sound = unchecked asked code (alone (subst IsTrue (sym saves.0) tt));
+          sound = unchecked asked code (alone saves.0);
           text = saves.1.is.text;
           order_text = saves.1.is.order_text;
           order = saves.1.order;
@@ -344,4 +344,4 @@ module _ (call : Call) (file : List ℕ) (asked : Asked) (given : IsExec call.wo
 -- a grid is saved of code that isn't checked
 pub passes_unchecked : (asked : Asked) (code : Tables) → (IsTrue asked.save → SavesAlone asked)
     → asked.save ≡ true → PassesCheck asked code
-passes_unchecked asked code alone wanted = unchecked asked code (alone (subst IsTrue (sym wanted) tt))
+passes_unchecked asked code alone wanted = unchecked asked code (alone wanted)

@@ -86,7 +86,7 @@ with_work Works (unreadable may ends) = unreadable may ends
 with_work Works (too_long long ends) = too_long long ends
 with_work Works (of_text source (bad_line line e none)) = of_text source (bad_line line e none)
 with_work Works (of_text source (bad_table line e none)) = of_text source (bad_table line e none)
-with_work Works (of_text source (listed code is made no)) = absurd no
+with_work Works (of_text source (listed code is made never)) = absurd never
 
 -- ---- a check that fails
 pub failed_caused : (code : Tables) (a : Answer) → IsFailed code a → IsDecided (status_of a)
@@ -267,7 +267,7 @@ run_printed : (status : ℕ) (call : Call) (file : List ℕ) (code : Tables) (as
     (work : Work) (before after : List ℕ → Type 0) → IsExec call.words file asked
     → IsCodeWork call code asked work before after → work.answer ≢ answer.PutFailed
     → TakesPrinted call (ran_of status work) before after (Some code)
-run_printed status call file code asked work before after given (unordered fails nothing) put =
+run_printed status call file code asked work before after given (unordered why nothing) put =
     inl (none_counted status work before after nothing, nothing.printed)
 run_printed status call file code asked work before after given (ran order is run) put =
     inr (record {
@@ -307,7 +307,7 @@ run_cut : (status : ℕ) (call : Call) (file : List ℕ) (code : Tables) (asked 
     (before after : List ℕ → Type 0) → IsExec call.words file asked → work.code ≡ Some code
     → IsCodeWork call code asked work before after → work.answer ≡ answer.PutFailed
     → IsOutputCut call (ran_of status work) before after
-run_cut status call file code asked work before after given made (unordered fails nothing) failed =
+run_cut status call file code asked work before after given made (unordered why nothing) failed =
     absurd (nothing.put failed)
 run_cut status call file code asked work before after given made (ran order is run) failed =
     record {

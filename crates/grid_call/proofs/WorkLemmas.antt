@@ -98,7 +98,7 @@ unfetched_unrun Tells May limit file answer.NoMemory is = tt
 module _ (words : List (List ℕ)) (tells other : List ℕ → List ℕ → Type 0)
     (fails fail late later : List ℕ → Type 0) (same : SameTexts tells other)
     (kept : (file : List ℕ) → later file → late file) where
-  abbrev source_back : (file : List ℕ) → Source (call_of words other fail later) file
+  abbrev pub source_back : (file : List ℕ) → Source (call_of words other fail later) file
       → Source (call_of words tells fails late) file
   source_back file s =
       record { text = s.text; told = (same file s.text).1 s.told; short = s.short }
