@@ -53,7 +53,7 @@ use Rattle.resume_claims.specs.Answer.{GoesOn, IsReadFor, TakesPrinted}
 use Rattle.resume_claims.specs.Cause.{Cause, GridCause, GridFileCause, IsRefused, IsTooLong, Onward, ResumeCause, SavesNone, Source}
 use Rattle.resume_claims.specs.Cause.{onward_run}
 use Rattle.resume_claims.specs.Cause.GridCause.{bad_item, ran as went}
-use Rattle.resume_claims.specs.Cause.SavedCause as text_cause
+use Rattle.resume_claims.specs.Cause.SavedCause.{refused as no_save, saved as of_save}
 use Rattle.resume_claims.specs.Cause.ResumeCause.{unreadable, too_long, work}
 use Rattle.resume_claims.specs.Cause.Cause.{no_memory, resume}
 use Rattle.resume_claims.specs.Texts.{fault_text}
@@ -98,22 +98,22 @@ unrun answer.NoMemory is = no_end 10 (λ e. omega (arith, e)) (λ e. omega (arit
 
 -- ---- no order
 run_never : {run : Run} {wanted : Bool} {k n : ℕ} {told : List ℕ} → RunCause run wanted k n told → IsNoEnd n → ⊥
-run_never (RunCause.done ends) no = no.done refl
-run_never (RunCause.trap kind line ends) no = no.trap refl
-run_never (RunCause.turn_limit ends) no = no.limit refl
-run_never (RunCause.stuck p kind ends) no = no.stuck refl
-run_never (RunCause.idle p ends) no = no.stuck refl
+run_never (RunCause.done ends) apart = apart.done refl
+run_never (RunCause.trap kind line ends) apart = apart.trap refl
+run_never (RunCause.turn_limit ends) apart = apart.limit refl
+run_never (RunCause.stuck p kind ends) apart = apart.stuck refl
+run_never (RunCause.idle p ends) apart = apart.stuck refl
 
 order_fails : (call : Call) (code : Tables) (grid : Grid) (asked : Asked) (named : Option (List ℕ)) (n : ℕ) (told : List ℕ)
     → IsNoEnd n → OrderFileCause call code asked 0 named n told → GridFileCause call code grid asked 0 named n told
-order_fails call code grid asked None n told no (wrong_item at e z) = bad_item at e z
-order_fails call code grid asked None n told no (run_under order e goes c) = absurd (run_never c no)
-order_fails call code grid asked (Some file) n told no (no_text may ends) = no_text may ends
-order_fails call code grid asked (Some file) n told no (long_text long ends) = long_text long ends
-order_fails call code grid asked (Some file) n told no (of_text source (wrong_item at e z)) =
+order_fails call code grid asked None n told apart (wrong_item at e z) = bad_item at e z
+order_fails call code grid asked None n told apart (run_under order e goes c) = absurd (run_never c apart)
+order_fails call code grid asked (Some file) n told apart (no_text may ends) = no_text may ends
+order_fails call code grid asked (Some file) n told apart (long_text long ends) = long_text long ends
+order_fails call code grid asked (Some file) n told apart (of_text source (wrong_item at e z)) =
     of_text source (bad_item at e z)
-order_fails call code grid asked (Some file) n told no (of_text source (run_under order e goes c)) =
-    absurd (run_never c no)
+order_fails call code grid asked (Some file) n told apart (of_text source (run_under order e goes c)) =
+    absurd (run_never c apart)
 
 pub fails_on : (call : Call) (code : Tables) (grid : Grid) (named : Option (List ℕ)) (a : Answer) → IsUnrun a
     → OrderFails call code named a → IsDecided (status_of a) → (asking : Asked)
@@ -254,7 +254,7 @@ module _ (call : Call) (file : List ℕ) (asked : Asked) (given : IsResume call.
   of_work source (refused why refusal line some same has) is d =
       let no : Some line ≡ None = sym some ∙ is in cc
   of_work source (resumed code grid saved none made does) is d =
-      so (work source (text_cause.saved code grid saved made
+      so (work source (of_save code grid saved made
       (of_grid call code grid asked telling.work before after does d)))
 
   pub caused : IsFileWork call file asked telling before after → telling.text ≡ None
@@ -278,7 +278,7 @@ module _ (call : Call) (file : List ℕ) (asked : Asked) (given : IsResume call.
       record {
         cause = subst (λ (l : Vec ℕ Global). Cause call (execution_in telling.work) SAVE_REFUSED l.items) one
             (subst (Cause call (execution_in telling.work) SAVE_REFUSED) (sym same)
-            (so (work source (text_cause.refused why refusal (no_run has.no_code has.nothing)))));
+            (so (work source (no_save why refusal (no_run has.no_code has.nothing)))));
         fine = has.nothing.put;
         fetched = λ e. omega (arith, ap status_of has.wanting, e);
       }
