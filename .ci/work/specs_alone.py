@@ -158,6 +158,8 @@ def is_use(item):
 def types_used(item, body, crates):
     """A `use` of the types that the file still names, or of the types and crates that it hands on."""
     found = re.match(r"(pub(?:\([^)]*\))? )?use ([^;]*);", item.strip())
+    if not found:
+        return item
     is_pub, path = found.group(1) or "", found.group(2)
     group = re.match(r"(.*?)(?:::)?\{(.*)\}\s*$", path, re.S)
     before, last = (group.group(1), group.group(2).split(",")) if group else path.rpartition("::")[::2]
@@ -165,7 +167,8 @@ def types_used(item, body, crates):
     kept = []
     for name in names:
         own, shown = name.split(" as ")[0].split("::")[-1].strip(), name.split(" as ")[-1].split("::")[-1].strip()
-        if (own[:1].isupper() or own in crates) and (is_pub or re.search(rf"\b{shown}\b", body)):
+        is_crate = own in crates and (not before or before.split("::")[0] in crates)
+        if (own[:1].isupper() or is_crate) and (is_pub or re.search(rf"\b{shown}\b", body)):
             kept.append(name)
     if not kept:
         return ""
