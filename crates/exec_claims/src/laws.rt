@@ -77,9 +77,10 @@ pub fn exec_statuses_are_exact<F: Files>()
 }
 
 /// A call of `exec` whose file tells a listing, of sound code where its words ask for that, and whose
-/// words name an order of its processors, if any, has run the listed code under the order, and its status is that of what came of the run: it is
-/// over, all turns were given, a processor is stuck, or none can move. So it is where the status has
-/// its cause, memory wasn't wanting, no put and no fetch failed, and the files tell one text a name.
+/// words name an order of its processors, if any, has run the listed code under the order, and its
+/// status is that of what came of the run: it is over, all turns were given, a processor is stuck, or
+/// none can move. So it is where the status has its cause, memory wasn't wanting, no put and no fetch
+/// failed, and the files tell one text a name.
 pub fn listings_are_executed<F: Files>()
     ensures { (files : F) (words : List (List ℕ)) (ran : Execution) (status : ℕ) (told : List ℕ) →
         let call = call_of words (F.tells files) (F.may_fail files)
