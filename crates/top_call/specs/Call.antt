@@ -73,8 +73,8 @@ pub record IsRan (call : Call) (answered : Ran) (out errs : Stream) : Type 0 whe
   pub exact : answered.status ≢ PUT_FAILED
       → IsRunExact call (execution_of answered) answered.status
   -- Where the file tells an accepted program, and the turns are enough for it under the order that
-  -- the words ask for, the run is over, and out took just what the program means; unless memory was
-  -- wanting, or a put or a fetch failed.
+  -- the words ask for, the run is over, and out took just what the program means; unless the status is
+  -- 2, 9 or 10, or the files tell two texts under a name.
   pub finished : IsSettled call answered.status → (file : List ℕ) (asked : Asked)
       → IsRun call.words file asked → (n : ℕ) (can : CanFinish call file asked n)
       → HasFinished can (execution_of answered) answered.status
@@ -103,7 +103,7 @@ pub record IsListed (call : Call) (answered : Ran) (out errs : Stream) : Type 0 
   -- When each status comes.
   pub exact : answered.status ≢ PUT_FAILED → IsExact call (execution_of answered) answered.status
   -- Where the file tells an accepted program, out took the listing of what it is compiled to, and all
-  -- was done; unless memory was wanting, or a put or a fetch failed.
+  -- was done; unless the status is 2, 9 or 10, or the files tell two texts under a name.
   pub listed : IsSettled call answered.status → (file : List ℕ) (asked : Asked)
       → IsList call.words file asked → (can : CanList call file asked)
       → HasListed can (execution_of answered) answered.status
