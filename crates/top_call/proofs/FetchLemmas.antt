@@ -1,23 +1,23 @@
 -- No cause is that of a fetch that failed, where what the words name is fetched without fail.
-use Rattle.std.proofs.Common.{◌≡◌, ◌≢◌, ℕ, Bool, List, [], Option, Some, None, codes, refl, inl, inr, arith}
+use Rattle.std.proofs.Common.{◌≡◌, ◌≢◌, ℕ, Bool, List, Option, Some, None, codes, refl, inl, inr, arith}
 use Rattle.node_form.specs.declared.tables.Tables.{Tables}
 use Rattle.zpl_claims.specs.Build.{Build}
 use Rattle.time_call.specs.of_grid_runs.Run.{Run}
 use Rattle.call_claims.specs.Call.{Call}
 use Rattle.call_claims.specs.Cause.FileCause.{unreadable, too_long, work}
-use Rattle.call_claims.specs.Command.{Asked, Asks, CheckTakes, ExecTakes, IsCheck, IsCommandOf}
+use Rattle.call_claims.specs.Command.{Asked, CheckTakes, ExecTakes, IsCheck}
 use Rattle.call_claims.specs.Command.{IsExec, IsList, IsMean, IsRun, IsTime, ListTakes, MeanTakes}
 use Rattle.call_claims.specs.Command.{RunTakes, TimeTakes, build_of}
 use Rattle.call_claims.specs.Execution.{Execution}
 use Rattle.call_claims.specs.declared.status.TheConstants.{UNREADABLE}
 use Rattle.call_claims.proofs.OneLemmas.{of_given}
-use Rattle.mean_call.specs.of_mean_claims.Cause.{Cause as MeanCall, MeanCause, TextCause}
+use Rattle.mean_call.specs.of_mean_claims.Cause.{Cause as MeanCall, MeanCause}
 use Rattle.mean_call.specs.of_mean_claims.Cause.Cause.{no_memory as mean_wanting, mean}
 use Rattle.mean_call.specs.of_mean_claims.Cause.TextCause.{refused, unbound, done as means_done, trap as means_trap, turn_limit as means_more}
-use Rattle.check_call.specs.of_check_claims.Cause.{Cause as CheckCall, CheckCause, CheckFileCause}
+use Rattle.check_call.specs.of_check_claims.Cause.{Cause as CheckCall, CheckFileCause}
 use Rattle.check_call.specs.of_check_claims.Cause.Cause.{no_memory as check_wanting, check}
 use Rattle.check_call.specs.of_check_claims.Cause.CheckCause.{sound, fails as check_fails}
-use Rattle.check_call.specs.of_check_claims.of_exec_claims.Cause.{Cause as ExecCall, CheckFails, CodeCause}
+use Rattle.check_call.specs.of_check_claims.of_exec_claims.Cause.{Cause as ExecCall, CheckFails}
 use Rattle.check_call.specs.of_check_claims.of_exec_claims.Cause.{ListingFileCause, OrderCause, OrderFileCause}
 use Rattle.check_call.specs.of_check_claims.of_exec_claims.Cause.{RunCause}
 use Rattle.check_call.specs.of_check_claims.of_exec_claims.Cause.Cause.{no_memory as exec_wanting, exec}

@@ -1,5 +1,5 @@
 -- What calls answer that have all that they need from outside.
-use Rattle.std.proofs.Common.{◌≡◌, ◌≢◌, ◌≤◌, ℕ, List, Option, Some, None, MatchOption, Ok, codes, refl, sym, ◌∙◌, ap, subst, inl, inr, arith}
+use Rattle.std.proofs.Common.{◌≡◌, ◌≢◌, ◌≤◌, ℕ, List, Option, Some, None, MatchOption, Ok, codes, sym, ◌∙◌, ap, subst, inl, inr, arith}
 use Rattle.std.proofs.lemmas.Bool.{cases_eq}
 use Rattle.zpl_io.specs.Sink.{Takes}
 use Rattle.node_form.specs.declared.tables.Tables.{Tables}
@@ -229,6 +229,10 @@ module _ (call : Call) (ran : Ran) (out errs : Stream) (said : AreSaid call ran 
         (said.mean (file, asked, given)) given can;
     exec = λ file asked given sure can. exec_whole call ran out errs file asked sure put can given
         (said.exec (file, asked, given));
+    gen = λ n asked given. elim (cases_eq ran.status NO_MEMORY) [
+      | inl wanting ↦ inl wanting
+      | inr other ↦ inr (record { put = put; memory = other })
+    ];
   }
 
 -- of what came of a command
@@ -262,4 +266,5 @@ none_whole call ran before after none = record {
   list = λ file asked given. absurd (none.no_list file asked given);
   mean = λ file asked given. absurd (none.no_mean file asked given);
   exec = λ file asked given. absurd (none.no_exec file asked given);
+  gen = λ n asked given. absurd (none.no_gen n asked given);
 }

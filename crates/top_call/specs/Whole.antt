@@ -6,14 +6,14 @@
 --   OrNoMemory     this holds, or memory was wanting
 --   HasPrinted     a listing was run under an order, and out took what that has printed
 --   IsWhole        what such a call answers
-use Rattle.std.specs.Prelude.{◌≡◌, ◌⊎◌, ℕ, List, Option, Some}
+use Rattle.std.specs.Prelude.{◌≡◌, ◌⊎◌, ℕ, List, Some}
 use Rattle.zpl_io.specs.Sink.{Takes}
 use Rattle.call_claims.specs.declared.ran.Ran.{Ran}
 use Rattle.call_claims.specs.declared.status.TheConstants.{NO_MEMORY}
 use Rattle.call_claims.specs.Call.{Call}
-use Rattle.call_claims.specs.Command.{Asked, IsCheck, IsExec, IsList, IsMean, IsRun, IsTime}
-use Rattle.call_claims.specs.Command.{build_of}
-use Rattle.call_claims.specs.Decided.{IsSettled}
+use Rattle.call_claims.specs.Command.{Asked, IsCheck, IsExec, IsGen, IsList, IsMean, IsRun}
+use Rattle.call_claims.specs.Command.{IsTime, build_of}
+use Rattle.call_claims.specs.Decided.{IsDecided, IsSettled}
 use Rattle.call_claims.specs.Execution.{execution_of}
 use Rattle.time_call.specs.of_grid_runs.Run.{grid_at}
 use Rattle.listing_rows.specs.Listing.{listing_of}
@@ -57,8 +57,8 @@ pub record HasPrinted {call : Call} {file : List ℕ} {asked : Asked}
   pub counts : HasCounts (run_of can.code asked can.order) ran
   pub printed : Takes before (grid_at (run_of can.code asked can.order) ran.turns).printed after
 
--- Each field is of words that name a file which is there for sure, as is the order's. `before` and
--- `after` are what out told.
+-- What is said of words that name a file is said where that is there for sure, as is the order's.
+-- `before` and `after` are what out told.
 pub record IsWhole (call : Call) (ran : Ran) (before after : List ℕ → Type 0) : Type 0 where
   -- No put and no fetch failed, so that each status comes just where its own cause is.
   pub settled : (file : List ℕ) (asked : Asked) → NamesFile call.words file asked
@@ -84,3 +84,6 @@ pub record IsWhole (call : Call) (ran : Ran) (before after : List ℕ → Type 0
   pub exec : (file : List ℕ) (asked : Asked) → IsExec call.words file asked
       → AreSure call file asked → (can : CanExecute call file asked)
       → OrNoMemory ran.status (HasPrinted can ran before after)
+  -- `gen`: no put failed, so that each status comes just where its own cause is.
+  pub gen : (n : ℕ) (asked : Asked) → IsGen call.words n asked
+      → OrNoMemory ran.status (IsDecided ran.status)
