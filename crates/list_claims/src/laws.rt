@@ -32,9 +32,9 @@ pub fn list_statuses_are_exact<F: Files>()
         Cause call ran n told → IsExact call ran n }
 {}
 
-/// A call of `list` whose file tells an accepted program has listed it: what the program is compiled
-/// to was made, and the status is that of work that was done, where it has its cause and is none of 2,
-/// 9 and 10, and the files tell one text a name.
+/// A call of `list` whose file tells an accepted program has listed it: what the program is
+/// compiled to was made, and the status is that of work that was done, where it has its cause and
+/// is none of 2, 9 and 10, and the files tell one text a name.
 pub fn accepted_programs_are_listed<F: Files>()
     ensures { (files : F) (words : List (List ℕ)) (ran : Execution) (status : ℕ) (told : List ℕ) →
         let call = call_of words (F.tells files) (F.may_fail files)

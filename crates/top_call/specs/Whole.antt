@@ -1,5 +1,5 @@
--- Calls that have all that they need from outside, and what they answer: what is named here, or that
--- memory was wanting.
+-- Calls that have all that they need from outside, and what they answer: what is named here, or
+-- that memory was wanting.
 --
 --   NamesFile      the words are a command of a file
 --   AreSure        the files tell one text a name, and fetch without fail what the words name
@@ -48,8 +48,8 @@ pub record AreSure (call : Call) (file : List ℕ) (asked : Asked) : Type 0 wher
 abbrev pub OrNoMemory : ℕ → Type 0 → Type 0
 OrNoMemory status Holds = (status ≡ NO_MEMORY) ⊎ Holds
 
--- The listed code was run under the order, the counts are those of its grid after the given turns, and
--- out took what that grid has printed; the status is that of what came of the run.
+-- The listed code was run under the order, the counts are those of its grid after the given turns,
+-- and out took what that grid has printed; the status is that of what came of the run.
 pub record HasPrinted {call : Call} {file : List ℕ} {asked : Asked}
     (can : CanExecute call file asked) (ran : Ran) (before after : List ℕ → Type 0) : Type 0 where
   pub told : List ℕ
@@ -63,19 +63,20 @@ pub record IsWhole (call : Call) (ran : Ran) (before after : List ℕ → Type 0
   -- No put and no fetch failed, so that each status comes just where its own cause is.
   pub settled : (file : List ℕ) (asked : Asked) → NamesFile call.words file asked
       → AreSure call file asked → OrNoMemory ran.status (IsSettled call ran.status)
-  -- `run` of an accepted program that ends within the turns which are asked for, under an order of the
-  -- processors: the run is over as the program means, and out took just what that prints.
+  -- `run` of an accepted program that ends within the turns which are asked for, under an order of
+  -- the processors: the run is over as the program means, and out took just what that prints.
   pub run : (file : List ℕ) (asked : Asked) → IsRun call.words file asked
       → AreSure call file asked → (n : ℕ) (can : CanFinish call file asked n)
       → OrNoMemory ran.status (HasFinished can (execution_of ran) ran.status
       × Takes before (meant_by can).bytes after)
-  -- `list` of an accepted program: out took the listing of what it is compiled to, and all was done.
+  -- `list` of an accepted program: out took the listing of what it is compiled to, and all was
+  -- done.
   pub list : (file : List ℕ) (asked : Asked) → IsList call.words file asked
       → AreSure call file asked → (can : CanList call file asked)
       → OrNoMemory ran.status (HasListed can (execution_of ran) ran.status
       × Takes before (listing_of (compiled (build_of asked) can.program)) after)
-  -- `mean` of an accepted program that ends within the turns which are asked for: the status is that
-  -- of its end, and out took just what it means.
+  -- `mean` of an accepted program that ends within the turns which are asked for: the status is
+  -- that of its end, and out took just what it means.
   pub mean : (file : List ℕ) (asked : Asked) → IsMean call.words file asked
       → AreSure call file asked → (can : CanMean call file asked)
       → OrNoMemory ran.status (HasMeant can ran.status before after)

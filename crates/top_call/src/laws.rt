@@ -11,6 +11,7 @@ ghost use Rattle.top_call.specs.Whole.{AreSure};
 pub fn kept_files_are_sure()
     ensures { (files : KeptFiles) (words : List (List ℕ)) (file text : List ℕ) (asked : Asked) →
         files.failing ≡ [] → HasText files file text →
-        ((order : List ℕ) → asked.order ≡ Some order → (other : List ℕ) × HasText files order other) →
+        ((order : List ℕ) → asked.order ≡ Some order →
+        (other : List ℕ) × HasText files order other) →
         AreSure (call_of words (HasText files) (FailsNext files) (FailsLater files)) file asked }
 {}
