@@ -1,0 +1,4 @@
+pub mod Begun
+pub mod Kept
+pub mod Next
+pub mod Walk
