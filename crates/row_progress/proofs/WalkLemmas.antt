@@ -26,7 +26,7 @@ use Rattle.row_progress.specs.Begun.{IsBegun}
 use Rattle.row_progress.specs.Walk.{IsAlong, IsAtStart, IsKeeper, IsNoKeeper, turned}
 
 -- ---- rows
-abbrev IsNotInLast : Use → Type 0
+abbrev pub IsNotInLast : Use → Type 0
 IsNotInLast AtOnce = ⊤
 IsNotInLast InLast = ⊥
 IsNotInLast Asking = ⊤
@@ -35,7 +35,7 @@ found : {X : Type 0} (o : Option X) (row : X → Collective) (holds : Collective
 found None row holds all = tt
 found (Some x) row holds all = all x
 
-no_keeper : (code : Tables) (p : ℕ) (row : Instr) → IsNoKeeper row → OfRow code p row (λ c. IsNotInLast c.use_of_words)
+pub no_keeper : (code : Tables) (p : ℕ) (row : Instr) → IsNoKeeper row → OfRow code p row (λ c. IsNotInLast c.use_of_words)
 no_keeper code p (instr.Start exchange) is =
     found (slice_get code.exchanges exchange) (started code p exchange) (λ c. IsNotInLast c.use_of_words) (λ items. tt)
 no_keeper code p (instr.Finish exchange) is =
@@ -47,7 +47,7 @@ no_keeper code p (instr.Remap array slot from parts) is =
     found (slice_get code.arrays from) (remapped code p array slot from (filter_map (λ part. part) parts)) (λ c. IsNotInLast c.use_of_words) (λ read. tt)
 no_keeper code p row is = absurd is
 
-keeps_none : (code : Tables) (p : ℕ) (kind : Use) (row : Collective) (local : Local) → IsNotInLast kind → local.kept ≡ [] → KeepsWords code p kind row local
+pub keeps_none : (code : Tables) (p : ℕ) (kind : Use) (row : Collective) (local : Local) → IsNotInLast kind → local.kept ≡ [] → KeepsWords code p kind row local
 keeps_none code p AtOnce row local is none = none
 keeps_none code p InLast row local is none = absurd is
 keeps_none code p Asking row local is none = (

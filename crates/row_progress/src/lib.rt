@@ -3,6 +3,8 @@
 #![tactic(auto)]
 
 mod keepers;
+mod keeping;
+mod kinds;
 mod progress;
 mod senders;
 mod sizes;
@@ -13,4 +15,4 @@ mod words;
 
 pub use progress::Progress;
 pub use starts::begun;
-pub use tests::is_far;
+pub use tests::{begins_kept, is_far, may_keep};

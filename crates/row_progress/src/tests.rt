@@ -1,6 +1,6 @@
-//! How far a processor may be.
-ghost use Rattle.std.specs.Prelude.{◌≡◌, ◌<◌, ◌≤◌, ◌⊎◌, ◌↔◌, ℕ, ℤ, List, IsTrue, Some, is_some};
-ghost use Rattle.std.specs.Prelude.{length, slice_get};
+//! How far a processor may be, and which words it may keep.
+ghost use Rattle.std.specs.Prelude.{◌≡◌, ◌<◌, ◌≤◌, ◌⊎◌, ◌↔◌, ℕ, ℤ, List, [], IfOk, IsTrue, Some};
+ghost use Rattle.std.specs.Prelude.{is_some, length, map, slice_get};
 ghost use Rattle.std.specs.List.{AllZip};
 ghost use Rattle.std.specs.Option.{option_map};
 ghost use Rattle.zpl_region.specs.Region.{members};
@@ -9,19 +9,23 @@ ghost use Rattle.grid_meaning.specs.Local.{processors};
 ghost use Rattle.grid_meaning.specs.Place.{own_part};
 ghost use Rattle.grid_meaning.specs.State.{IsSlot};
 ghost use Rattle.grid_meaning.specs.Stored.{arrangement_of};
-ghost use Rattle.grid_save.specs.Reads.{IsFar, IsFarAt};
+ghost use Rattle.node_local.specs.Standing.{entry_of};
+ghost use Rattle.grid_save.specs.Reads.{IsFar, IsFarAt, MayBegin, MayKeep};
 ghost use Rattle.row_progress.specs.Begun.{AreTold, IsBegun, stands};
 ghost use Rattle.row_progress.specs.Next.{IsNext, asked_of, next_row};
 
 use crate::keepers::region_in;
+use crate::keeping::{begins_words, keeping_of, keeps_words};
+use crate::kinds::Keeping;
 use crate::progress::Progress;
 use crate::sizes::tuples;
 use crate::walks::is_under;
 use grid_layout::Layout;
 use node_form::{Instr, NodeProgram, rows_fit};
-use node_local::Local;
+use node_local::{Kept, Local};
 use node_stages::own_tuples;
 use row_turn::is_together;
+use std::alloc::{AllocError, Global};
 
 /// The row that a processor is in; none where it has ended, or is behind the last instruction.
 fn row_of<'a>(code: &'a NodeProgram, local: &Local) -> Option<&'a Instr>
@@ -123,5 +127,84 @@ pub fn is_far(
     match row_of(code, local) {
         Some(row) => is_row_far(code, layout, p, local, row, far, told),
         None => true,
+    }
+}
+
+/// Whether no words are kept.
+fn is_none(kept: &[Kept]) -> bool
+    ensures { IsTrue result ↔ (map entry_of kept.now ≡ []) }
+{
+    kept.len() == 0
+}
+
+/// Whether these words are the first of some that a processor may keep where it is. A processor that
+/// is at a `remap` with requests isn't looked at yet: that is an error as for want of memory.
+pub fn begins_kept(
+    alloc: Global,
+    code: &NodeProgram,
+    layout: &Layout,
+    p: u32,
+    local: &mut Local,
+    far: &Progress,
+    kept: &[Kept],
+) -> Result<bool, AllocError>
+    requires layout { layout.now ≡ arrangement_of code.now }
+    requires begun { IsBegun code.now p local.old }
+    requires values { AreTold code.now p (stands local.old.local far.now) }
+    requires far { (told : List (ℕ × List ℤ))
+        × IsFar code.now p (stands local.old.local far.now) told (is_some local.old.local.ended) }
+    ensures begins { IfOk result (λ yes. IsTrue yes
+        ↔ MayBegin code.now p (stands local.old.local far.now) (map entry_of kept.now)) }
+    ensures same { IfOk result (λ _. local.new ≡ local.old) }
+{
+    let Some(row) = row_of(code, local) else {
+        return Ok(is_none(kept));
+    };
+    match keeping_of(row) {
+        Keeping::Words => begins_words(alloc, code, layout, p, local, row, far, kept),
+        Keeping::Requests => {
+            if is_none(kept) {
+                Ok(true)
+            } else {
+                Err(AllocError)
+            }
+        }
+        Keeping::Nothing => Ok(is_none(kept)),
+    }
+}
+
+/// Whether a processor may keep just these words where it is. Of requests the same is said as of
+/// [`begins_kept`].
+pub fn may_keep(
+    alloc: Global,
+    code: &NodeProgram,
+    layout: &Layout,
+    p: u32,
+    local: &mut Local,
+    far: &Progress,
+    kept: &[Kept],
+) -> Result<bool, AllocError>
+    requires layout { layout.now ≡ arrangement_of code.now }
+    requires begun { IsBegun code.now p local.old }
+    requires values { AreTold code.now p (stands local.old.local far.now) }
+    requires far { IsFar code.now p (stands local.old.local far.now) (map entry_of kept.now)
+        (is_some local.old.local.ended) }
+    ensures keeps { IfOk result (λ yes. IsTrue yes
+        ↔ MayKeep code.now p (stands local.old.local far.now) (map entry_of kept.now)) }
+    ensures same { IfOk result (λ _. local.new ≡ local.old) }
+{
+    let Some(row) = row_of(code, local) else {
+        return Ok(is_none(kept));
+    };
+    match keeping_of(row) {
+        Keeping::Words => keeps_words(alloc, code, layout, p, local, row, far, kept),
+        Keeping::Requests => {
+            if is_none(kept) {
+                Ok(true)
+            } else {
+                Err(AllocError)
+            }
+        }
+        Keeping::Nothing => Ok(is_none(kept)),
     }
 }

@@ -107,8 +107,11 @@ pub(crate) fn are_front(
     for i in 0..kept.len() {
         let one = &kept[i];
         let from = senders[i];
-        let many = one.words.as_slice().len() as u64;
-        if one.from != from || !keeper_awaits(code, layout, p, local, row, from, many) {
+        if one.from != from {
+            return false;
+        }
+        let words = one.words.as_slice();
+        if !keeper_awaits(code, layout, p, local, row, from, words.len() as u64) {
             return false;
         }
     }
