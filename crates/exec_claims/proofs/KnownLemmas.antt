@@ -15,7 +15,7 @@ use Rattle.exec_claims.specs.Cause.ListingCause.{bad_line, bad_table, listed}
 use Rattle.exec_claims.specs.Cause.Cause.{no_memory, exec}
 use Rattle.exec_claims.proofs.CheckLemmas.{fails_other}
 
-run_known : {run : Run} {report : Bool} {k n : ℕ} {told : List ℕ} → RunCause run report k n told
+pub run_known : {run : Run} {report : Bool} {k n : ℕ} {told : List ℕ} → RunCause run report k n told
     → n ≢ USAGE
 run_known (done e) = λ h. omega arith
 run_known (trap kind line e) = λ h. omega arith

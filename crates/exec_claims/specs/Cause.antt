@@ -97,7 +97,8 @@ OrderFileCause call code asked turns (Some file) =
     TextCause call file (call.may_fail_later file) (turns ≡ 0) (OrderCause code asked turns)
 
 -- ---- the check of code
--- The demand of an instruction isn't met, the first such; or the code is too large for a check.
+-- The code isn't sound: the demand of this instruction isn't met; or the code is too large for a
+-- check.
 pub data CheckFails (code : Tables) : ℕ → List ℕ → Type 0 where
   unsound : (at : ℕ) → IsFaulty code (Unsound at) → CheckFails code UNSOUND (unsound_text at)
   too_large : IsFaulty code TooLarge → CheckFails code CHECK_LIMIT check_limit_text
