@@ -9,7 +9,7 @@ empty line. The command, where it isn't `run`, stands in a line `Command: WORD` 
 A run of a listing is a text in examples/listings, with such lines and `Listing: FILE`; a line `Order: ITEM ..` has the text of its order,
 and a line `Status: N` the status where that isn't 0.
 
-The code of each program that isn't refused is sound: `check` accepts what `list` makes of it, for two grids, without letters, with each and with all.
+The code of each program that isn't refused is sound: `check` accepts what `list` makes of it for a grid of 2 by 2, without letters and with all.
 """
 import glob
 import os
@@ -21,8 +21,7 @@ import tempfile
 
 PROGRAM = os.path.abspath("crates/zplgrid/out/zplgrid")
 STATUSES = {"Prints:": 0, "Refused:": 4, "Traps:": 7}
-GRIDS = ("1", "2x2")
-LETTERS = ("", *"fcrmet", "fcrmet")
+LETTERS = ("", "fcrmet")
 
 
 def told_in(text):
@@ -88,17 +87,16 @@ def of_listing(place, path):
 
 
 def told_of_code(place, path):
-    """What `check` tells of the code of an example, for each grid and each set of letters."""
+    """What `check` tells of the code of an example, without letters and with all."""
     with open(path, encoding="utf-8") as file:
         settings = [it for it in words_in(file.read(), "run")[2:] if ":=" in it]
-    for grid in GRIDS:
-        for letters in LETTERS:
-            built = [f"grid={grid}", *([f"opt={letters}"] if letters else [])]
-            with open(f"{place}/code.lst", "wb") as listing:
-                subprocess.run([PROGRAM, "list", path, *built, *settings], stdin=subprocess.DEVNULL, stdout=listing, check=False)
-            ran = subprocess.run([PROGRAM, "check", "code.lst"], cwd=place, stdin=subprocess.DEVNULL,
-                                 stdout=subprocess.PIPE, stderr=subprocess.STDOUT, text=True, check=False)
-            yield " ".join(built), ran.stdout
+    for letters in LETTERS:
+        built = ["grid=2x2", *([f"opt={letters}"] if letters else [])]
+        with open(f"{place}/code.lst", "wb") as listing:
+            subprocess.run([PROGRAM, "list", path, *settings, *built], stdin=subprocess.DEVNULL, stdout=listing, check=False)
+        ran = subprocess.run([PROGRAM, "check", "code.lst"], cwd=place, stdin=subprocess.DEVNULL,
+                             stdout=subprocess.PIPE, stderr=subprocess.STDOUT, text=True, check=False)
+        yield " ".join(built), ran.stdout
 
 
 def main():
