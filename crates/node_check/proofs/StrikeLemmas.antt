@@ -14,11 +14,11 @@ use Rattle.node_form.specs.declared.instructions.Instr.TheVariants as instr
 use Rattle.node_form.specs.declared.instructions.RegionForm.{RegionForm}
 use Rattle.node_form.specs.declared.tables.Tables.{Tables}
 use Rattle.code_parts.specs.Uses.{scalars_in, words_of}
-use Rattle.code_parts.proofs.ListLemmas.{In, contained, filtered, from_each, from_mapped, in_append, in_list, one_passes, unfiltered}
+use Rattle.code_parts.proofs.ListLemmas.{In, contained, filtered, from_each, from_mapped, in_append, in_list, Passes, one_passes, unfiltered}
 use Rattle.node_check.specs.Fact.{Fact, Agree, Border, Held, Made, Stands, Uniform}
 use Rattle.node_check.specs.Front.{Point}
 use Rattle.node_check.specs.Learn.{is_side, is_uniform, learnt, loses, made, made_where, region_in, regions_of, tells_uniform}
-use Rattle.node_check.specs.Path.{AreFacts, Comes, Follows, nexts, open_behind}
+use Rattle.node_check.specs.Path.{Follows, nexts, open_behind}
 use Rattle.node_check.specs.Settled.{IsGood, IsGoodAt, IsKept, IsOpenWithin, StartsWith, most_open, none_of, nones, room, size_of, sizes}
 use Rattle.node_check.specs.Walk.{front_at}
 use Rattle.node_check.specs.declared.strikes.Mark.{Mark}
@@ -89,18 +89,16 @@ one_left lost one none fact (inr h) = absurd h
 
 where_left : (lost : List ℕ) (b : Bool) (one : Fact) → (b ≡ true → is_lost lost one ≡ false)
     → AreLeft lost (made_where b one)
-where_left lost true one none = one_left lost one (none refl)
+where_left lost true one none fact h = one_left lost one (none refl) fact h
 where_left lost false one none fact h = absurd h
 
 -- ---- uniform scalars
 told_left : (lost : List ℕ) (facts : List Fact) → AreLeft lost facts → (scalar : ℕ)
     → list_any (tells_uniform scalar) facts ≡ true → bit_of lost (2 * scalar) ≡ false
 told_left lost facts left scalar told =
+    let one : Passes (tells_uniform scalar) facts = one_passes (tells_uniform scalar) facts told in
     by one.x (left one.x one.there) one.passes
   where
-    one : _
-    one = one_passes (tells_uniform scalar) facts told
-
     by : (fact : Fact) → is_lost lost fact ≡ false → tells_uniform scalar fact ≡ true
         → bit_of lost (2 * scalar) ≡ false
     by (Uniform other) none is =

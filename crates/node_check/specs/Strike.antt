@@ -1,6 +1,6 @@
 -- Uniform scalars, and slots with known regions, that no sets of facts have: what is lost, as a set
 -- of numbers. The number of a scalar is even, and that of a slot is odd.
-use Rattle.std.specs.Prelude.{◌≡◌, ◌≢◌, ℕ, ◌+◌, ◌*◌, Bool, true, false, not, List, [], ◌∷◌, filter, flat_map}
+use Rattle.std.specs.Prelude.{◌≡◌, ◌≢◌, ℕ, ◌+◌, ◌*◌, Bool, false, not, List, filter, flat_map}
 use Rattle.std.specs.Prelude.{Option, Some, None, slice_get, unwrap_or, if◌then◌else◌}
 use Rattle.std.specs.List.{list_all}
 use Rattle.bit_sets.specs.Bits.{bit_of}

@@ -253,7 +253,11 @@ fn is_mark_new(mark: &Option<Mark>) -> bool {
 }
 
 /// Carries on what is new at goals, until there is no more.
-fn carry_all(alloc: Global, tables: &Tables, marks: &mut Vec<Option<Mark>>) -> Result<(), AllocError>
+fn carry_all(
+    alloc: Global,
+    tables: &Tables,
+    marks: &mut Vec<Option<Mark>>,
+) -> Result<(), AllocError>
     requires fits { Fits tables.now }
     requires many { length marks.old.items ≡ length tables.now.code + 1 }
     requires marks { AreMarks tables.now marks.old.items }

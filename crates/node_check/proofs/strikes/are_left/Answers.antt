@@ -1,4 +1,4 @@
-use Rattle.std.proofs.Common.{◌≡◌, ◌∙◌, ◌*◌, not, sym, ap, arith}
+use Rattle.std.proofs.Common.{◌∙◌, ◌*◌, not, sym, ap, arith}
 use Rattle.std.specs.Prelude.{flat_map}
 use Rattle.std.specs.List.{list_all}
 use Rattle.bit_sets.specs.Bits.{bit_of}

@@ -1,4 +1,4 @@
-use Rattle.std.proofs.Common.{◌≡◌, ◌+◌, ◌<◌, ap, arith, length, subst, sym}
+use Rattle.std.proofs.Common.{◌<◌, ap, arith, length, subst, sym}
 use Rattle.node_check.specs.Settled.{IsGoodAt}
 use Rattle.node_check.specs.Strike.{IsMarkAt, mark_at}
 use Rattle.node_check.proofs.StrikeLemmas.{at_front, long_marks, more_marks}
