@@ -1,5 +1,5 @@
-//! Uniform scalars, and slots with known regions, that no sets of facts have at goals. What is lost at
-//! one goal is carried on to others along a work list, so that few walks over facts are left.
+//! Uniform scalars, and slots with known regions, that no sets of facts have at goals. What is lost
+//! at one goal is carried on to others along a work list, so that few walks over facts are left.
 ghost use Rattle.std.specs.Prelude.{
   ◌≡◌,
   ◌+◌,
@@ -343,8 +343,8 @@ fn strike(slot: &mut Option<Front>, mark: &Option<Mark>)
 
 fn strike_all(fronts: &mut Vec<Option<Front>>, marks: &[Option<Mark>])
     requires { length marks.now ≡ length fronts.old.items }
-    ensures each { (at : ℕ) →
-        front_at fronts.new.items at ≡ struck (mark_at marks.now at) (front_at fronts.old.items at) }
+    ensures each { (at : ℕ) → front_at fronts.new.items at
+        ≡ struck (mark_at marks.now at) (front_at fronts.old.items at) }
     ensures many { length fronts.new.items ≡ length fronts.old.items }
 {
     for i in 0..fronts.len() {

@@ -292,8 +292,8 @@ fn walk_along(alloc: Global, tables: &Tables, fronts: Vec<Option<Front>>) -> Res
     })
 }
 
-// Walks until a goal is reached for the first time, or none loses a fact. What else is lost by what a
-// walk has lost is struck out before the next one.
+// Walks until a goal is reached for the first time, or none loses a fact. What else goes along with
+// what a walk has lost is struck out before the next one.
 fn settle(alloc: Global, tables: &Tables, fronts: Vec<Option<Front>>) -> Result<Run, AllocError>
     requires fits { Fits tables.now }
     requires kept { IsKept tables.now fronts.items }
