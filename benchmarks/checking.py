@@ -57,7 +57,7 @@ def main():
                 with open(listing, "wb") as file:
                     subprocess.run([program, "list", text, "grid=2x2"], stdout=file, check=True)
                 timed(f"{count} {name}")
-        for count in (100, 200, 400):
+        for count in (100, 200, 400, 800, 1600, 5400):
             with open(listing, "w", encoding="ascii") as file:
                 file.write(chain(count))
             timed(f"a chain of {count} slots in a loop")

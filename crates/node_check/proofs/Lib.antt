@@ -20,3 +20,4 @@ pub mod CodeLemmas
 pub mod ValidLemmas
 pub mod BoundLemmas
 mod Examples
+mod StrikeLemmas

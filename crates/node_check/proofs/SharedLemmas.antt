@@ -31,7 +31,7 @@ of_both mine others fact h there =
     (some_passes (is_fact fact) others fact there (same_fact fact))
 
 -- ---- a filter that keeps as many keeps all
-no_longer : {X : Type 0} (test : X → Bool) (xs : List X) → length (filter test xs) ≤ length xs
+pub no_longer : {X : Type 0} (test : X → Bool) (xs : List X) → length (filter test xs) ≤ length xs
 no_longer test [] = omega arith
 no_longer test (x ∷ xs) = by (test x) (no_longer test xs)
   where

@@ -10,3 +10,4 @@ pub mod Front
 pub mod Walk
 pub mod Settled
 pub mod Verdict
+pub mod Strike

@@ -11,7 +11,7 @@ use std::alloc::Global;
 /// How many instructions, scalars, slots and members there may be together.
 const LIMIT: u64 = 16_384;
 
-/// Code that no order of turns makes stuck.
+/// Code that is sound, and how many messages links have to hold.
 #[derive(Clone, Copy)]
 pub struct Checked<'c> {
     code: &'c NodeProgram,

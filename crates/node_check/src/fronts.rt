@@ -6,6 +6,8 @@ use crate::demands::is_met;
 use crate::facts::Fact;
 use crate::makes::learnt;
 use crate::starts::{opened_behind, shared_facts, start_facts};
+use crate::strikes::is_lost;
+use bit_sets::BitSet;
 use node_form::{Instr, Tables};
 use std::alloc::{AllocError, Global};
 use std::marker::Model;
@@ -32,6 +34,7 @@ impl Model for Front {
 impl Front {
     ghost use Rattle.node_check.specs.Demand.{is_met};
     ghost use Rattle.node_check.specs.Front.{behind, has_less, met, start_point};
+    ghost use Rattle.node_check.specs.Strike.{left_of};
 
     /// What is known at the start.
     pub(crate) fn start(alloc: Global, tables: &Tables) -> Result<Front, AllocError>
@@ -82,6 +85,20 @@ impl Front {
         let lost = shared.len() < self.facts.len();
         self.facts = shared;
         Ok(lost)
+    }
+
+    /// The facts.
+    pub(crate) fn facts(&self) -> &[Fact]
+        ensures { result.now ≡ self.now.facts }
+    {
+        self.facts.as_slice()
+    }
+
+    /// Leaves out facts that are lost.
+    pub(crate) fn strike(&mut self, lost: &BitSet)
+        ensures { self.new ≡ left_of lost.now self.old }
+    {
+        self.facts.retain(|fact| !is_lost(lost, fact));
     }
 
     /// Whether the instruction's demand is met.

@@ -1,4 +1,4 @@
-//! Sound node code: code that no order of turns can make stuck, and its validator.
+//! Sound node code, and its validator.
 //!
 //! The functions of `laws` do nothing: each has a law as its contract, and a call brings the law
 //! into a proof.
@@ -17,6 +17,7 @@ mod losses;
 mod makes;
 mod places;
 mod starts;
+mod strikes;
 mod verdicts;
 mod walks;
 

@@ -16,6 +16,7 @@ ghost use Rattle.node_check.specs.Walk.{
 ghost use Rattle.node_check.specs.Settled.{GoesWithin, IsKept, IsSettled, nones};
 
 use crate::fronts::Front;
+use crate::strikes::strike_lost;
 use node_form::{Instr, Tables, rows_fit};
 use std::alloc::{AllocError, Global};
 use std::marker::Model;
@@ -291,7 +292,8 @@ fn walk_along(alloc: Global, tables: &Tables, fronts: Vec<Option<Front>>) -> Res
     })
 }
 
-// Walks until a goal is reached for the first time, or none loses a fact.
+// Walks until a goal is reached for the first time, or none loses a fact. What else goes along with
+// what a walk has lost is struck out before the next one.
 fn settle(alloc: Global, tables: &Tables, fronts: Vec<Option<Front>>) -> Result<Run, AllocError>
     requires fits { Fits tables.now }
     requires kept { IsKept tables.now fronts.items }
@@ -321,5 +323,6 @@ fn settle(alloc: Global, tables: &Tables, fronts: Vec<Option<Front>>) -> Result<
                 lost: false,
             });
         }
+        strike_lost(alloc, tables, &mut now)?;
     }
 }

@@ -36,10 +36,11 @@ returns-then-not-lost-clause-settled c = λ is.
 
 pub turns-smaller : goal.turns-smaller
 turns-smaller c =
-    subst (λ fronts. sizes fronts < sizes c.turns.now.items) (sym c.in_ok-run.ensures.fronts)
-    (walk_loses c.args.tables.now c.turns.now.items c.requires.fits c.turns.invariant.kept.right
-    (sym c.in_ok-run.ensures.reached ∙ c.if-reached.false)
-    (sym c.in_ok-run.ensures.lost ∙ c.if-not-lost.false))
+    let less = walk_loses c.args.tables.now c.turns.now.items c.requires.fits
+    c.turns.invariant.kept.right (sym c.in_ok-run.ensures.reached ∙ c.if-reached.false)
+    (sym c.in_ok-run.ensures.lost ∙ c.if-not-lost.false) in
+    let same = ap sizes c.in_ok-run.ensures.fronts in
+    omega (arith, less, same, c.in_ok-strike_lost.ensures.fewer)
 
 pub turns-preserved : goal.turns-preserved
 turns-preserved c =
@@ -47,8 +48,11 @@ turns-preserved c =
     c.turns.invariant.kept.right in
     let same = ap nones c.in_ok-run.ensures.fronts in
     record {
-      kept =
-          subst (λ fronts. IsKept c.args.tables.now fronts) (sym c.in_ok-run.ensures.fronts)
-          (walk_kept c.args.tables.now c.turns.now.items c.requires.fits c.turns.invariant.kept);
-      fewer = omega (arith, less, c.turns.invariant.fewer, same);
+      kept = c.in_ok-strike_lost.ensures.kept;
+      fewer = omega (arith, less, c.turns.invariant.fewer, same, c.in_ok-strike_lost.ensures.same);
     }
+
+pub strike_lost-requires-clause-kept : goal.strike_lost-requires-clause-kept
+strike_lost-requires-clause-kept c =
+    subst (λ fronts. IsKept c.args.tables.now fronts) (sym c.in_ok-run.ensures.fronts)
+    (walk_kept c.args.tables.now c.turns.now.items c.requires.fits c.turns.invariant.kept)
