@@ -70,16 +70,16 @@ module _ (code : Tables) (p : ℕ) (inside : p < processors code) where
 
   module _ (fits : Fits code) (rows : (tables : Tables) (i : ℕ) (row : Instr) → Fits tables → slice_get tables.code i ≡ Some row → FitsInstr tables row)
     where
-    if_fits : (at : ℕ) (found : Option Instr) → slice_get code.code at ≡ found → IfFits code found
-    if_fits at None is = tt
-    if_fits at (Some row) is = rows code at row fits is
+      if_fits : (at : ℕ) (found : Option Instr) → slice_get code.code at ≡ found → IfFits code found
+      if_fits at None is = tt
+      if_fits at (Some row) is = rows code at row fits is
 
-    -- with these parts a processor may be there
-    pub begun_local : (local : Local) → HasParts code p local → local.at ≤ length code.code → IsOutside local → IsFresh local → IsLocal code p local
-    begun_local local parts within outside fresh = record {
-      number = inside;
-      parts = parts;
-      at = within;
-      running = λ none. begins_at local (slice_get code.code local.at) (if_fits local.at (slice_get code.code local.at) refl) parts outside fresh;
-      over = λ some. (outside, fresh);
-    }
+      -- with these parts a processor may be there
+      pub begun_local : (local : Local) → HasParts code p local → local.at ≤ length code.code → IsOutside local → IsFresh local → IsLocal code p local
+      begun_local local parts within outside fresh = record {
+        number = inside;
+        parts = parts;
+        at = within;
+        running = λ none. begins_at local (slice_get code.code local.at) (if_fits local.at (slice_get code.code local.at) refl) parts outside fresh;
+        over = λ some. (outside, fresh);
+      }

@@ -67,9 +67,9 @@ module _ (code : Tables) (p : ℕ) (w : Workplace) (row : Instr) (start : IsAtSt
 
   pub not_awaited : (many : ℕ) → many ≡ length e.words → e.from ≡ get_or senders i 0
       → OfRow code p row (λ c. c.awaits local (get_or senders i 0) many ≡ false) → OfRow code p row (FrontFrom i) → OfRow code p row NoFront
-  not_awaited many count same no so =
+  not_awaited many count same refused so =
       let r = is_row code p row start.together start.fits in
-      let never = of_row code p row (λ c. c.awaits local (get_or senders i 0) many ≡ false) r no in
+      let never = of_row code p row (λ c. c.awaits local (get_or senders i 0) many ≡ false) r refused in
       subst (λ o. IfSome o NoFront) (sym r.is)
       (of_row code p row (FrontFrom i) r so
       ∙ (by_sender (r.together.awaits local) senders kept i e there room is same
@@ -78,9 +78,9 @@ module _ (code : Tables) (p : ℕ) (w : Workplace) (row : Instr) (start : IsAtSt
 
   pub one_awaited : (many : ℕ) → many ≡ length e.words → e.from ≡ get_or senders i 0
       → OfRow code p row (λ c. c.awaits local (get_or senders i 0) many ≡ true) → OfRow code p row (FrontFrom i) → OfRow code p row (FrontFrom (i + 1))
-  one_awaited many count same yes so =
+  one_awaited many count same taken so =
       let r = is_row code p row start.together start.fits in
-      let always = of_row code p row (λ c. c.awaits local (get_or senders i 0) many ≡ true) r yes in
+      let always = of_row code p row (λ c. c.awaits local (get_or senders i 0) many ≡ true) r taken in
       subst (λ o. IfSome o (FrontFrom (i + 1))) (sym r.is)
       (of_row code p row (FrontFrom i) r so
       ∙ (by_sender (r.together.awaits local) senders kept i e there room is same
@@ -90,20 +90,20 @@ module _ (code : Tables) (p : ℕ) (w : Workplace) (row : Instr) (start : IsAtSt
 -- ---- what the test means
 pub front_means : (awaits : ℕ → ℕ → Bool) (list : List ℕ) (kept : List (ℕ × List ℤ)) → are_front awaits list kept ≡ true
     → IsFrontOf (map (λ entry. entry.0) kept) list × All (λ entry. awaits entry.0 (length entry.1) ≡ true) kept
-front_means awaits list [] yes = (record { rest = list; joins = refl }, All-nil (λ entry. awaits entry.0 (length entry.1) ≡ true))
-front_means awaits [] (entry ∷ kept) yes = cc
-front_means awaits (q ∷ list) (entry ∷ kept) yes = by (entry.0 == q) refl (awaits entry.0 (length entry.1)) refl yes
+front_means awaits list [] passed = (record { rest = list; joins = refl }, All-nil (λ entry. awaits entry.0 (length entry.1) ≡ true))
+front_means awaits [] (entry ∷ kept) passed = cc
+front_means awaits (q ∷ list) (entry ∷ kept) passed = by (entry.0 == q) refl (awaits entry.0 (length entry.1)) refl passed (front_means awaits list kept)
   where
     by : (same : Bool) → (entry.0 == q) ≡ same → (many : Bool) → awaits entry.0 (length entry.1) ≡ many → (same && (many && are_front awaits list kept)) ≡ true
+        → (are_front awaits list kept ≡ true → IsFrontOf (map (λ (e : ℕ × List ℤ). e.0) kept) list × All (λ (e : ℕ × List ℤ). awaits e.0 (length e.1) ≡ true) kept)
         → IsFrontOf (entry.0 ∷ map (λ (e : ℕ × List ℤ). e.0) kept) (q ∷ list) × All (λ (e : ℕ × List ℤ). awaits e.0 (length e.1) ≡ true) (entry ∷ kept)
-    by true is true counted yes =
-        let more = front_means awaits list kept yes in
-        (
+    by true is true counted passed means =
+        let more = means passed in (
           record { rest = more.0.rest; joins = ap (λ n. n ∷ list) (sym (eqb-true entry.0 q is)) ∙ ap (λ l. entry.0 ∷ l) more.0.joins },
           All-cons (λ (e : ℕ × List ℤ). awaits e.0 (length e.1) ≡ true) entry kept counted more.1,
         )
-    by true is false counted yes = cc
-    by false is many counted yes = cc
+    by true is false counted passed means = cc
+    by false is many counted passed means = cc
 
 pub means_front : (awaits : ℕ → ℕ → Bool) (list : List ℕ) (kept : List (ℕ × List ℤ)) → IsFrontOf (map (λ entry. entry.0) kept) list
     → All (λ entry. awaits entry.0 (length entry.1) ≡ true) kept → are_front awaits list kept ≡ true

@@ -107,10 +107,10 @@ pub record IsPlain (code : Tables) (p : ℕ) (row : Instr) : Type 0 where
   pub far : (v : Local) (words : List (ℕ × List ℤ)) → IsFarAt code p v words (Some row) → IsUnder (collective code p row) (with_kept v words)
   pub outside : (v : Local) → MayStandAt code v (Some row) → IsOutside v
 
-abbrev IsLoop : Instr → Type 0
+abbrev pub IsLoop : Instr → Type 0
 IsLoop row = (slot : ℕ) × (group : ℕ) × (row ≡ instr.Loop slot group)
 
-plain_or_loop : (code : Tables) (p : ℕ) (row : Instr) → IsLoop row ⊎ IsPlain code p row
+pub plain_or_loop : (code : Tables) (p : ℕ) (row : Instr) → IsLoop row ⊎ IsPlain code p row
 plain_or_loop code p (instr.Loop slot group) = inl (slot, group, refl)
 plain_or_loop code p row = inr (record { at = λ l h. h; back = λ l h. h; far = λ v words h. h; outside = λ v h. h })
 
@@ -187,23 +187,23 @@ module _ (code : Tables) (p : ℕ) (local : Local) (far : Progress) (kept : List
       by (Some end) is may = (λ h. h, λ h. h)
 
   -- ---- at a row
-  begins_next : (row : Instr) → IsNext code local row → (X : Type 0) → (X ↔ BeginsAt code p l (Some row)) → X ↔ MayBegin code p v kept
+  pub begins_next : (row : Instr) → IsNext code local row → (X : Type 0) → (X ↔ BeginsAt code p l (Some row)) → X ↔ MayBegin code p v kept
   begins_next row next X h =
       subst (λ ended. X ↔ BeginsAs code p l (is_some ended)) (sym next.running) (subst (λ found. X ↔ BeginsAt code p l found) (sym next.here) h)
 
-  keeps_next : (row : Instr) → IsNext code local row → (X : Type 0) → (X ↔ IsAt code p l (Some row)) → X ↔ MayKeep code p v kept
+  pub keeps_next : (row : Instr) → IsNext code local row → (X : Type 0) → (X ↔ IsAt code p l (Some row)) → X ↔ MayKeep code p v kept
   keeps_next row next X h =
       subst (λ ended. X ↔ MayKeepAs code p l (is_some ended)) (sym next.running) (subst (λ found. X ↔ IsAt code p l found) (sym next.here) h)
 
-  far_next : (row : Instr) → IsNext code local row → IsFar code p v kept (is_some local.ended) → IsFarAt code p v kept (Some row)
+  pub far_next : (row : Instr) → IsNext code local row → IsFar code p v kept (is_some local.ended) → IsFarAt code p v kept (Some row)
   far_next row next far_is =
       subst (IsFarAt code p v kept) next.here (subst (λ ended. IsFar code p v kept (is_some ended)) next.running far_is)
 
-  stand_next : (row : Instr) → IsNext code local row → MayStand code v (is_some local.ended) → MayStandAt code v (Some row)
+  pub stand_next : (row : Instr) → IsNext code local row → MayStand code v (is_some local.ended) → MayStandAt code v (Some row)
   stand_next row next may =
       subst (MayStandAt code v) next.here (subst (λ ended. MayStand code v (is_some ended)) next.running may)
 
-  outside_too : IsOutside v → IsOutside l
+  pub outside_too : IsOutside v → IsOutside l
   outside_too o = record { index = o.index; member = o.member }
 
   -- no words are kept
@@ -225,23 +225,23 @@ module _ (code : Tables) (p : ℕ) (local : Local) (far : Progress) (kept : List
 
   -- ---- a row that keeps words until its last turn looks at its slots alone
   record IsKeeperFor (c : Collective) : Type 0 where
-    use : c.use_of_words ≡ InLast
+    kind : c.use_of_words ≡ InLast
     stages : c.stages l ≡ c.stages local
     awaits : c.awaits l ≡ c.awaits local
 
   keeper_for : (row : Instr) (c : Collective) → keeping_of row ≡ Words → collective code p row ≡ Some c → IsKeeperFor c
   keeper_for (instr.Scan array slot f along from mask) c is known =
-      let same : scanned_row code p f along from mask array slot ≡ c = cc in subst IsKeeperFor same (record { use = refl; stages = refl; awaits = refl })
+      let same : scanned_row code p f along from mask array slot ≡ c = cc in subst IsKeeperFor same (record { kind = refl; stages = refl; awaits = refl })
   keeper_for (instr.Gather truth array slot) c is known =
-      let same : gathered code p truth array slot ≡ c = cc in subst IsKeeperFor same (record { use = refl; stages = refl; awaits = refl })
+      let same : gathered code p truth array slot ≡ c = cc in subst IsKeeperFor same (record { kind = refl; stages = refl; awaits = refl })
   keeper_for (instr.Vote group) c is known =
-      let same : voted code (star code p) group ≡ c = cc in subst IsKeeperFor same (record { use = refl; stages = refl; awaits = refl })
+      let same : voted code (star code p) group ≡ c = cc in subst IsKeeperFor same (record { kind = refl; stages = refl; awaits = refl })
   keeper_for (instr.TreeVote group) c is known =
-      let same : voted code (tree code p) group ≡ c = cc in subst IsKeeperFor same (record { use = refl; stages = refl; awaits = refl })
+      let same : voted code (tree code p) group ≡ c = cc in subst IsKeeperFor same (record { kind = refl; stages = refl; awaits = refl })
   keeper_for (instr.Fold scalar f) c is known =
-      let same : folded (star code p) scalar f ≡ c = cc in subst IsKeeperFor same (record { use = refl; stages = refl; awaits = refl })
+      let same : folded (star code p) scalar f ≡ c = cc in subst IsKeeperFor same (record { kind = refl; stages = refl; awaits = refl })
   keeper_for (instr.TreeFold scalar f) c is known =
-      let same : folded (tree code p) scalar f ≡ c = cc in subst IsKeeperFor same (record { use = refl; stages = refl; awaits = refl })
+      let same : folded (tree code p) scalar f ≡ c = cc in subst IsKeeperFor same (record { kind = refl; stages = refl; awaits = refl })
   keeper_for row c is known = cc
 
   awaited_there : (c : Collective) → IsKeeperFor c → All (λ entry. c.awaits local entry.0 (length entry.1) ≡ true) kept
@@ -260,9 +260,9 @@ module _ (code : Tables) (p : ℕ) (local : Local) (far : Progress) (kept : List
   words_begin row c b next is known words =
       let k = keeper_for row c is known in
       begins_next row next (IsTrue b) (subst (λ o. IsTrue b ↔ BeginsIn code p l o) (sym known) (
-        λ yes. (let w = words.0 yes in subst (λ kind. BeginsWords code p kind c l) (sym k.use)
+        λ yes. (let w = words.0 yes in subst (λ kind. BeginsWords code p kind c l) (sym k.kind)
             (subst (λ (s : List Stage). IsFrontOf froms (ascending (senders (take far.made s)))) (sym k.stages) w.from, awaited_there c k w.awaited)),
-        λ begins. (let w = subst (λ kind. BeginsWords code p kind c l) k.use begins in
+        λ begins. (let w = subst (λ kind. BeginsWords code p kind c l) k.kind begins in
             words.1 (record {
               from = subst (λ (s : List Stage). IsFrontOf froms (ascending (senders (take far.made s)))) k.stages w.0;
               awaited = awaited_here c k w.1;
@@ -279,13 +279,17 @@ module _ (code : Tables) (p : ℕ) (local : Local) (far : Progress) (kept : List
       by (inl (slot, group, e)) far_at may = absurd (let never : keeping_of (instr.Loop slot group) ≡ Words = subst (λ r. keeping_of r ≡ Words) e is in cc)
       by (inr plain) far_at may =
           let k = keeper_for row c is known in
-          let under = subst (λ o. IsUnder o l) known (plain.far v kept far_at) in
-          (
-            λ yes. (let w = words.0 yes in plain.at l (outside_too (plain.outside v may), subst (λ o. IsIn code p o l) (sym known) (under,
-                subst (λ kind. KeepsWords code p kind c l) (sym k.use)
-                (subst (λ (s : List Stage). froms ≡ ascending (senders (take far.made s))) (sym k.stages) w.from, awaited_there c k w.awaited)))),
+          let under = subst (λ o. IsUnder o l) known (plain.far v kept far_at) in (
+            λ yes. (let w = words.0 yes in plain.at l (
+              outside_too (plain.outside v may),
+              subst (λ o. IsIn code p o l) (sym known) (
+                under,
+                subst (λ kind. KeepsWords code p kind c l) (sym k.kind)
+                    (subst (λ (s : List Stage). froms ≡ ascending (senders (take far.made s))) (sym k.stages) w.from, awaited_there c k w.awaited),
+              ),
+            )),
             λ at. (let inside = subst (λ o. IsIn code p o l) known (plain.back l at).1 in
-                let w = subst (λ kind. KeepsWords code p kind c l) k.use inside.1 in
+                let w = subst (λ kind. KeepsWords code p kind c l) k.kind inside.1 in
                 words.1 (record {
                   from = subst (λ (s : List Stage). froms ≡ ascending (senders (take far.made s))) k.stages w.0;
                   awaited = awaited_here c k w.1;
@@ -319,7 +323,7 @@ empty_stays : (code : Tables) (p : ℕ) (l : Local) (o : Option Collective) → 
 empty_stays code p l None is under none = record { made = under; kept = none }
 empty_stays code p l (Some c) is under none = (under, keeps_none code p c.use_of_words c l is none)
 
-asks : (row : Instr) → keeping_of row ≡ Requests → IsNoKeeper row
+pub asks : (row : Instr) → keeping_of row ≡ Requests → IsNoKeeper row
 asks (instr.Remap array slot from parts) is = tt
 asks row is = cc
 

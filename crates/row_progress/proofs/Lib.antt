@@ -3,6 +3,7 @@ mod FarLemmas
 mod FrontLemmas
 mod KeepLemmas
 mod KeeperLemmas
+mod RequestLemmas
 mod SenderLemmas
 mod SizeLemmas
 mod StageLemmas

@@ -116,7 +116,7 @@ module _ (code : Tables) (p : ℕ) (w : Workplace) (row : Instr) (start : IsAtSt
   more_processors k l stage old new is here added are =
       let r = is_row code p row start.together start.fits in
       let goes = of_row code p row (λ c. GoesOn (processors code) k (length (c.stages w.local)) (staged stage)) r
-          (step code p w row start k (staged stage) (subst (λ v. OfRow code p row (λ c. stage_of c v.local ≡ Some (staged stage))) is here)) in
+      (step code p w row start k (staged stage) (subst (λ v. OfRow code p row (λ c. stage_of c v.local ≡ Some (staged stage))) is here)) in
       record { each = subst (EachBelow (processors code)) (sym added) (by (staged stage) (length (r.together.stages w.local)) goes) }
     where
       by : (one : Stage) (many : ℕ) → GoesOn (processors code) k many one → EachBelow (processors code) (with_sender old (sender_of one))

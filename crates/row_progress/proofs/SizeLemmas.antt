@@ -26,4 +26,3 @@ tuples_told region x y z a b c three is first second third =
   where
     by : (x y z : ℕ) → x * y * z ≡ x * (y * (z * 1))
     by x y z = grind arith
-

@@ -110,9 +110,10 @@ along_at code p w row none along = record {
     inside : IsIn code p (collective code p row) w.local
     inside =
         let r = is_row code p row along.start.together along.start.fits in
-        subst (λ o. IsIn code p o w.local) (sym r.is)
-        (of_row code p row (λ c. w.local.made < length (c.stages w.local)) r along.under,
-        keeps_none code p r.together.use_of_words r.together w.local (of_row code p row (λ c. IsNotInLast c.use_of_words) r (no_keeper code p row none)) along.start.begun.fresh.kept)
+        subst (λ o. IsIn code p o w.local) (sym r.is) (
+          of_row code p row (λ c. w.local.made < length (c.stages w.local)) r along.under,
+          keeps_none code p r.together.use_of_words r.together w.local (of_row code p row (λ c. IsNotInLast c.use_of_words) r (no_keeper code p row none)) along.start.begun.fresh.kept,
+        )
 
 -- ---- what a row's turns are doesn't depend on how many were made
 found_same : {X : Type 0} (o : Option X) (row : X → Collective) (one other : Local) → ((x : X) → (row x).stages one ≡ (row x).stages other)

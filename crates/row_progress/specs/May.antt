@@ -1,6 +1,8 @@
 -- Which words a processor may keep, by the kind of its row.
 --
 --   keeping_of   whether a row keeps words, and which
+--   froms_of     the senders of some words
+--   IsRefused    a message was refused
 --   AreWords     the words of all senders in some turns, or of the first of them
 use Rattle.std.specs.Prelude.{◌≡◌, ℕ, Bool, true, false, ℤ, List, length, map, take, All}
 use Rattle.grid_links.specs.of_zpl_lists.Front.{IsFrontOf}
@@ -9,6 +11,10 @@ use Rattle.node_form.specs.declared.instructions.Instr.TheVariants as instr
 use Rattle.grid_meaning.specs.Collective.{Collective}
 use Rattle.grid_meaning.specs.Local.{Local}
 use Rattle.grid_meaning.specs.State.{ascending, senders}
+use Rattle.node_local.specs.Standing.{entry_of}
+use Rattle.node_local.specs.declared.standings.Kept.{Kept}
+use Rattle.row_turn.specs.declared.answers.Receipt.{Receipt}
+use Rattle.row_turn.specs.declared.answers.Receipt.TheVariants as receipt
 use Rattle.row_progress.specs.declared.kinds.Keeping.{Keeping}
 use Rattle.row_progress.specs.declared.kinds.Keeping.TheVariants.{Nothing, Words, Requests}
 
@@ -29,3 +35,14 @@ IsFrontAs false front list = IsFrontOf front list
 pub record AreWords (all : Bool) (c : Collective) (local : Local) (made : ℕ) (kept : List (ℕ × List ℤ)) : Type 0 where
   pub from : IsFrontAs all (map (λ entry. entry.0) kept) (ascending (senders (take made (c.stages local))))
   pub awaited : All (λ entry. c.awaits local entry.0 (length entry.1) ≡ true) kept
+
+-- the senders of some words
+abbrev pub froms_of : List Kept → List ℕ
+froms_of kept = map (λ entry. entry.0) (map entry_of kept)
+
+-- a message was refused
+abbrev pub IsRefused : Receipt → Type 0
+IsRefused receipt.Accepted = ⊥
+IsRefused receipt.Tag = Unit {0}
+IsRefused receipt.Length = Unit {0}
+IsRefused receipt.Unheld = Unit {0}

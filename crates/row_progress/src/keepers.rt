@@ -70,7 +70,8 @@ fn stage_in_agreement(
 ) -> Stage
     requires layout { layout.now ≡ arrangement_of code.now }
     requires processor { p < processors code.now }
-    requires under { local.now.local.made < length (agreeing_stages (kin_over code.now p over_tree)) }
+    requires under { local.now.local.made
+        < length (agreeing_stages (kin_over code.now p over_tree)) }
     ensures { slice_get (agreeing_stages (kin_over code.now p over_tree)) local.now.local.made
         ≡ Some (staged result) }
 {
@@ -123,13 +124,7 @@ pub(crate) fn scan_of(row: &Instr) -> ScanRow
 }
 
 /// The stage of a `scan`.
-fn stage_in_scan(
-    code: &NodeProgram,
-    layout: &Layout,
-    p: u32,
-    local: &Local,
-    row: &Instr,
-) -> Stage
+fn stage_in_scan(code: &NodeProgram, layout: &Layout, p: u32, local: &Local, row: &Instr) -> Stage
     requires layout { layout.now ≡ arrangement_of code.now }
     requires scan { IsScan row.now }
     requires along { IsAlong code.now p local.now row.now }

@@ -6,6 +6,7 @@ mod keepers;
 mod keeping;
 mod kinds;
 mod progress;
+mod requests;
 mod senders;
 mod sizes;
 mod starts;

@@ -6,7 +6,6 @@ ghost use Rattle.grid_meaning.specs.State.{ascending, placed, sender_of, senders
 ghost use Rattle.grid_meaning.specs.Stored.{arrangement_of};
 ghost use Rattle.node_stages.specs.Stage.{staged};
 ghost use Rattle.row_turn.specs.Together.{OfRow};
-
 ghost use Rattle.row_progress.specs.Kept.{AreProcessors, with_sender};
 ghost use Rattle.row_progress.specs.Walk.{IsAtStart};
 

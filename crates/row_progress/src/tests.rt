@@ -18,6 +18,7 @@ use crate::keepers::region_in;
 use crate::keeping::{begins_words, keeping_of, keeps_words};
 use crate::kinds::Keeping;
 use crate::progress::Progress;
+use crate::requests::keeps_requests;
 use crate::sizes::tuples;
 use crate::walks::is_under;
 use grid_layout::Layout;
@@ -121,7 +122,7 @@ pub fn is_far(
     requires values { AreTold code.now p (stands local.old.local far.now) }
     ensures far { (words : List (ℕ × List ℤ)) → length words ≡ told →
         IsTrue result ↔ IsFar code.now p (stands local.old.local far.now) words
-            (is_some local.old.local.ended) }
+        (is_some local.old.local.ended) }
     ensures same { local.new ≡ local.old }
 {
     match row_of(code, local) {
@@ -137,8 +138,7 @@ fn is_none(kept: &[Kept]) -> bool
     kept.len() == 0
 }
 
-/// Whether these words are the first of some that a processor may keep where it is. A processor that
-/// is at a `remap` with requests isn't looked at yet: that is an error as for want of memory.
+/// Whether these words are the first of some that a processor may keep where it is.
 pub fn begins_kept(
     alloc: Global,
     code: &NodeProgram,
@@ -163,18 +163,14 @@ pub fn begins_kept(
     match keeping_of(row) {
         Keeping::Words => begins_words(alloc, code, layout, p, local, row, far, kept),
         Keeping::Requests => {
-            if is_none(kept) {
-                Ok(true)
-            } else {
-                Err(AllocError)
-            }
+            let yes = keeps_requests(alloc, code, layout, p, local, row, far, kept)?;
+            Ok(yes)
         }
         Keeping::Nothing => Ok(is_none(kept)),
     }
 }
 
-/// Whether a processor may keep just these words where it is. Of requests the same is said as of
-/// [`begins_kept`].
+/// Whether a processor may keep just these words where it is.
 pub fn may_keep(
     alloc: Global,
     code: &NodeProgram,
@@ -199,11 +195,8 @@ pub fn may_keep(
     match keeping_of(row) {
         Keeping::Words => keeps_words(alloc, code, layout, p, local, row, far, kept),
         Keeping::Requests => {
-            if is_none(kept) {
-                Ok(true)
-            } else {
-                Err(AllocError)
-            }
+            let yes = keeps_requests(alloc, code, layout, p, local, row, far, kept)?;
+            Ok(yes)
         }
         Keeping::Nothing => Ok(is_none(kept)),
     }

@@ -1,15 +1,19 @@
-use Rattle.std.proofs.Common.{sym, subst}
-use Rattle.row_progress.specs.Walk.{IsAtStart}
-use Rattle.row_progress.proofs.WordLemmas.{start_of_words, under_words}
+use Rattle.std.proofs.Common.{◌≡◌, ℕ, List, map, sym, subst, take}
+use Rattle.grid_meaning.specs.State.{ascending, senders}
+use Rattle.node_local.specs.Standing.{entry_of}
+use Rattle.node_local.specs.Workplace.{Workplace}
+use Rattle.row_turn.specs.Together.{OfRow}
+use Rattle.row_progress.specs.Kept.{are_front}
+use Rattle.row_progress.proofs.WordLemmas.{begins_by_front}
 use Rattle.row_progress.proofs.keeping.begins_words.Goals as goal
 
-pub senders-list-requires-clause-start : goal.senders-list-requires-clause-start
-senders-list-requires-clause-start c =
-    start_of_words c.args.code.now c.args.p c.args.local.now c.args.far.now c.args.row.now c.requires.begun c.requires.next
+pub returns-clause-begins : goal.returns-clause-begins
+returns-clause-begins c =
+    begins_by_front c.args.code.now c.args.p c.args.local.now c.args.far.now c.args.row.now c.requires.begun c.requires.next
     (c.rows_fit.ensures.instr c.args.code.now c.args.local.now.local.at c.args.row.now c.tables-fits.ensures.fits c.requires.next.here) c.requires.words
-
-pub senders-list-requires-clause-under : goal.senders-list-requires-clause-under
-senders-list-requires-clause-under c =
-    under_words c.args.code.now c.args.p c.args.local.now c.args.far.now c.args.row.now c.requires.begun c.requires.next
-    (c.rows_fit.ensures.instr c.args.code.now c.args.local.now.local.at c.args.row.now c.tables-fits.ensures.fits c.requires.next.here) c.requires.words
-    c.requires.far.0 c.requires.far.1
+    c.as_slice-numbers.result.now c.args.kept.now
+    (subst (λ (numbers : List ℕ). OfRow c.args.code.now c.args.p c.args.row.now (λ r. numbers ≡ ascending (senders (take c.args.far.now.made (r.stages c.args.local.now.local)))))
+    (sym c.as_slice-numbers.ensures.value) c.in_ok-list.ensures.senders)
+    c.are_front.result
+    (subst (λ (w : Workplace). OfRow c.args.code.now c.args.p c.args.row.now (λ r. are_front (r.awaits w.local) c.as_slice-numbers.result.now (map entry_of c.args.kept.now) ≡ c.are_front.result))
+    c.in_ok-list.ensures.same c.are_front.ensures)
