@@ -1,10 +1,10 @@
 -- The lines of a grid that may be saved are read as its states.
-use Rattle.std.proofs.Common.{◌≡◌, ◌≢◌, ℕ, zero, suc, ◌+◌, ◌-◌, ◌*◌, ◌<◌, ◌≤◌, ◌==◌, Bool, true, false, cond, not, ℤ, List, [], ◌∷◌, ◌++◌, length, get_or, map, take, inl, inr, ◌⊎◌, refl, ap, sym, ◌∙◌, subst, arith}
+use Rattle.std.proofs.Common.{◌≡◌, ◌≢◌, ℕ, zero, suc, ◌+◌, ◌-◌, ◌*◌, ◌<◌, ◌≤◌, ◌==◌, Bool, true, false, not, ℤ, List, [], ◌∷◌, ◌++◌, length, map, take, inl, inr, ◌⊎◌, refl, ap, sym, ◌∙◌, subst, arith}
 use Rattle.std.specs.Prelude.{All, Option, Some, None, IsSome, filter, if◌then◌else◌, is_some, nat_le, slice_get}
 use Rattle.std.specs.List.{AllZip, Any, filter_map, flat_map, range_with_len}
 use Rattle.std.specs.Option.{IsSomeAnd, option_map}
 use Rattle.std.proofs.lemmas.Bool.Decides.{nat_tests}
-use Rattle.std.proofs.lemmas.List.{append_assoc, append-nil, map-append}
+use Rattle.std.proofs.lemmas.List.{append_assoc, map-append}
 use Rattle.std.proofs.lemmas.List.Elements.{All-nil, All-cons, All-head, All-tail, All-push}
 use Rattle.zpl_nums.specs.declared.ends.End.{End}
 use Rattle.zpl_region.specs.declared.regions.Region.{Region}
@@ -26,14 +26,14 @@ use Rattle.grid_meaning.specs.Local.{Local, processor_numbers, processors}
 use Rattle.grid_meaning.specs.Remap.{owns_all, remapped, request_taken}
 use Rattle.grid_meaning.specs.Rows.{collective}
 use Rattle.grid_meaning.specs.Scan.{scanned_row}
-use Rattle.grid_meaning.specs.State.{IsAgain, IsAt, IsIn, IsInLoop, IsLocal, IsLooping, IsOutside, IsPart, IsRequest, IsSlot, IsStore, ascending, senders}
+use Rattle.grid_meaning.specs.State.{IsAgain, IsAt, IsIn, IsLocal, IsLooping, IsOutside, IsPart, IsRequest, IsSlot, IsStore}
 use Rattle.save_lines.specs.declared.lines.SavedLine.{SavedLine}
-use Rattle.save_lines.specs.declared.lines.SavedLine.TheVariants.{Proc, Scalars, Cells, Kept, Msg}
+use Rattle.save_lines.specs.declared.lines.SavedLine.TheVariants.{Proc, Scalars, Cells, Kept}
 use Rattle.grid_save.specs.Kept.{IsEnding}
 use Rattle.grid_save.specs.Reads as read
 use Rattle.grid_save.specs.Reads.{State, BeginsIn, Each, First, IsFarAt, IsKeptLine, IsMember, IsMessageLine, IsSlotLine, IsStoreLine, IsUnder, MayBegin, MayKeepAs, MayStand, MayStandAt, ReadsGrid, ReadsState, ReadsValues, Run, bare, begins, is_kept, is_message, told_kept, with_kept}
 use Rattle.grid_save.specs.Saved.{IsSaveable}
-use Rattle.grid_save.specs.Written.{grid_lines, kept_line, kept_lines, local_lines, message_line, message_lines, proc_row, slot_line, state_lines, store_line}
+use Rattle.grid_save.specs.Written.{grid_lines, kept_line, local_lines, message_line, proc_row, slot_line, state_lines, store_line}
 use Rattle.grid_save.proofs.CutLemmas.{Every, every-append}
 use Rattle.save_texts.proofs.Groups.{BeforeSent, InOrder, kept_grouped, sent_line}
 

@@ -1,7 +1,7 @@
 -- A listing is cut from the lines behind it in one way: at the first line that begins a state.
 use Rattle.std.proofs.Common.{◌≡◌, ℕ, zero, suc, ◌+◌, ◌<◌, ◌≤◌, List, [], ◌∷◌, ◌++◌, length, take, drop, inl, inr, ◌⊎◌, refl, ap, sym, ◌∙◌, subst, arith, length-append}
 use Rattle.std.specs.Prelude.{◌≢◌}
-use Rattle.std.proofs.lemmas.List.{append_assoc, append-nil, take-append-drop, length-take}
+use Rattle.std.proofs.lemmas.List.{append_assoc, append-nil, take-append-drop}
 use Rattle.grid_save.specs.Fault.{BeginsState, EndsLine, IsCut, proc_text}
 use Rattle.grid_save.proofs.CutLemmas.{Every}
 

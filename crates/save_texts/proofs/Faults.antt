@@ -1,7 +1,7 @@
 -- Why parts aren't saved, and the grid that they are the saved text of.
-use Rattle.std.proofs.Common.{◌≡◌, ℕ, zero, suc, ◌+◌, ◌-◌, ◌*◌, ◌^◌, ◌<◌, ◌≤◌, List, [], ◌∷◌, ◌++◌, length, map, refl, ap, sym, ◌∙◌, subst, arith, length-append, Option, Some, None}
-use Rattle.std.specs.Prelude.{All, Result, Ok, Err, IfErr, IfOk, drop, min, slice_get, take}
-use Rattle.std.proofs.lemmas.List.{append_assoc, append-nil, length-map}
+use Rattle.std.proofs.Common.{◌≡◌, ℕ, ◌+◌, ◌<◌, ◌≤◌, List, [], ◌∷◌, ◌++◌, length, map, refl, ap, sym, ◌∙◌, subst, arith, length-append, None}
+use Rattle.std.specs.Prelude.{All, Result, Ok, Err, IfErr, IfOk, drop, min, take}
+use Rattle.std.proofs.lemmas.List.{append_assoc, length-map}
 use Rattle.std.proofs.lemmas.List.Elements.{All-head, All-tail}
 use Rattle.grid_links.specs.declared.messages.Message.{Message}
 use Rattle.grid_links.specs.Network.{Network, empty_network}
@@ -26,9 +26,9 @@ use Rattle.grid_sim.specs.Processors.{AllReady, state_of}
 use Rattle.grid_sim.specs.Restored.{restored}
 use Rattle.grid_sim.specs.Simulation.{Simulation}
 use Rattle.save_lines.specs.declared.lines.SavedLine.{SavedLine}
-use Rattle.save_lines.specs.Line.{IsSavedLine, line_text, saved_text}
+use Rattle.save_lines.specs.Line.{line_text, saved_text}
 use Rattle.save_lines.specs.Lines.{AreLines, IsBadLine as IsBadSavedLine}
-use Rattle.save_reading.specs.Fault.{FaultAt, IsNumber}
+use Rattle.save_reading.specs.Fault.{FaultAt}
 use Rattle.save_reading.specs.declared.faults.StateFault.TheVariants as state_fault
 use Rattle.state_reading.specs.declared.states.ReadState.{ReadState}
 use Rattle.state_reading.specs.Read.{AreReady, state_in}
@@ -37,7 +37,7 @@ use Rattle.grid_save.specs.declared.faults.SaveFault.TheVariants.{BadLine, BadTa
 use Rattle.grid_save.specs.Fault.{Explains, HasForms, HasParts, IsCut, IsNamed, AtListing, AtState, Missing, There}
 use Rattle.grid_save.specs.Reads.{BreaksGrid, ReadsGrid, State}
 use Rattle.grid_save.specs.Saved.{AreCounted, IsSaved}
-use Rattle.grid_save.specs.Written.{counts_text, grid_lines, save_text, version_text}
+use Rattle.grid_save.specs.Written.{counts_text, save_text, version_text}
 use Rattle.save_texts.specs.Links.{AreTo, EachTo, sending_all, sending_each, sent_in, workplace_in}
 use Rattle.save_texts.specs.Newlines.{newlines}
 use Rattle.save_texts.specs.Parts.{AreParts, IsFaultOf, IsGridOf}

@@ -1,11 +1,11 @@
 -- Lines that ascend by a number in each are those of one number after another.
 use Rattle.std.proofs.Common.{◌≡◌, ℕ, zero, suc, ◌+◌, ◌<◌, ◌≤◌, Bool, true, false, ℤ, List, [], ◌∷◌, ◌++◌, map, inl, inr, ◌⊎◌, refl, ap, sym, ◌∙◌, subst, arith}
-use Rattle.std.specs.Prelude.{◌≢◌, ◌==◌, Option, Some, None, find, if◌then◌else◌}
+use Rattle.std.specs.Prelude.{◌≢◌, ◌==◌, None, find}
 use Rattle.std.specs.List.{flat_map, range_with_len}
 use Rattle.std.proofs.lemmas.Bool.Decides.{nat_tests}
 use Rattle.grid_links.specs.declared.messages.Message.{Message}
 use Rattle.node_form.specs.declared.tables.Tables.{Tables}
-use Rattle.grid_meaning.specs.Local.{Local, processor_numbers, processors}
+use Rattle.grid_meaning.specs.Local.{Local, processors}
 use Rattle.grid_meaning.specs.State.{IsLocal}
 use Rattle.save_lines.specs.declared.lines.SavedLine.{SavedLine}
 use Rattle.grid_save.specs.Written.{kept_from, kept_line, kept_lines, message_line}

@@ -1,9 +1,9 @@
 -- What is on links to which messages were sent, one after another.
-use Rattle.std.proofs.Common.{◌≡◌, ◌≢◌, ℕ, zero, suc, ◌+◌, ◌*◌, ◌<◌, ◌≤◌, ◌==◌, Bool, true, false, cond, List, [], ◌∷◌, ◌++◌, length, get_or, replicate, refl, sym, ◌∙◌, ap, subst, arith, append_assoc, append-nil, length-set, Option, Some, None}
+use Rattle.std.proofs.Common.{◌≡◌, ℕ, zero, suc, ◌+◌, ◌*◌, ◌<◌, ◌≤◌, ◌==◌, Bool, true, false, cond, List, [], ◌∷◌, ◌++◌, length, get_or, replicate, refl, sym, ◌∙◌, ap, subst, arith, append_assoc, append-nil, length-set, Some, None}
 use Rattle.grid_links.specs.declared.messages.Message.{Message}
-use Rattle.grid_links.specs.Links.{link_of, no_messages}
+use Rattle.grid_links.specs.Links.{link_of}
 use Rattle.grid_links.specs.Network.{Network, empty_network, sending}
-use Rattle.grid_links.specs.Run.{links_sent, message_to, message_where}
+use Rattle.grid_links.specs.Run.{message_where}
 use Rattle.grid_links.proofs.LinkLemmas.{link_of-links_sent, sent_where}
 use Rattle.grid_save.proofs.CutLemmas.{Every}
 use Rattle.save_texts.proofs.Groups.{differs_test, same_test}

@@ -1,5 +1,5 @@
 -- Bytes are a saved text, or there is why they are none.
-use Rattle.std.proofs.Common.{◌≡◌, ℕ, zero, suc, ◌+◌, List, [], ◌∷◌, ◌++◌, length, refl, ap, sym, ◌∙◌, subst, arith, length-append}
+use Rattle.std.proofs.Common.{◌≡◌, ℕ, ◌+◌, List, [], ◌∷◌, ◌++◌, length, refl, ap, sym, ◌∙◌, subst, arith, length-append}
 use Rattle.std.specs.Prelude.{◌≢◌, All, IfErr, IfOk, MatchResult, Result, Ok, Err}
 use Rattle.std.proofs.lemmas.List.Elements.{All-nil, All-cons, All-head, All-tail}
 use Rattle.node_form.specs.declared.arrays.ArrayRow.{ArrayRow}
@@ -13,7 +13,7 @@ use Rattle.listing_rows.specs.Listing.{listing_of}
 use Rattle.grid_meaning.specs.Grid.{Grid}
 use Rattle.grid_sim.specs.Simulation.{Simulation}
 use Rattle.save_lines.specs.declared.lines.SavedLine.{SavedLine}
-use Rattle.save_lines.specs.Line.{AreSavedLines, saved_text}
+use Rattle.save_lines.specs.Line.{saved_text}
 use Rattle.save_lines.specs.Lines.{AreLines, IsBadLine as IsBadSavedLine}
 use Rattle.save_reading.specs.Three.{HasThree}
 use Rattle.grid_save.specs.declared.faults.SaveFault.{SaveFault}

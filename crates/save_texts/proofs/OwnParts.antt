@@ -1,5 +1,5 @@
 -- The parts of the saved text of a grid, and that bytes have one way to be parted.
-use Rattle.std.proofs.Common.{◌≡◌, ℕ, zero, suc, ◌+◌, ◌^◌, ◌<◌, ◌≤◌, false, List, [], ◌∷◌, ◌++◌, length, take, drop, inl, inr, ◌⊎◌, refl, ap, sym, ◌∙◌, subst, arith, Option, Some}
+use Rattle.std.proofs.Common.{◌≡◌, ℕ, zero, suc, ◌^◌, ◌<◌, false, List, [], ◌∷◌, ◌++◌, length, take, drop, inl, inr, ◌⊎◌, refl, ap, sym, ◌∙◌, subst, arith, Some}
 use Rattle.std.specs.Prelude.{◌≢◌, ◌==◌, All, codes, slice_get}
 use Rattle.std.specs.List.{flat_map, range_with_len}
 use Rattle.std.specs.Str.{bytes_eq}
@@ -12,7 +12,6 @@ use Rattle.listing_lines.specs.declared.lines.Line.{Line}
 use Rattle.listing_lines.specs.Field.{field_text}
 use Rattle.listing_lines.specs.Keyword.{keyword_text}
 use Rattle.listing_lines.specs.Line.{IsLine, line_text, lines_text, spaced}
-use Rattle.listing_lines.specs.Listing.{AreLines}
 use Rattle.listing_lines.proofs.LineTexts.{line_ends}
 use Rattle.listing_rows.specs.Listing.{listing_of}
 use Rattle.node_form.specs.declared.tables.Tables.{Tables}
@@ -22,7 +21,7 @@ use Rattle.save_lines.specs.Line.{saved_text}
 use Rattle.grid_save.specs.Fault.{BeginsState, EndsLine, HasCounts, HasHead, HasParts, IsCut, proc_text}
 use Rattle.grid_save.specs.Saved.{IsSaveable, IsSaved}
 use Rattle.grid_save.specs.Written.{counts_text, grid_lines, save_text, state_lines, version_text}
-use Rattle.grid_save.proofs.CutLemmas.{Every, SameCounts, every_of_all, same_counts}
+use Rattle.grid_save.proofs.CutLemmas.{Every, every_of_all, same_counts}
 use Rattle.save_texts.proofs.CutOnce.{cut_once}
 
 -- ---- one way
@@ -65,9 +64,11 @@ untrue b more rest k e =
 opened : (k : Keyword) (fields : List Field) (more : List ℕ) →
     (b : ℕ) × (rest : List ℕ) × ((keyword_text k ++ flat_map (λ field. spaced (field_text field)) fields) ++ 10 ∷ more ≡ keyword_text k ++ b ∷ rest)
 opened k [] more = (10, more, ap (λ text. text ++ 10 ∷ more) (append-nil (keyword_text k)))
-opened k (field ∷ fields) more =
-    (32, (field_text field ++ flat_map (λ f. spaced (field_text f)) fields) ++ 10 ∷ more,
-      append_assoc (keyword_text k) (flat_map (λ f. spaced (field_text f)) (field ∷ fields)) (10 ∷ more))
+opened k (field ∷ fields) more = (
+  32,
+  (field_text field ++ flat_map (λ f. spaced (field_text f)) fields) ++ 10 ∷ more,
+  append_assoc (keyword_text k) (flat_map (λ f. spaced (field_text f)) (field ∷ fields)) (10 ∷ more),
+)
 
 line_begins : (line : Line) (more back : List ℕ) → back ≡ line_text line ++ 10 ∷ more → BeginsState back → ⊥
 line_begins line more back e begins =

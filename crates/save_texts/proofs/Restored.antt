@@ -1,6 +1,6 @@
 -- The grid of the states that lines tell is the one that is written so.
-use Rattle.std.proofs.Common.{◌≡◌, ℕ, zero, suc, ◌+◌, ◌*◌, ◌^◌, ◌<◌, ◌≤◌, List, [], ◌∷◌, ◌++◌, length, get_or, map, refl, ap, sym, ◌∙◌, subst, arith, Option, Some, None}
-use Rattle.std.specs.Prelude.{◌≢◌, ◌==◌, All, slice_get}
+use Rattle.std.proofs.Common.{◌≡◌, ℕ, zero, suc, ◌+◌, ◌<◌, List, [], ◌∷◌, ◌++◌, length, get_or, map, refl, ap, sym, ◌∙◌, subst, arith, Some, None}
+use Rattle.std.specs.Prelude.{◌≢◌, All, slice_get}
 use Rattle.std.specs.List.{flat_map, range_with_len}
 use Rattle.std.proofs.lemmas.List.{append_assoc, append-nil, length-map}
 use Rattle.std.proofs.lemmas.List.Elements.{All-nil, All-cons}
@@ -15,8 +15,8 @@ use Rattle.save_lines.specs.declared.lines.SavedLine.{SavedLine}
 use Rattle.save_lines.specs.Line.{AreSavedLines}
 use Rattle.grid_save.specs.Kept.{IsEnding}
 use Rattle.grid_save.specs.Reads.{State, Each, Over, More, ReadsGrid, ReadsState}
-use Rattle.grid_save.specs.Saved.{AreCounted, AreLinks, AreLocals, IsSaveable}
-use Rattle.grid_save.specs.Written.{grid_lines, local_lines, message_line, message_lines, state_lines}
+use Rattle.grid_save.specs.Saved.{AreCounted, IsSaveable}
+use Rattle.grid_save.specs.Written.{grid_lines, message_line, message_lines, state_lines}
 use Rattle.grid_save.proofs.CutLemmas.{Every}
 use Rattle.grid_save.proofs.SameLemmas.{every_more}
 use Rattle.grid_save.proofs.OrderLemmas.{range_below}

@@ -5,11 +5,9 @@ use Rattle.std.proofs.lemmas.List.{append_assoc, append-nil}
 use Rattle.node_form.specs.declared.arrays.ArrayRow.{ArrayRow}
 use Rattle.node_form.specs.declared.arrays.Item.{Item}
 use Rattle.node_form.specs.declared.instructions.Instr.{Instr}
-use Rattle.node_form.specs.declared.members.Member.{Member}
 use Rattle.node_form.specs.declared.tables.Tables.{Tables}
 use Rattle.node_form.specs.declared.words.ExprOp.{ExprOp}
 use Rattle.node_form.specs.Fits.{FitsGroup}
-use Rattle.listing_lines.specs.declared.keywords.Keyword.{Keyword}
 use Rattle.listing_lines.specs.declared.keywords.Keyword.TheVariants as key
 use Rattle.listing_lines.specs.declared.lines.Line.{Line}
 use Rattle.listing_rows.specs.Rows.{line_of, text_line}

@@ -1,5 +1,5 @@
 -- What is left of the lines of states, where one breaks a rule, is their end.
-use Rattle.std.proofs.Common.{◌≡◌, ℕ, Bool, true, List, [], ◌∷◌, ◌++◌, refl, ap, sym, ◌∙◌, subst}
+use Rattle.std.proofs.Common.{◌≡◌, ℕ, Bool, List, [], ◌∷◌, ◌++◌, refl, ap, sym, ◌∙◌, subst}
 use Rattle.std.proofs.lemmas.List.{append_assoc}
 use Rattle.node_form.specs.declared.tables.Tables.{Tables}
 use Rattle.zpl_region.specs.declared.regions.Region.{Region}

@@ -1,4 +1,4 @@
-use Rattle.std.proofs.Common.{◌≡◌, ℕ, ◌^◌, ◌<◌, ◌∷◌, ◌++◌, rules}
+use Rattle.std.proofs.Common.{◌≡◌, ◌^◌, ◌<◌, ◌∷◌, ◌++◌, rules}
 use Rattle.std.specs.Fmt.{decimal}
 use Rattle.save_texts.proofs.HeadLemmas.{no_sends, no_words}
 use Rattle.save_texts.proofs.heads.take_counts.Goals as goal

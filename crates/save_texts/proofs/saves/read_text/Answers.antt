@@ -2,7 +2,7 @@ use Rattle.std.proofs.Common.{◌≡◌, ◌++◌, rules}
 use Rattle.grid_save.specs.Fault.{AtCounts, AtVersion}
 use Rattle.grid_save.specs.Saved.{AreCounted}
 use Rattle.grid_save.specs.Written.{counts_text}
-use Rattle.save_texts.proofs.Faults.{explained, parts_of, parts_told, saved_on}
+use Rattle.save_texts.proofs.Faults.{parts_of, parts_told, saved_on}
 use Rattle.save_texts.proofs.saves.read_text.Goals as goal
 
 pub returns-in_default-clause-err : goal.returns-in_default-clause-err
