@@ -87,13 +87,16 @@ def of_listing(place, path):
 
 
 def told_of_code(place, path):
-    """What `check` tells of the code of an example, without letters and with all."""
+    """What `check` tells of the code of an example, where it has some, without letters and with all."""
     with open(path, encoding="utf-8") as file:
         settings = [it for it in words_in(file.read(), "run")[2:] if ":=" in it]
     for letters in LETTERS:
         built = ["grid=2x2", *([f"opt={letters}"] if letters else [])]
         with open(f"{place}/code.lst", "wb") as listing:
-            subprocess.run([PROGRAM, "list", path, *settings, *built], stdin=subprocess.DEVNULL, stdout=listing, check=False)
+            made = subprocess.run([PROGRAM, "list", path, *settings, *built], stdin=subprocess.DEVNULL, stdout=listing,
+                                  stderr=subprocess.DEVNULL, check=False)
+        if made.returncode:
+            continue
         ran = subprocess.run([PROGRAM, "check", "code.lst"], cwd=place, stdin=subprocess.DEVNULL,
                              stdout=subprocess.PIPE, stderr=subprocess.STDOUT, text=True, check=False)
         yield " ".join(built), ran.stdout
