@@ -1,7 +1,6 @@
 -- A processor that is at the beginning of its row is in a state that it may have.
-use Rattle.std.proofs.Common.{◌≡◌, ℕ, zero, suc, ◌+◌, ◌-◌, ◌<◌, ◌≤◌, List, [], ◌∷◌, length, map, take, refl, sym, ap, ◌∙◌, subst, arith, inl, inr, ℤ, true}
+use Rattle.std.proofs.Common.{◌≡◌, ℕ, ◌-◌, ◌<◌, ◌≤◌, List, length, map, take, refl, sym, ap, ◌∙◌, subst, arith, inl, true}
 use Rattle.std.specs.Prelude.{Option, Some, None, IsSome, All, slice_get}
-use Rattle.std.specs.List.{AllZip}
 use Rattle.std.specs.Option.{IsSomeAnd}
 use Rattle.std.proofs.lemmas.List.Elements.{All-nil}
 use Rattle.zpl_region.specs.declared.regions.Region.{Region}
@@ -11,10 +10,9 @@ use Rattle.node_form.specs.declared.members.Member.{Member}
 use Rattle.node_form.specs.declared.tables.Tables.{Tables}
 use Rattle.node_form.specs.Fits.{Fits, FitsInstr}
 use Rattle.grid_meaning.specs.Collective.{Collective, Use, AtOnce, InLast, Asking, others}
-use Rattle.grid_meaning.specs.Local.{Local, left, processors}
-use Rattle.grid_meaning.specs.Place.{own_part}
+use Rattle.grid_meaning.specs.Local.{Local, processors}
 use Rattle.grid_meaning.specs.Rows.{collective}
-use Rattle.grid_meaning.specs.State.{HasParts, IsAt, IsFresh, IsIn, IsLocal, IsLooping, IsOutside, IsPart, IsRequest, IsSlot, KeepsWords, ascending, senders}
+use Rattle.grid_meaning.specs.State.{HasParts, IsAt, IsFresh, IsIn, IsLocal, IsLooping, IsOutside, IsPart, IsRequest, KeepsWords, ascending, senders}
 use Rattle.row_turn.proofs.StandLemmas.{slot_there, slot_within}
 use Rattle.row_progress.proofs.StageLemmas.{EndsOnce, begins, row_ends}
 

@@ -1,5 +1,5 @@
 -- How far a processor may be.
-use Rattle.std.proofs.Common.{◌≡◌, ℕ, zero, suc, ◌+◌, ◌-◌, ◌<◌, ◌≤◌, Bool, true, false, List, [], ◌∷◌, ◌++◌, length, map, refl, sym, ap, ◌∙◌, subst, arith, inl, inr, ◌⊎◌, ℤ, length-append}
+use Rattle.std.proofs.Common.{◌≡◌, ℕ, ◌+◌, ◌-◌, ◌<◌, ◌≤◌, Bool, List, [], ◌∷◌, ◌++◌, length, map, refl, sym, ap, ◌∙◌, subst, arith, inl, inr, ◌⊎◌, ℤ, length-append}
 use Rattle.std.specs.Prelude.{Option, Some, None, IsSome, IsTrue, is_some, slice_get, ◌↔◌, filter, nat_le}
 use Rattle.std.specs.List.{filter_map}
 use Rattle.std.specs.Option.{IfSome, IsSomeAnd, option_map}
@@ -12,11 +12,11 @@ use Rattle.node_form.specs.declared.instructions.Instr.{Instr}
 use Rattle.node_form.specs.declared.instructions.Instr.TheVariants as instr
 use Rattle.node_form.specs.declared.members.Member.{Member}
 use Rattle.node_form.specs.declared.tables.Tables.{Tables}
-use Rattle.grid_meaning.specs.Collective.{Collective, Stage, Alone, Sends, TakesFrom, Last, folded, others, star, tree, voted}
+use Rattle.grid_meaning.specs.Collective.{Collective, Stage, Sends, TakesFrom, Last, folded, others, star, tree, voted}
 use Rattle.grid_meaning.specs.Delivery.{edged, flooded, parted}
 use Rattle.grid_meaning.specs.Exchange.{finished, started}
 use Rattle.grid_meaning.specs.Gather.{gathered}
-use Rattle.grid_meaning.specs.Local.{Local, processors}
+use Rattle.grid_meaning.specs.Local.{Local}
 use Rattle.grid_meaning.specs.Place.{own_part}
 use Rattle.grid_meaning.specs.Remap.{remapped, some_wants, wants}
 use Rattle.grid_meaning.specs.Rows.{collective}

@@ -1,7 +1,6 @@
 -- Which words a processor may keep.
-use Rattle.std.proofs.Common.{◌≡◌, ℕ, zero, suc, ◌+◌, ◌-◌, ◌<◌, ◌≤◌, Bool, true, false, List, [], ◌∷◌, ◌++◌, length, map, take, refl, sym, ap, ◌∙◌, subst, arith, inl, inr, ◌⊎◌, ℤ, length-append}
-use Rattle.std.specs.Prelude.{Option, Some, None, IsTrue, IsSome, is_some, slice_get, ◌↔◌, All}
-use Rattle.std.specs.List.{filter_map}
+use Rattle.std.proofs.Common.{◌≡◌, ℕ, ◌<◌, ◌≤◌, Bool, true, false, List, [], ◌∷◌, ◌++◌, length, map, take, refl, sym, ap, ◌∙◌, subst, arith, inl, inr, ◌⊎◌, ℤ, length-append}
+use Rattle.std.specs.Prelude.{Option, Some, None, IsTrue, is_some, slice_get, ◌↔◌, All}
 use Rattle.std.specs.Option.{IfSome, option_map}
 use Rattle.std.proofs.lemmas.List.{append-nil, length-map}
 use Rattle.grid_links.specs.of_zpl_lists.Front.{IsFrontOf}
@@ -14,22 +13,19 @@ use Rattle.node_form.specs.declared.tables.Tables.{Tables}
 use Rattle.grid_meaning.specs.Collective.{Collective, Stage, Use, AtOnce, InLast, Asking, folded, star, tree, voted}
 use Rattle.grid_meaning.specs.Exchange.{finished, started}
 use Rattle.grid_meaning.specs.Gather.{gathered}
-use Rattle.grid_meaning.specs.Local.{Local, processors}
+use Rattle.grid_meaning.specs.Local.{Local}
 use Rattle.grid_meaning.specs.Rows.{collective}
 use Rattle.grid_meaning.specs.Scan.{scanned_row}
 use Rattle.grid_meaning.specs.State.{IsAt, IsIn, IsLooping, IsOutside, KeepsWords, ascending, senders}
 use Rattle.grid_save.specs.Reads.{BeginsAs, BeginsAt, BeginsIn, BeginsWords, IsFar, IsFarAt, IsUnder, MayBegin, MayKeep, MayKeepAs, MayStand, MayStandAt, with_kept}
-use Rattle.row_turn.proofs.RecordLemmas.{is_row, of_row}
 use Rattle.row_turn.specs.Together.{IsTogether, OfRow}
-use Rattle.row_progress.proofs.FarLemmas.{next_is}
 use Rattle.row_progress.proofs.FrontLemmas.{front_means, means_front}
 use Rattle.row_progress.proofs.WalkLemmas.{IsNotInLast, keeps_none, no_keeper}
 use Rattle.row_progress.specs.Begun.{stands}
 use Rattle.row_progress.specs.Kept.{are_front}
-use Rattle.row_progress.specs.May.{AreWords, IsFrontAs, keeping_of}
+use Rattle.row_progress.specs.May.{AreWords, keeping_of}
 use Rattle.row_progress.specs.Next.{IsNext, next_row, unless_over}
 use Rattle.row_progress.specs.Walk.{IsNoKeeper}
-use Rattle.row_progress.specs.declared.kinds.Keeping.{Keeping}
 use Rattle.row_progress.specs.declared.kinds.Keeping.TheVariants.{Nothing, Words, Requests}
 use Rattle.row_progress.specs.declared.progress.Progress.{Progress}
 

@@ -1,7 +1,6 @@
 -- Stages of rows that keep words until their last turn, by the regions in their slots.
 use Rattle.std.proofs.Common.{◌≡◌, ℕ, ◌<◌, ◌≤◌, ◌==◌, length, sym, ap, ◌∙◌, subst}
 use Rattle.std.specs.Prelude.{Bool, Some, slice_get, unwrap_or}
-use Rattle.std.specs.Option.{IfSome}
 use Rattle.zpl_region.specs.declared.regions.Region.{Region}
 use Rattle.zpl_region.specs.Region.{members}
 use Rattle.node_form.specs.declared.instructions.Instr.{Instr}

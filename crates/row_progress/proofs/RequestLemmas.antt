@@ -1,5 +1,5 @@
 -- Requests of a `remap` that are kept.
-use Rattle.std.proofs.Common.{◌≡◌, ◌≢◌, ℕ, zero, suc, ◌+◌, ◌-◌, ◌*◌, ◌<◌, ◌≤◌, ◌==◌, Bool, true, false, cond, nat_le, List, [], ◌∷◌, ◌++◌, length, map, take, drop, get_or, refl, sym, ap, ◌∙◌, subst, arith, add-one, inl, inr, ◌⊎◌, ℤ}
+use Rattle.std.proofs.Common.{◌≡◌, ℕ, zero, suc, ◌+◌, ◌-◌, ◌*◌, ◌<◌, ◌≤◌, ◌==◌, Bool, true, false, cond, nat_le, List, [], ◌∷◌, length, map, take, drop, get_or, refl, sym, ap, ◌∙◌, subst, arith, add-one, inl, inr, ◌⊎◌, ℤ}
 use Rattle.std.specs.Prelude.{Result, Ok, Err, Option, Some, None, IsTrue, IsSome, is_some, slice_get, ◌↔◌, All, filter, min, not}
 use Rattle.std.specs.List.{filter_map, range_with_len}
 use Rattle.std.specs.Option.{IfSome, option_map}
@@ -10,8 +10,7 @@ use Rattle.std.proofs.lemmas.Bool.{eq-eqb, eqb-true, eqb-false, ne_eqb}
 use Rattle.std.proofs.lemmas.Bool.Decides.{nat_tests}
 use Rattle.std.proofs.lemmas.List.{length-map, length-take}
 use Rattle.std.proofs.lemmas.List.Elements.{All-nil, All-cons, All-head, All-tail}
-use Rattle.grid_links.specs.declared.messages.Message.{Message}
-use Rattle.grid_links.specs.Machine.{Blocked, Takes, Refuses}
+use Rattle.grid_links.specs.Machine.{Takes, Refuses}
 use Rattle.node_form.specs.declared.arrays.ArrayRow.{ArrayRow}
 use Rattle.node_form.specs.declared.instructions.Instr.{Instr}
 use Rattle.node_form.specs.declared.instructions.Instr.TheVariants as instr
@@ -20,7 +19,7 @@ use Rattle.node_form.specs.Fits.{FitsInstr}
 use Rattle.grid_meaning.specs.Action.{Feeding, WrongLength, WrongTag}
 use Rattle.grid_meaning.specs.Action as does
 use Rattle.grid_meaning.specs.Collective.{Asking, Collective, keeping, others, row_tag}
-use Rattle.grid_meaning.specs.Local.{Local, left, processor_numbers, processors}
+use Rattle.grid_meaning.specs.Local.{Local, left, processors}
 use Rattle.grid_meaning.specs.Remap.{owns_all, remapped, request_taken, some_wants, wants, written}
 use Rattle.grid_meaning.specs.Rows.{collective}
 use Rattle.grid_meaning.specs.State.{IsAt, IsFresh, IsIn, IsOutside, IsPart, IsRequest, KeepsWords}
@@ -34,7 +33,7 @@ use Rattle.row_turn.specs.declared.answers.Receipt.TheVariants as receipt
 use Rattle.row_turn.specs.Own.{StaysSo, fed_of}
 use Rattle.row_turn.specs.Placed.{IsAtRow}
 use Rattle.row_turn.specs.Together.{IsTogether, OfRow}
-use Rattle.row_turn.proofs.RecordLemmas.{is_row, of_row}
+use Rattle.row_turn.proofs.RecordLemmas.{is_row}
 use Rattle.grid_save.specs.Reads.{BeginsIn, BeginsWords, IsFar, IsUnder, MayBegin, MayKeep, MayStand, with_kept}
 use Rattle.row_progress.proofs.KeepLemmas.{IsLoop, IsPlain, asks, begins_next, far_next, keeps_next, outside_too, plain_or_loop, stand_next}
 use Rattle.row_progress.specs.Begun.{IsBegun, stands}
@@ -44,7 +43,7 @@ use Rattle.row_progress.specs.Next.{IsNext}
 use Rattle.row_progress.proofs.WalkLemmas.{Under-zero, along, along_at}
 use Rattle.row_progress.specs.Walk.{IsAtStart, turned}
 use Rattle.row_progress.specs.declared.progress.Progress.{Progress}
-use Rattle.row_progress.specs.declared.kinds.Keeping.TheVariants.{Nothing, Words, Requests}
+use Rattle.row_progress.specs.declared.kinds.Keeping.TheVariants.{Requests}
 
 -- ---- some of a list, in its order
 tail_part : (x : ℕ) (xs ys : List ℕ) → IsPart (x ∷ xs) ys → IsPart xs ys

@@ -1,6 +1,6 @@
 -- Steps along a row.
-use Rattle.std.proofs.Common.{◌≡◌, ℕ, zero, suc, ◌+◌, ◌-◌, ◌<◌, ◌≤◌, List, [], ◌∷◌, length, map, take, refl, sym, ap, ◌∙◌, subst, arith, inl, inr, true, false}
-use Rattle.std.specs.Prelude.{Option, Some, None, IsSome, IsTrue, is_some, All, slice_get, ⊤, ◌↔◌}
+use Rattle.std.proofs.Common.{◌≡◌, ℕ, ◌+◌, ◌-◌, ◌<◌, List, [], length, map, take, refl, sym, ap, ◌∙◌, subst, arith, true, false}
+use Rattle.std.specs.Prelude.{Option, Some, None, IsSome, IsTrue, All, slice_get, ⊤, ◌↔◌}
 use Rattle.std.specs.List.{filter_map}
 use Rattle.std.specs.Option.{IfSome, option_map}
 use Rattle.std.proofs.lemmas.List.Elements.{All-nil}
@@ -8,13 +8,13 @@ use Rattle.node_form.specs.of_zpl_nums.declared.ends.End.{End}
 use Rattle.node_form.specs.declared.instructions.Instr.{Instr}
 use Rattle.node_form.specs.declared.instructions.Instr.TheVariants as instr
 use Rattle.node_form.specs.declared.tables.Tables.{Tables}
-use Rattle.grid_meaning.specs.Collective.{Collective, Stage, Alone, Sends, TakesFrom, Last, Use, AtOnce, InLast, Asking, others, stage_of}
+use Rattle.grid_meaning.specs.Collective.{Collective, Stage, TakesFrom, Last, Use, AtOnce, InLast, Asking, others, stage_of}
 use Rattle.grid_meaning.specs.Exchange.{finished, started}
-use Rattle.grid_meaning.specs.Local.{Local, left, processors}
+use Rattle.grid_meaning.specs.Local.{Local, processors}
 use Rattle.grid_meaning.specs.Remap.{remapped}
 use Rattle.grid_meaning.specs.Rows.{collective}
-use Rattle.grid_meaning.specs.State.{HasParts, IsAt, IsFresh, IsIn, IsLocal, IsOutside, IsPart, IsRequest, KeepsWords}
-use Rattle.node_local.specs.Workplace.{HasRoom, IsReady, Workplace}
+use Rattle.grid_meaning.specs.State.{IsAt, IsIn, IsLocal, IsOutside, IsPart, IsRequest, KeepsWords}
+use Rattle.node_local.specs.Workplace.{Workplace}
 use Rattle.node_stages.specs.Stage.{staged}
 use Rattle.node_stages.specs.declared.stages.Stage as told
 use Rattle.node_stages.specs.declared.stages.Stage.TheVariants as stages
@@ -22,8 +22,7 @@ use Rattle.row_turn.proofs.RecordLemmas.{is_row, of_row}
 use Rattle.row_turn.specs.Placed.{IsAtRow}
 use Rattle.row_turn.specs.Together.{IsTogether, OfRow}
 use Rattle.row_progress.proofs.StageLemmas.{EndsOnce, GoesOn, begins as some, goes_on, row_ends}
-use Rattle.row_progress.specs.Begun.{IsBegun}
-use Rattle.row_progress.specs.Walk.{IsAlong, IsAtStart, IsKeeper, IsNoKeeper, turned}
+use Rattle.row_progress.specs.Walk.{IsAlong, IsAtStart, IsNoKeeper, turned}
 
 -- ---- rows
 abbrev pub IsNotInLast : Use → Type 0

@@ -1,6 +1,6 @@
 -- The words of a row that keeps them until its last turn.
-use Rattle.std.proofs.Common.{◌≡◌, ℕ, ◌<◌, Bool, true, false, List, length, map, take, refl, sym, ap, ◌∙◌, subst, arith, inl, inr, ◌⊎◌, ℤ}
-use Rattle.std.specs.Prelude.{Option, Some, None, IsTrue, is_some, slice_get, ◌↔◌}
+use Rattle.std.proofs.Common.{◌≡◌, ℕ, ◌<◌, Bool, true, false, List, length, map, take, sym, ◌∙◌, subst, arith, ℤ}
+use Rattle.std.specs.Prelude.{Some, IsTrue, is_some, ◌↔◌}
 use Rattle.std.specs.Option.{IfSome}
 use Rattle.std.proofs.lemmas.List.{length-map}
 use Rattle.node_form.specs.declared.instructions.Instr.{Instr}
@@ -8,14 +8,13 @@ use Rattle.node_form.specs.declared.instructions.Instr.TheVariants as instr
 use Rattle.node_form.specs.declared.tables.Tables.{Tables}
 use Rattle.node_form.specs.Fits.{FitsInstr}
 use Rattle.grid_meaning.specs.Collective.{Collective}
-use Rattle.grid_meaning.specs.Local.{Local, processors}
 use Rattle.grid_meaning.specs.Rows.{collective}
 use Rattle.grid_meaning.specs.State.{ascending, senders}
 use Rattle.node_local.specs.Standing.{entry_of}
 use Rattle.node_local.specs.Workplace.{Workplace}
 use Rattle.node_local.specs.declared.standings.Kept.{Kept}
-use Rattle.grid_save.specs.Reads.{IsFar, IsFarAt, IsUnder, MayBegin, MayKeep, MayStand, with_kept}
-use Rattle.row_turn.proofs.RecordLemmas.{is_row, of_row}
+use Rattle.grid_save.specs.Reads.{IsFar, MayBegin, MayKeep, MayStand}
+use Rattle.row_turn.proofs.RecordLemmas.{is_row}
 use Rattle.row_turn.specs.Together.{IsTogether, OfRow}
 use Rattle.row_progress.proofs.KeepLemmas.{begin_words, keep_words, not_as_many, too_many, under_keeper, words_begin, words_keep}
 use Rattle.row_progress.specs.Begun.{IsBegun, stands}
@@ -23,7 +22,7 @@ use Rattle.row_progress.specs.Kept.{are_front}
 use Rattle.row_progress.specs.May.{AreWords, keeping_of}
 use Rattle.row_progress.specs.Next.{IsNext}
 use Rattle.row_progress.specs.Walk.{IsAtStart, IsKeeper}
-use Rattle.row_progress.specs.declared.kinds.Keeping.TheVariants.{Nothing, Words, Requests}
+use Rattle.row_progress.specs.declared.kinds.Keeping.TheVariants.{Words}
 use Rattle.row_progress.specs.declared.progress.Progress.{Progress}
 
 record IsKept (row : Instr) : Type 0 where

@@ -4,7 +4,7 @@
 --   are_front      the words are those of the first of some senders, each as long as is awaited
 --   AreProcessors  numbers of processors
 --   is_part        some of a list, in its order
-use Rattle.std.specs.Prelude.{◌≡◌, ℕ, ◌<◌, ⊤, ◌==◌, Bool, true, false, ◌&&◌, ℤ, List, [], ◌∷◌, length, Option, Some, None, if◌then◌else◌}
+use Rattle.std.specs.Prelude.{ℕ, ◌<◌, ⊤, ◌==◌, Bool, true, false, ◌&&◌, ℤ, List, [], ◌∷◌, length, Option, Some, None, if◌then◌else◌}
 use Rattle.grid_meaning.specs.State.{placed}
 
 abbrev pub with_sender : List ℕ → Option ℕ → List ℕ

@@ -1,5 +1,6 @@
 //! Requests of a `remap` that are kept.
-ghost use Rattle.std.specs.Prelude.{◌≡◌, ◌<◌, ◌≤◌, ◌↔◌, ◌∷◌, ℕ, List, All, IfOk, IsTrue, drop, is_some, length};
+ghost use Rattle.std.specs.Prelude.{◌≡◌, ◌<◌, ◌≤◌, ◌↔◌, ◌∷◌, ℕ, List, All, IfOk, IsTrue};
+ghost use Rattle.std.specs.Prelude.{drop, is_some, length};
 ghost use Rattle.std.specs.Prelude.{map, take, true, false};
 ghost use Rattle.node_form.specs.declared.tables.Tables.{Tables as Code};
 ghost use Rattle.grid_meaning.specs.Collective.{others};

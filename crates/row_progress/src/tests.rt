@@ -66,7 +66,8 @@ fn is_loop_far(
     ensures { IsTrue result ↔ ((region : Places)
         × (slice_get local.now.local.slots slot ≡ Some region)
         × (far.now.index ≤ length (members (own_part code.now p region)))
-        × ((far.now.member ≡ 0) ⊎ (far.now.index < length (members (own_part code.now p region))))) }
+        × ((far.now.member ≡ 0)
+        ⊎ (far.now.index < length (members (own_part code.now p region))))) }
 {
     let region = region_in(code, local, slot);
     let own = own_tuples(code, layout, &region, p);

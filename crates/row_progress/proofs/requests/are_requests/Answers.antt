@@ -1,5 +1,5 @@
-use Rattle.std.proofs.Common.{◌≡◌, false, true, List, ℤ, length, subst, arith}
-use Rattle.std.specs.Prelude.{IsTrue, ◌↔◌, All}
+use Rattle.std.proofs.Common.{◌≡◌, List, ℤ, subst, arith}
+use Rattle.std.specs.Prelude.{IsTrue, ◌↔◌}
 use Rattle.grid_meaning.specs.Local.{processors}
 use Rattle.grid_meaning.specs.State.{IsRequest}
 use Rattle.node_local.specs.Workplace.{Workplace}

@@ -1,10 +1,10 @@
-use Rattle.std.proofs.Common.{◌≡◌, ◌-◌, ◌<◌, true, false, map, sym, ap, ◌∙◌, subst, arith, take}
+use Rattle.std.proofs.Common.{◌≡◌, ◌-◌, true, false, map, sym, ap, ◌∙◌, subst, arith, take}
 use Rattle.std.specs.Prelude.{IsTrue, is_some, ◌↔◌, All}
 use Rattle.grid_layout.specs.Grid.{processors_of}
-use Rattle.grid_meaning.specs.Collective.{Asking, others}
+use Rattle.grid_meaning.specs.Collective.{others}
 use Rattle.grid_meaning.specs.Local.{processors}
-use Rattle.grid_meaning.specs.State.{IsRequest, KeepsWords}
-use Rattle.grid_save.specs.Reads.{IsFar, MayBegin, MayKeep, MayStand, with_kept}
+use Rattle.grid_meaning.specs.State.{IsRequest}
+use Rattle.grid_save.specs.Reads.{IsFar, MayBegin, MayKeep, MayStand}
 use Rattle.node_local.specs.Standing.{entry_of}
 use Rattle.node_stages.proofs.PieceLemmas.{grid_count}
 use Rattle.row_turn.specs.Together.{OfRow}

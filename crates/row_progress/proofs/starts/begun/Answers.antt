@@ -1,6 +1,5 @@
-use Rattle.std.proofs.Common.{sym, ap, subst, map, refl, List, [], ℤ, ℕ}
-use Rattle.grid_meaning.specs.State.{IsLocal}
-use Rattle.node_local.specs.Standing.{entry_of, standing_local}
+use Rattle.std.proofs.Common.{refl}
+use Rattle.node_local.specs.Standing.{standing_local}
 use Rattle.row_progress.proofs.BegunLemmas.{begun_local}
 use Rattle.row_progress.proofs.starts.begun.Goals as goal
 

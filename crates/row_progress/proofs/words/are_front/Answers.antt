@@ -1,4 +1,4 @@
-use Rattle.std.proofs.Common.{◌≡◌, arith, sym, ap, ◌∙◌, length}
+use Rattle.std.proofs.Common.{arith, ap, length}
 use Rattle.grid_meaning.specs.Local.{processors}
 use Rattle.row_progress.proofs.FrontLemmas.{not_awaited, of_another, one_awaited}
 use Rattle.row_progress.proofs.SenderLemmas.{each_at}
