@@ -6,3 +6,4 @@ pub use Rattle.grid_call.proofs as of_grid_call
 pub use Rattle.grid_call.proofs.of_grid_sim as of_grid_sim
 pub use Rattle.grid_call.proofs.of_row_turn as of_row_turn
 pub use Rattle.grid_call.proofs.of_exec_claims as of_exec_claims
+pub use Rattle.resume_claims.proofs as of_resume_claims

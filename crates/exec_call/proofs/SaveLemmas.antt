@@ -10,6 +10,7 @@ use Rattle.grid_meaning.specs.Grid.{Grid, processors, start_grid}
 use Rattle.grid_order.specs.Reading.{reading}
 use Rattle.grid_runs.specs.Run.{Run, GoesOnTo, IsLimitedAt, grid_at, turns_in}
 use Rattle.node_text.specs.Listing.{IsListing}
+use Rattle.resume_claims.specs.of_grid_save.Onward.{CanBeSaved, IsOnward}
 use Rattle.resume_claims.specs.of_grid_save.Saved.{IsSaveable, IsSaved}
 use Rattle.resume_claims.specs.of_grid_save.Written.{save_text}
 use Rattle.zpl_io.specs.Files.{SameTexts}
@@ -159,6 +160,20 @@ few_after law run zero start new left before after ended is few begun adds =
     counts_few (counts_of start.grid) (counts_of new.grid) (ap (λ (s : Simulation). s.grid.turns) begun)
     (ap (λ (s : Simulation). s.grid.sends) begun) (ap (λ (s : Simulation). s.grid.words) begun) adds
     (omega (arith, turns, within, few))
+
+-- what was printed isn't in the grid of a run that goes on
+pub can_be_saved : (run : Run) (k : ℕ) (new : Simulation) → new ≡ run_to run k
+    → AreCounted new.grid.turns new.grid.sends new.grid.words → IsOnward run.code (saved_at run k)
+    → CanBeSaved new.code new.grid
+can_be_saved run k new is few onward = record {
+  onward = subst (λ (s : Simulation). IsOnward s.code s.grid) (sym is) onward;
+  counts = record {
+    few_turns = few.few_turns;
+    few_sends = few.few_sends;
+    few_words = few.few_words;
+  };
+  printed = ap (λ (s : Simulation). s.grid.printed) is;
+}
 
 -- what is written of a grid that has a saved text is that
 pub saved_text : (bytes : List ℕ) (code : Tables) (grid : Grid) → IsListed code

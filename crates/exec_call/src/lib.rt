@@ -17,4 +17,5 @@ pub use checks::check_code;
 pub use fetches::fetch_code;
 pub use grid_call;
 pub use grid_call::{call_answers, grid_sim, row_turn};
+pub use resume_claims;
 pub use telling::{Telling, tell};

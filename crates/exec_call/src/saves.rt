@@ -7,7 +7,7 @@ ghost use Rattle.zpl_io.specs.Sink.{StopsAtFault};
 ghost use Rattle.grid_call.specs.of_code_layout.Room.{HasRoom};
 ghost use Rattle.grid_meaning.specs.Local.{processors};
 ghost use Rattle.grid_meaning.specs.Order.{IsOrder};
-ghost use Rattle.saved_runs.specs.Onward.{IsOnward};
+ghost use Rattle.resume_claims.specs.of_grid_save.Onward.{CanBeSaved};
 ghost use Rattle.resume_claims.specs.of_grid_save.Saved.{IsSaved};
 ghost use Rattle.call_claims.specs.Call.{call_of};
 ghost use Rattle.call_claims.specs.Command.{limit_of};
@@ -17,7 +17,6 @@ ghost use Rattle.call_words.specs.Reading.{asked_in};
 ghost use Rattle.grid_call.specs.Work.{IsCodeWork, IsRunOn};
 ghost use Rattle.grid_call.specs.of_call_answers.Answers.{status_of};
 ghost use Rattle.grid_call.specs.of_exec_claims.Cause.{run_of};
-ghost use Rattle.grid_call.specs.of_grid_sim.Counting.{AreCounted};
 ghost use Rattle.grid_call.specs.of_grid_sim.Simulation.{counts_of, start_simulation};
 ghost use Rattle.exec_call.specs.Work.{IsListed, IsSavedCode, IsSavedRun, is_limit, limited};
 
@@ -30,7 +29,7 @@ use grid_order::{Order, orders_have_their_bounds};
 use grid_runs::{endings_are_final, turns_count};
 use node_form::NodeProgram;
 use resume_claims::grid_save::write_save;
-use saved_runs::runs_stay_onward;
+use resume_claims::saved_runs::runs_stay_onward;
 use std::alloc::Global;
 use zpl_io::{Files, Sink};
 use zpl_nums::End;
@@ -154,8 +153,7 @@ fn is_limit(ended: &Result<End, SimFault>) -> bool
 /// Saves the grid of a run that had all its turns.
 fn save_grid<'a>(alloc: Global, sim: Sim) -> Telling<'a>
     requires listed { IsListed sim.code }
-    requires onward { IsOnward sim.code sim.grid }
-    requires counts { AreCounted sim.grid.turns sim.grid.sends sim.grid.words }
+    requires fits { CanBeSaved sim.code sim.grid }
     ensures code { result.work.code ≡ Some sim.code }
     ensures counts { result.work.counts ≡ counts_of sim.grid }
     ensures saved { MatchOption result.text (result.work.answer ≡ Answer.NoMemory)

@@ -7,7 +7,7 @@ use Rattle.grid_meaning.specs.Grid.{Grid, processors}
 use Rattle.grid_order.specs.Reading.{reading}
 use Rattle.grid_runs.specs.Run.{GoesOnTo, Run, grid_at}
 use Rattle.grid_runs.proofs.TurnLemmas.{turns_at}
-use Rattle.grid_save.specs.Saved.{IsSaved}
+use Rattle.exec_call.specs.of_resume_claims.of_grid_save.Saved.{IsSaved}
 use Rattle.call_words.specs.of_call_claims.declared.ran.Ran.{Ran}
 use Rattle.call_words.specs.of_call_claims.Call.{Call}
 use Rattle.call_words.specs.of_call_claims.Command.{Asked, ExecTakes, IsExec, ResumeTakes, limit_of}
@@ -18,14 +18,14 @@ use Rattle.call_words.proofs.of_call_claims.OneLemmas.{of_given}
 use Rattle.exec_call.specs.of_exec_claims.Answer.{TakesPrinted as TakesRun}
 use Rattle.exec_call.specs.of_exec_claims.Cause.{RunCause, run_of}
 use Rattle.exec_call.specs.of_exec_claims.Decided.{IsOrderText}
-use Rattle.resume_claims.specs.Answer.{HasCounts, HasSavedCounts, IsReadFor, IsSavedIn, Runs, TakesPrinted}
-use Rattle.resume_claims.specs.Cause.{Onward, OnwardCause, Source, onward_run}
-use Rattle.resume_claims.specs.Onward.{GoesOnFrom, in_front, joined}
-use Rattle.resume_claims.specs.Saving.{SavesRun, Tells, saved_at}
-use Rattle.resume_claims.specs.Saving.Tells.{told, saved}
-use Rattle.resume_claims.specs.Whole.{CanResume, HasResumed}
-use Rattle.resume_claims.proofs.JoinedLemmas.{ends_as_one, joined_to}
-use Rattle.resume_claims.proofs.OnwardLemmas.{IsOneGrid}
+use Rattle.exec_call.specs.of_resume_claims.Answer.{HasCounts, HasSavedCounts, IsReadFor, IsSavedIn, Runs, TakesPrinted}
+use Rattle.exec_call.specs.of_resume_claims.Cause.{Onward, OnwardCause, Source, onward_run}
+use Rattle.exec_call.specs.of_resume_claims.Onward.{GoesOnFrom, in_front, joined}
+use Rattle.exec_call.specs.of_resume_claims.Saving.{SavesRun, Tells, saved_at}
+use Rattle.exec_call.specs.of_resume_claims.Saving.Tells.{told, saved}
+use Rattle.exec_call.specs.of_resume_claims.Whole.{CanResume, HasResumed}
+use Rattle.exec_call.proofs.of_resume_claims.JoinedLemmas.{ends_as_one, joined_to}
+use Rattle.exec_call.proofs.of_resume_claims.OnwardLemmas.{IsOneGrid}
 use Rattle.resume_call.specs.Parts.{AreOneRun, AsksSaved, GoesOnWith, IsFirstPart, IsOneRun, whole_run}
 
 -- ---- the order of a call
@@ -156,9 +156,9 @@ module _ (one : IsOneGrid) (run : Run) (k : ℕ) (bytes : List ℕ) (is : IsSave
         let still : j ≡ 0 = no_more other same stands.turns in
         record {
           sends = stands.sends ∙ (ap (λ (g : Grid). g.sends) same
-          ∙ ap (λ n. (grid_at (onward_run run.code (saved_at run k) on.asked on.order) n).sends) (sym still));
+              ∙ ap (λ n. (grid_at (onward_run run.code (saved_at run k) on.asked on.order) n).sends) (sym still));
           words = stands.words ∙ (ap (λ (g : Grid). g.words) same
-          ∙ ap (λ n. (grid_at (onward_run run.code (saved_at run k) on.asked on.order) n).words) (sym still));
+              ∙ ap (λ n. (grid_at (onward_run run.code (saved_at run k) on.asked on.order) n).words) (sym still));
         }
     counts_by other same (inr runs) =
         let has = of_runs (λ r n. HasCounts r ran n) other same runs in
@@ -188,13 +188,13 @@ module _ (one : IsOneGrid) (run : Run) (k : ℕ) (bytes : List ℕ) (is : IsSave
         code = has.made;
         goes_on = subst (GoesOnTo (joined run k going)) (sym total) (ends.goes_on first has.onward.goes_on);
         sends = counts.sends ∙ (ap (λ (g : Grid). g.sends) (sym at)
-        ∙ ap (λ n. (grid_at (joined run k going) n).sends) (sym total));
+            ∙ ap (λ n. (grid_at (joined run k going) n).sends) (sym total));
         words = counts.words ∙ (ap (λ (g : Grid). g.words) (sym at)
-        ∙ ap (λ n. (grid_at (joined run k going) n).words) (sym total));
+            ∙ ap (λ n. (grid_at (joined run k going) n).words) (sym total));
         printed = (grid_at going j).printed;
         put = printed;
         all_printed = ap (λ (g : Grid). g.printed) (sym at)
-        ∙ ap (λ n. (grid_at (joined run k going) n).printed) (sym total);
+            ∙ ap (λ n. (grid_at (joined run k going) n).printed) (sym total);
         text = done.0;
         told = done.1;
         ended = subst (λ n. RunCause (joined run k going) on.asked.report n ran.status done.0) (sym total)

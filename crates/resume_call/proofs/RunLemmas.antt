@@ -23,7 +23,7 @@ use Rattle.exec_call.specs.of_call_answers.declared.answers.Answer.{Answer}
 use Rattle.exec_call.specs.of_call_answers.declared.answers.Answer.TheVariants as answer
 use Rattle.exec_call.specs.of_call_answers.declared.answers.Stop.{Stop}
 use Rattle.exec_call.specs.of_call_answers.declared.answers.Stop.TheVariants as stop
-use Rattle.resume_claims.specs.Cause.{OnwardCause, report_from}
+use Rattle.exec_call.specs.of_resume_claims.Cause.{OnwardCause, report_from}
 use Rattle.resume_call.specs.Work.{IsOnwardOn}
 
 -- the report is that of the counts

@@ -15,11 +15,11 @@ use Rattle.grid_meaning.specs.Grid.{Grid, processors}
 use Rattle.grid_meaning.specs.Local.{Local}
 use Rattle.grid_order.specs.Reading.{reading}
 use Rattle.grid_runs.specs.Run.{Run}
-use Rattle.grid_save.specs.Kept.{IsEnding}
-use Rattle.grid_save.specs.Saved.{IsSaved}
-use Rattle.grid_save.specs.Fault.{Explains}
-use Rattle.grid_save.specs.declared.faults.SaveFault.{SaveFault}
-use Rattle.grid_save.specs.declared.faults.SaveFault.TheVariants as wanting
+use Rattle.exec_call.specs.of_resume_claims.of_grid_save.Kept.{IsEnding}
+use Rattle.exec_call.specs.of_resume_claims.of_grid_save.Saved.{IsSaved}
+use Rattle.exec_call.specs.of_resume_claims.of_grid_save.Fault.{Explains}
+use Rattle.exec_call.specs.of_resume_claims.of_grid_save.declared.faults.SaveFault.{SaveFault}
+use Rattle.exec_call.specs.of_resume_claims.of_grid_save.declared.faults.SaveFault.TheVariants as wanting
 use Rattle.call_words.specs.of_call_claims.Answer.{IsAnswered, IsHalfAnswered}
 use Rattle.call_words.specs.of_call_claims.Call.{Call, call_of}
 use Rattle.call_words.specs.of_call_claims.Command.{Asked, IsResume}
@@ -50,15 +50,15 @@ use Rattle.exec_call.specs.of_grid_sim.Simulation.{counts_of}
 use Rattle.exec_call.specs.of_grid_sim.declared.counts.Counts.{Counts}
 use Rattle.exec_call.proofs.ToldLemmas.{IsToldSo, answer_told, text_told}
 use Rattle.exec_call.proofs.of_grid_call.WorkLemmas.{AreFew, none_counted, order_back, source_back, text_few}
-use Rattle.resume_claims.specs.Answer.{GoesOn, HasSavedCounts, IsReadFor, TakesPrinted}
-use Rattle.resume_claims.specs.Cause.{Cause, GridCause, GridFileCause, IsRefused, IsTooLong, Onward, ResumeCause, SavesNone, Source}
-use Rattle.resume_claims.specs.Cause.{onward_run}
-use Rattle.resume_claims.specs.Cause.GridCause.{bad_item, ran as went}
-use Rattle.resume_claims.specs.Cause.SavedCause.{refused as no_save, saved as of_save}
-use Rattle.resume_claims.specs.Cause.ResumeCause.{unreadable, too_long, work}
-use Rattle.resume_claims.specs.Cause.Cause.{no_memory, resume}
-use Rattle.resume_claims.specs.Texts.{fault_text}
-use Rattle.resume_claims.specs.declared.limits.TheConstants.{MOST_SAVED}
+use Rattle.exec_call.specs.of_resume_claims.Answer.{GoesOn, HasSavedCounts, IsReadFor, TakesPrinted}
+use Rattle.exec_call.specs.of_resume_claims.Cause.{Cause, GridCause, GridFileCause, IsRefused, IsTooLong, Onward, ResumeCause, SavesNone, Source}
+use Rattle.exec_call.specs.of_resume_claims.Cause.{onward_run}
+use Rattle.exec_call.specs.of_resume_claims.Cause.GridCause.{bad_item, ran as went}
+use Rattle.exec_call.specs.of_resume_claims.Cause.SavedCause.{refused as no_save, saved as of_save}
+use Rattle.exec_call.specs.of_resume_claims.Cause.ResumeCause.{unreadable, too_long, work}
+use Rattle.exec_call.specs.of_resume_claims.Cause.Cause.{no_memory, resume}
+use Rattle.exec_call.specs.of_resume_claims.Texts.{fault_text}
+use Rattle.exec_call.specs.of_resume_claims.declared.limits.TheConstants.{MOST_SAVED}
 use Rattle.resume_call.specs.Call.{IsCutIn, IsResumed}
 use Rattle.resume_call.specs.Work.{HasNone, IsFileWork, IsGridWork, IsOnwardOn, IsTextWork, StandsStill}
 use Rattle.resume_call.specs.Work.IsGridWork.{unordered, ran}

@@ -17,10 +17,10 @@ use Rattle.call_words.specs.of_call_claims.Stream.{Stream}
 use Rattle.call_words.specs.of_call_claims.declared.status.TheConstants.{DONE, PUT_FAILED, TOO_LONG, TRAPPED, TURN_LIMIT}
 use Rattle.exec_call.specs.of_exec_claims.Decided.{IsDoneAt, IsStuckOrIdleAt, IsTrapAt}
 use Rattle.exec_call.specs.of_exec_claims.declared.status.TheConstants.{ORDER_REFUSED, SAVE_REFUSED, STUCK}
-use Rattle.resume_claims.specs.Answer.{GoesOn, IsReadFor, TakesPrinted}
-use Rattle.resume_claims.specs.Cause.{Cause, Resumes}
-use Rattle.resume_claims.specs.Decided.{ResumesBadOrder, ResumesNone, ResumesRun, ResumesTooLong}
-use Rattle.resume_claims.specs.Whole.{CanResume, HasResumed}
+use Rattle.exec_call.specs.of_resume_claims.Answer.{GoesOn, IsReadFor, TakesPrinted}
+use Rattle.exec_call.specs.of_resume_claims.Cause.{Cause, Resumes}
+use Rattle.exec_call.specs.of_resume_claims.Decided.{ResumesBadOrder, ResumesNone, ResumesRun, ResumesTooLong}
+use Rattle.exec_call.specs.of_resume_claims.Whole.{CanResume, HasResumed}
 
 -- ---- a put that failed
 -- The run went on, and the stream took what is printed in the given turns and a front of what the

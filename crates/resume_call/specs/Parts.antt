@@ -24,8 +24,8 @@ use Rattle.call_words.specs.of_call_claims.declared.status.TheConstants.{TURN_LI
 use Rattle.exec_call.specs.Call.{IsExecuted}
 use Rattle.exec_call.specs.of_exec_claims.Cause.{RunCause, run_of}
 use Rattle.exec_call.specs.of_exec_claims.Decided.{IsOrderText}
-use Rattle.resume_claims.specs.Cause.{Source}
-use Rattle.resume_claims.specs.Saving.{SavesRun}
+use Rattle.exec_call.specs.of_resume_claims.Cause.{Source}
+use Rattle.exec_call.specs.of_resume_claims.Saving.{SavesRun}
 use Rattle.resume_call.specs.Call.{IsResumed}
 
 -- ---- the first part

@@ -10,8 +10,8 @@ use Rattle.zpl_io.specs.Sink.{Takes}
 use Rattle.node_form.specs.declared.tables.Tables.{Tables}
 use Rattle.grid_meaning.specs.Grid.{Grid}
 use Rattle.grid_runs.specs.Run.{Run, grid_at, turns_in, GoesOnTo, IsCutOff}
-use Rattle.grid_save.specs.Saved.{IsSaved}
-use Rattle.grid_save.specs.declared.faults.SaveFault.{SaveFault}
+use Rattle.exec_call.specs.of_resume_claims.of_grid_save.Saved.{IsSaved}
+use Rattle.exec_call.specs.of_resume_claims.of_grid_save.declared.faults.SaveFault.{SaveFault}
 use Rattle.call_words.specs.of_call_claims.Call.{Call}
 use Rattle.call_words.specs.of_call_claims.Command.{Asked}
 use Rattle.call_words.specs.of_call_claims.Decided.{IsDecided}
@@ -24,9 +24,9 @@ use Rattle.exec_call.specs.of_call_answers.declared.work.Work.{Work}
 use Rattle.exec_call.specs.of_grid_call.Work.{HasNoTurns, IsOrderOf}
 use Rattle.exec_call.specs.of_grid_sim.Simulation.{counts_of}
 use Rattle.exec_call.specs.of_grid_sim.declared.counts.Counts.{Counts}
-use Rattle.resume_claims.specs.Cause.{GridFileCause, IsRefused, OnwardCause, Source, onward_run}
-use Rattle.resume_claims.specs.Texts.{fault_text}
-use Rattle.resume_claims.specs.declared.limits.TheConstants.{MOST_SAVED}
+use Rattle.exec_call.specs.of_resume_claims.Cause.{GridFileCause, IsRefused, OnwardCause, Source, onward_run}
+use Rattle.exec_call.specs.of_resume_claims.Texts.{fault_text}
+use Rattle.exec_call.specs.of_resume_claims.declared.limits.TheConstants.{MOST_SAVED}
 
 -- ---- a run
 -- So many turns were given, before none of which it stopped; the counts are the grid's, what was

@@ -15,7 +15,7 @@ use call_claims::Ran;
 use call_words::FileCommand;
 use exec_call::grid_call::exec_claims::status::SAVE_REFUSED;
 use exec_call::tell;
-use resume_claims::{resume_statuses_are_exact, saved_grids_are_resumed};
+use exec_call::resume_claims::{resume_statuses_are_exact, saved_grids_are_resumed};
 use std::alloc::Global;
 use zpl_io::{Files, Sink};
 

@@ -7,7 +7,7 @@ ghost use Rattle.call_words.specs.of_call_claims.Stream.{stream_of};
 ghost use Rattle.call_words.specs.of_call_claims.declared.ran.Ran.{Ran};
 ghost use Rattle.resume_call.specs.Parts.{AreOneRun, AsksSaved, IsFirstPart};
 
-use resume_claims::grid_save::texts_tell_one_grid;
+use exec_call::resume_claims::grid_save::texts_tell_one_grid;
 use zpl_io::{Files, Sink};
 
 /// A call of `exec` told the saved grid, as its words ask, and one of `resume` goes on from what it

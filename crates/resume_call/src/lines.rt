@@ -1,9 +1,9 @@
 //! The line that is told where bytes are no saved grid.
 ghost use Rattle.std.specs.Prelude.{◌≡◌, ◌≢◌, ◌++◌, IfOk, OnOk};
 ghost use Rattle.std.specs.Fmt.{decimal};
-ghost use Rattle.resume_claims.specs.Texts.{fault_text, save_refused_text};
+ghost use Rattle.exec_call.specs.of_resume_claims.Texts.{fault_text, save_refused_text};
 
-use grid_save::SaveFault;
+use exec_call::resume_claims::grid_save::SaveFault;
 use itoa::Buffer;
 use std::alloc::{AllocError, Global};
 

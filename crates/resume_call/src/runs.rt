@@ -13,7 +13,7 @@ ghost use Rattle.call_words.specs.of_call_claims.declared.status.TheConstants.{U
 ghost use Rattle.call_words.specs.Reading.{asked_in};
 ghost use Rattle.exec_call.specs.of_call_answers.Answers.{status_of};
 ghost use Rattle.exec_call.specs.of_grid_sim.Counting.{AreCounted};
-ghost use Rattle.resume_claims.specs.Cause.{onward_run};
+ghost use Rattle.exec_call.specs.of_resume_claims.Cause.{onward_run};
 ghost use Rattle.resume_call.specs.Work.{IsGridWork, IsOnwardOn};
 
 use call_words::Asked;

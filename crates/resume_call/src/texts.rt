@@ -9,8 +9,8 @@ ghost use Rattle.call_words.specs.of_call_claims.declared.status.TheConstants.{U
 ghost use Rattle.call_words.specs.Reading.{asked_in};
 ghost use Rattle.exec_call.specs.of_call_answers.Answers.{status_of};
 ghost use Rattle.exec_call.specs.of_call_answers.Work.{no_counts};
-ghost use Rattle.resume_claims.specs.Texts.{fault_text};
-ghost use Rattle.resume_claims.specs.declared.limits.TheConstants.{MOST_SAVED};
+ghost use Rattle.exec_call.specs.of_resume_claims.Texts.{fault_text};
+ghost use Rattle.exec_call.specs.of_resume_claims.declared.limits.TheConstants.{MOST_SAVED};
 ghost use Rattle.resume_call.specs.Work.{IsFileWork, IsTextWork};
 
 use crate::lines::fault_line;
@@ -18,8 +18,8 @@ use crate::runs::go_on;
 use call_words::{Asked, FileCommand};
 use exec_call::Telling;
 use exec_call::call_answers::{Answer, Work, text_of_file};
-use grid_save::SaveFault;
-use resume_claims::MOST_SAVED;
+use exec_call::resume_claims::grid_save::SaveFault;
+use exec_call::resume_claims::MOST_SAVED;
 use save_texts::{read_save, texts_are_saved_or_faulty};
 use std::alloc::Global;
 use zpl_io::{Files, Sink};

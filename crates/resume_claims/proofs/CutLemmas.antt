@@ -76,4 +76,3 @@ module _ (count : ℕ) where
       ∙ (ap (λ g. g ++ turn_number (given order count k ++ ys) count (k + j) ∷ []) (given-both order ys k j)
       ∙ (ap (λ t. (given order count k ++ given ys count j) ++ t ∷ []) (given-number order ys k j)
       ∙ append_assoc (given order count k) (given ys count j) (turn_number ys count j ∷ [])))
-

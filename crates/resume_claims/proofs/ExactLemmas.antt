@@ -6,7 +6,7 @@ use Rattle.node_form.specs.declared.tables.Tables.{Tables}
 use Rattle.grid_meaning.specs.Grid.{Grid, processors}
 use Rattle.grid_order.specs.Reading.{reading}
 use Rattle.grid_runs.specs.Run.{Run, IsLimitedAt}
-use Rattle.grid_save.specs.Saved.{IsSaved}
+use Rattle.saved_runs.specs.of_grid_save.Saved.{IsSaved}
 use Rattle.exec_claims.specs.of_call_claims.Call.{Call}
 use Rattle.exec_claims.specs.of_call_claims.Command.{Asked, ResumeTakes}
 use Rattle.exec_claims.specs.of_call_claims.Decided.{IsSettled}

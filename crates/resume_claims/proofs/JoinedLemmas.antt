@@ -14,7 +14,7 @@ use Rattle.grid_meaning.specs.Order.{given, turn_number}
 use Rattle.grid_meaning.proofs.GridLemmas.{length-given}
 use Rattle.grid_runs.specs.Run.{GoesOnTo, HasNext, IsFirstRunning, IsIdleAt, IsLimitedAt, IsStopped, IsStuckAt, Run, Stops, grid_at}
 use Rattle.grid_runs.proofs.TurnLemmas.{turns_at}
-use Rattle.grid_save.specs.Saved.{IsSaved}
+use Rattle.saved_runs.specs.of_grid_save.Saved.{IsSaved}
 use Rattle.exec_claims.specs.of_call_claims.Command.{Asked}
 use Rattle.exec_claims.specs.of_call_claims.Texts.{trap_text, turn_limit_text}
 use Rattle.exec_claims.specs.Cause.{RunCause, report_at}

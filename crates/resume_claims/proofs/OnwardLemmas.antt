@@ -5,7 +5,7 @@ use Rattle.node_form.specs.declared.tables.Tables.{Tables}
 use Rattle.grid_meaning.specs.Grid.{Grid, after_from, given_turn, next_turn, printed_by, processors, shown_in}
 use Rattle.grid_meaning.specs.Order.{given}
 use Rattle.grid_runs.specs.Run.{Run, grid_at}
-use Rattle.grid_save.specs.Saved.{IsSaved}
+use Rattle.saved_runs.specs.of_grid_save.Saved.{IsSaved}
 use Rattle.resume_claims.specs.Onward.{GoesOnFrom, after_both, in_front}
 use Rattle.resume_claims.specs.Saving.{saved_at}
 

@@ -3,7 +3,7 @@ use Rattle.std.proofs.Common.{◌≡◌, ◌≢◌, ℕ, List, [], Option, Some,
 use Rattle.node_form.specs.declared.tables.Tables.{Tables}
 use Rattle.grid_meaning.specs.Grid.{Grid, processors}
 use Rattle.grid_order.specs.Reading.{reading}
-use Rattle.grid_save.specs.Saved.{IsSaved}
+use Rattle.saved_runs.specs.of_grid_save.Saved.{IsSaved}
 use Rattle.exec_claims.specs.of_call_claims.Call.{Call}
 use Rattle.exec_claims.specs.of_call_claims.Command.{Asked, IsResume, ResumeTakes}
 use Rattle.exec_claims.specs.of_call_claims.Decided.{IsSettled}

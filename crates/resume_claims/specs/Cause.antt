@@ -13,10 +13,10 @@ use Rattle.node_form.specs.declared.tables.Tables.{Tables}
 use Rattle.grid_meaning.specs.Grid.{Grid, processors}
 use Rattle.grid_order.specs.Reading.{reading}
 use Rattle.grid_runs.specs.Run.{Run, grid_at, GoesOnTo}
-use Rattle.grid_save.specs.declared.faults.SaveFault.{SaveFault}
-use Rattle.grid_save.specs.declared.faults.SaveFault.TheVariants as fault
-use Rattle.grid_save.specs.Fault.{Explains}
-use Rattle.grid_save.specs.Saved.{IsSaved}
+use Rattle.saved_runs.specs.of_grid_save.declared.faults.SaveFault.{SaveFault}
+use Rattle.saved_runs.specs.of_grid_save.declared.faults.SaveFault.TheVariants as fault
+use Rattle.saved_runs.specs.of_grid_save.Fault.{Explains}
+use Rattle.saved_runs.specs.of_grid_save.Saved.{IsSaved}
 use Rattle.exec_claims.specs.of_call_claims.Call.{Call}
 use Rattle.exec_claims.specs.of_call_claims.Execution.{Execution, HasNoRun}
 use Rattle.exec_claims.specs.of_call_claims.Texts.{unreadable_text, too_long_text, no_memory_text}

@@ -7,7 +7,7 @@
 use Rattle.std.specs.Prelude.{◌≡◌, ℕ, true, List, []}
 use Rattle.grid_meaning.specs.Grid.{Grid}
 use Rattle.grid_runs.specs.Run.{Run, grid_at, IsLimitedAt}
-use Rattle.grid_save.specs.Saved.{IsSaved}
+use Rattle.saved_runs.specs.of_grid_save.Saved.{IsSaved}
 use Rattle.exec_claims.specs.of_call_claims.Call.{Call}
 use Rattle.exec_claims.specs.of_call_claims.Command.{Asked}
 use Rattle.exec_claims.specs.of_call_claims.Execution.{Execution}

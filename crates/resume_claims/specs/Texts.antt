@@ -1,8 +1,8 @@
 -- The text that is told where a file holds no saved grid, as one piece.
 use Rattle.std.specs.Prelude.{ℕ, List, ◌++◌, codes}
 use Rattle.std.specs.Fmt.{decimal}
-use Rattle.grid_save.specs.declared.faults.SaveFault.{SaveFault}
-use Rattle.grid_save.specs.declared.faults.SaveFault.TheVariants as fault
+use Rattle.saved_runs.specs.of_grid_save.declared.faults.SaveFault.{SaveFault}
+use Rattle.saved_runs.specs.of_grid_save.declared.faults.SaveFault.TheVariants as fault
 use Rattle.exec_claims.specs.of_call_claims.Texts.{no_memory_text}
 
 -- a fault by its name, at a line

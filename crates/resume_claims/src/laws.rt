@@ -2,7 +2,7 @@
 ghost use Rattle.std.specs.Prelude.{◌≡◌, ℕ, List, None};
 ghost use Rattle.grid_meaning.specs.Grid.{Grid};
 ghost use Rattle.grid_runs.specs.Run.{Run};
-ghost use Rattle.grid_save.specs.Saved.{IsSaved};
+ghost use Rattle.saved_runs.specs.of_grid_save.Saved.{IsSaved};
 ghost use Rattle.node_form.specs.declared.tables.Tables.{Tables as Code};
 ghost use Rattle.exec_claims.specs.of_call_claims.Call.{call_of};
 ghost use Rattle.exec_claims.specs.of_call_claims.Command.{Asked, IsResume};
@@ -14,7 +14,7 @@ ghost use Rattle.resume_claims.specs.Onward.{AreOne, EndAsOne, GoesOnFrom};
 ghost use Rattle.resume_claims.specs.Saving.{saved_at};
 ghost use Rattle.resume_claims.specs.Whole.{CanResume, HasResumed};
 
-use grid_save::texts_tell_one_grid;
+use saved_runs::grid_save::texts_tell_one_grid;
 use zpl_io::Files;
 
 /// A run that goes on from the grid of another one, as that was saved after some turns, is one with

@@ -8,6 +8,7 @@
 mod laws;
 mod limits;
 
-pub use grid_save;
 pub use laws::{resume_statuses_are_exact, runs_go_on, saved_grids_are_resumed, saved_runs_go_on};
 pub use limits::MOST_SAVED;
+pub use saved_runs;
+pub use saved_runs::grid_save;

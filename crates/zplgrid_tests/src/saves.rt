@@ -95,15 +95,25 @@ fn runs_that_are_cut(rt: HostRuntime) -> Result<(), Fail> {
 fn no_turn_from_a_saved_grid(rt: HostRuntime) -> Result<(), Fail> {
     let words = ["resume", "a", "order=o"];
     let wanted = (6, "", "order refused, byte 2\n", 5);
-    expect(&rt, rt.alloc(), &words, FIRST_SAVED.as_bytes(), "1 2", wanted)?;
+    expect(
+        &rt,
+        rt.alloc(),
+        &words,
+        FIRST_SAVED.as_bytes(),
+        "1 2",
+        wanted,
+    )?;
     Ok(())
 }
 
 /// The first lines of `FOLD_SAVED`, and the states in it.
 const HEAD: &str = "zplsave 1\ncounts 2 1 1\nzplnode 1\ngrid 2\nscalars 1\nslots\ncells 0\n\
     code\nfold 0 sum\nend\n";
+
 const ONE: &str = "proc 0 at 0 made 0 index 0 member 0 flag -1 end -\nscalars 0\ncells\n";
+
 const OTHER: &str = "proc 1 at 0 made 1 index 0 member 0 flag -1 end -\nscalars 0\ncells\n";
+
 const SENT: &str = "msg 0 1 0\n";
 
 /// Texts in four parts with one wrong word, or a line that is missing, and the line that is named.
@@ -113,45 +123,97 @@ const WRONG: [([&str; 4], &str); 18] = [
         "save refused: BadLine, line 1\n",
     ),
     (
-        ["zplsave 1\ncounts 4611686018427387904 1 1\n", ONE, OTHER, SENT],
+        [
+            "zplsave 1\ncounts 4611686018427387904 1 1\n",
+            ONE,
+            OTHER,
+            SENT,
+        ],
         "save refused: BadLine, line 2\n",
     ),
     (
-        ["zplsave 1\ncounts 2 1 1\nzplnode 1\ngrid 2\nscalars 1\nslots\ncells 0\ncode\nfold 1 sum\nend\n",
-            ONE, OTHER, SENT],
+        [
+            "zplsave 1\ncounts 2 1 1\nzplnode 1\ngrid 2\nscalars 1\nslots\ncells 0\ncode\nfold 1 sum\nend\n",
+            ONE,
+            OTHER,
+            SENT,
+        ],
         "save refused: BadTable, line 9\n",
     ),
     (
-        [HEAD, "proc 0 at 0 made 0 index 0 member 0 flag -1 end\nscalars 0\ncells\n", OTHER, SENT],
+        [
+            HEAD,
+            "proc 0 at 0 made 0 index 0 member 0 flag -1 end\nscalars 0\ncells\n",
+            OTHER,
+            SENT,
+        ],
         "save refused: BadLine, line 11\n",
     ),
-    ([HEAD, OTHER, ONE, SENT], "save refused: BadState, line 11\n"),
     (
-        [HEAD, "proc 0 at 0 made 9 index 0 member 0 flag -1 end -\nscalars 0\ncells\n", OTHER, SENT],
+        [HEAD, OTHER, ONE, SENT],
         "save refused: BadState, line 11\n",
     ),
     (
-        [HEAD, "proc 0 at 0 made 0 index 1 member 0 flag -1 end -\nscalars 0\ncells\n", OTHER, SENT],
+        [
+            HEAD,
+            "proc 0 at 0 made 9 index 0 member 0 flag -1 end -\nscalars 0\ncells\n",
+            OTHER,
+            SENT,
+        ],
         "save refused: BadState, line 11\n",
     ),
     (
-        [HEAD, "proc 0 at 0 made 0 index 0 member 1 flag -1 end -\nscalars 0\ncells\n", OTHER, SENT],
+        [
+            HEAD,
+            "proc 0 at 0 made 0 index 1 member 0 flag -1 end -\nscalars 0\ncells\n",
+            OTHER,
+            SENT,
+        ],
         "save refused: BadState, line 11\n",
     ),
     (
-        [HEAD, "proc 0 at 0 made 0 index 0 member 0 flag 0 end -\nscalars 0\ncells\n", OTHER, SENT],
+        [
+            HEAD,
+            "proc 0 at 0 made 0 index 0 member 1 flag -1 end -\nscalars 0\ncells\n",
+            OTHER,
+            SENT,
+        ],
         "save refused: BadState, line 11\n",
     ),
     (
-        [HEAD, "proc 0 at 0 made 0 index 0 member 0 flag -1 end trap:5:1\nscalars 0\ncells\n", OTHER, SENT],
+        [
+            HEAD,
+            "proc 0 at 0 made 0 index 0 member 0 flag 0 end -\nscalars 0\ncells\n",
+            OTHER,
+            SENT,
+        ],
         "save refused: BadState, line 11\n",
     ),
     (
-        [HEAD, "proc 0 at 0 made 0 index 0 member 0 flag -1 end -\nscalars 0 0\ncells\n", OTHER, SENT],
+        [
+            HEAD,
+            "proc 0 at 0 made 0 index 0 member 0 flag -1 end trap:5:1\nscalars 0\ncells\n",
+            OTHER,
+            SENT,
+        ],
+        "save refused: BadState, line 11\n",
+    ),
+    (
+        [
+            HEAD,
+            "proc 0 at 0 made 0 index 0 member 0 flag -1 end -\nscalars 0 0\ncells\n",
+            OTHER,
+            SENT,
+        ],
         "save refused: BadState, line 12\n",
     ),
     (
-        [HEAD, "proc 0 at 0 made 0 index 0 member 0 flag -1 end -\nscalars 0\ncells 0\n", OTHER, SENT],
+        [
+            HEAD,
+            "proc 0 at 0 made 0 index 0 member 0 flag -1 end -\nscalars 0\ncells 0\n",
+            OTHER,
+            SENT,
+        ],
         "save refused: BadState, line 13\n",
     ),
     (
@@ -202,7 +264,8 @@ fn texts_of_no_grid(rt: HostRuntime) -> Result<(), Fail> {
     Ok(())
 }
 
-const JACOBI: &str = "program jacobi;\nconfig var n : integer = 8;\n           delta : integer = 100;\n\
+const JACOBI: &str =
+    "program jacobi;\nconfig var n : integer = 8;\n           delta : integer = 100;\n\
     region R = [1..n, 1..n];\ndirection north = [-1, 0]; south = [1, 0];\n\
     \x20         west = [0, -1]; east = [0, 1];\nvar A, T : [R] integer;\n    err, turns : integer;\n\
     procedure jacobi();\n[R] begin\n  [north of R] A := 0;\n  [west of R] A := 0;\n\

@@ -9,20 +9,10 @@ use Rattle.grid_call.specs.of_exec_claims.Cause.{run_of}
 use Rattle.grid_call.specs.of_grid_sim.Run.{EndsRun}
 use Rattle.grid_call.specs.of_grid_sim.Simulation.{Simulation}
 use Rattle.grid_call.proofs.RunLemmas.{run_is_on}
-use Rattle.saved_runs.specs.Onward.{IsOnward}
 use Rattle.exec_call.specs.Work.{IsListed}
-use Rattle.exec_call.proofs.SaveLemmas.{few_after, limit_answer, limit_at, other_answer, run_begun}
+use Rattle.exec_call.proofs.SaveLemmas.{can_be_saved, few_after, limit_answer, limit_at, other_answer, run_begun}
 use Rattle.exec_call.proofs.SaveLemmas.{saved_after, saved_ran, turns_at, unsaved_run}
 use Rattle.exec_call.proofs.saves.save_run.Goals as goal
-
-pub save_grid-requires-clause-onward : goal.save_grid-requires-clause-onward
-save_grid-requires-clause-onward g c =
-    let run = run_of c.args.sim.code (asked_in c.args.asked) c.args.order in
-    let is = run_begun c.args.sim (asked_in c.args.asked) c.args.order c.limit.result c.run-ended.new.self
-    c.run-ended.new.order _ _ c.run-ended.result c.requires.start c.requires.links c.limit.ensures
-    c.run-ended.ensures.run in
-    subst (λ (s : Simulation). IsOnward s.code s.grid) (sym is.grid)
-    (c.runs_stay_onward.ensures.runs run is.turns (c.runs_stay_onward.ensures.start c.args.sim.code))
 
 pub save_grid-requires-clause-listed : goal.save_grid-requires-clause-listed
 save_grid-requires-clause-listed g c =
@@ -31,13 +21,16 @@ save_grid-requires-clause-listed g c =
     c.run-ended.ensures.run in
     subst (λ (s : Simulation). IsListed s.code) (sym is.grid) c.requires.listed
 
-pub save_grid-requires-clause-counts : goal.save_grid-requires-clause-counts
-save_grid-requires-clause-counts g c =
+pub save_grid-requires-clause-fits : goal.save_grid-requires-clause-fits
+save_grid-requires-clause-fits g c =
+    let run = run_of c.args.sim.code (asked_in c.args.asked) c.args.order in
     let is = run_begun c.args.sim (asked_in c.args.asked) c.args.order c.limit.result c.run-ended.new.self
     c.run-ended.new.order _ _ c.run-ended.result c.requires.start c.requires.links c.limit.ensures
     c.run-ended.ensures.run in
-    few_after c.turns_count.ensures _ refl c.args.sim c.run-ended.new.self c.run-ended.new.order _ _
-    c.run-ended.result is c.requires.turns c.requires.start c.run-ended.ensures.adds
+    let few = few_after c.turns_count.ensures run refl c.args.sim c.run-ended.new.self c.run-ended.new.order _ _
+    c.run-ended.result is c.requires.turns c.requires.start c.run-ended.ensures.adds in
+    can_be_saved run is.turns c.run-ended.new.self is.grid few
+    (c.runs_stay_onward.ensures.runs run is.turns (c.runs_stay_onward.ensures.start c.args.sim.code))
 
 pub answer_of-requires : goal.answer_of-requires
 answer_of-requires g c = λ more.

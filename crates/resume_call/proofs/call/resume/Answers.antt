@@ -6,8 +6,8 @@ use Rattle.call_words.specs.Reading.{asked_in}
 use Rattle.exec_call.specs.of_call_answers.Work.{execution_in}
 use Rattle.exec_call.proofs.ToldLemmas.{stops_so}
 use Rattle.call_words.specs.of_call_claims.declared.status.TheConstants.{PUT_FAILED}
-use Rattle.resume_claims.specs.Decided.{IsExact}
-use Rattle.resume_claims.proofs.KnownLemmas.{cause_known}
+use Rattle.exec_call.specs.of_resume_claims.Decided.{IsExact}
+use Rattle.exec_call.proofs.of_resume_claims.KnownLemmas.{cause_known}
 use Rattle.resume_call.specs.Call.{IsResumed}
 use Rattle.resume_call.proofs.WorkLemmas.{cut_for, printed_for, read_for, told_so}
 use Rattle.resume_call.proofs.call.resume.Goals as goal

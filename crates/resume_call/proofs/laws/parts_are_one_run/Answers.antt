@@ -11,8 +11,7 @@ returns g c = λ files words ran out out_then errs errs_then asks.
     let put = stream_of (g.O.Sink.tells out) (g.O.Sink.tells out_then) (g.O.Sink.faults out) (g.O.Sink.faults out_then)
     (out_then ≡ out) in
     let told = stream_of (g.E.Sink.tells errs) (g.E.Sink.tells errs_then) (g.E.Sink.faults errs)
-    (g.E.Sink.faults errs_then) (errs_then ≡ errs) in
-    (
+    (g.E.Sink.faults errs_then) (errs_then ≡ errs) in (
       first_part call ran put told asks,
       λ later more next to to_then on on_then.
           parts_are_one c.texts_tell_one_grid.ensures call ran put told asks (first_part call ran put told asks)

@@ -2,7 +2,7 @@ use Rattle.std.proofs.Common.{◌≤◌, length, sym, subst}
 use Rattle.call_words.specs.of_call_claims.Call.{call_of}
 use Rattle.call_words.specs.Reading.{asked_in}
 use Rattle.exec_call.specs.of_call_answers.Fetched.{IsWholeText}
-use Rattle.resume_claims.specs.declared.limits.TheConstants.{MOST_SAVED}
+use Rattle.exec_call.specs.of_resume_claims.declared.limits.TheConstants.{MOST_SAVED}
 use Rattle.resume_call.specs.Work.IsFileWork.{fetched}
 use Rattle.resume_call.proofs.WorkLemmas.{saved_source, text_back, unfetched_work}
 use Rattle.resume_call.proofs.texts.work_for.Goals as goal

@@ -75,8 +75,7 @@ returns-in-Some-clause-resume g c = λ asks.
 
 pub returns-in-Some-clause-parts : goal.returns-in-Some-clause-parts
 returns-in-Some-clause-parts g c = λ earlier asking ran put put_then told told_then asks.
-    let law = c.parts_are_one_run.ensures earlier asking ran put put_then told told_then asks in
-    (
+    let law = c.parts_are_one_run.ensures earlier asking ran put put_then told told_then asks in (
       law.0,
       law.1 c.args.files.now (map string_bytes c.args.words.now) c.perform.result c.args.out.now
           c.perform.new.out c.args.errs.now c.perform.new.errs,
@@ -133,8 +132,7 @@ returns-in-None-clause-resume g c = λ asks.
 
 pub returns-in-None-clause-parts : goal.returns-in-None-clause-parts
 returns-in-None-clause-parts g c = λ earlier asking ran put put_then told told_then asks.
-    let law = c.parts_are_one_run.ensures earlier asking ran put put_then told told_then asks in
-    (
+    let law = c.parts_are_one_run.ensures earlier asking ran put put_then told told_then asks in (
       law.0,
       law.1 c.args.files.now (map string_bytes c.args.words.now) c.answered.result c.args.out.now
           c.args.out.now c.args.errs.now c.answered.new.errs,
