@@ -8,6 +8,8 @@ empty line. The command, where it isn't `run`, stands in a line `Command: WORD` 
 
 A run of a listing is a text in examples/listings, with such lines and `Listing: FILE`; a line `Order: ITEM ..` has the text of its order,
 and a line `Status: N` the status where that isn't 0.
+
+The code of each program that isn't refused is sound: `check` accepts what `list` makes of it, for two grids, without letters, with each and with all.
 """
 import glob
 import os
@@ -19,6 +21,8 @@ import tempfile
 
 PROGRAM = os.path.abspath("crates/zplgrid/out/zplgrid")
 STATUSES = {"Prints:": 0, "Refused:": 4, "Traps:": 7}
+GRIDS = ("1", "2x2")
+LETTERS = ("", *"fcrmet", "fcrmet")
 
 
 def told_in(text):
@@ -83,15 +87,35 @@ def of_listing(place, path):
     return told_by(place, listing, name, words), (told_in(text)[0], int(line_in(text, "Status") or 0))
 
 
+def told_of_code(place, path):
+    """What `check` tells of the code of an example, for each grid and each set of letters."""
+    with open(path, encoding="utf-8") as file:
+        settings = [it for it in words_in(file.read(), "run")[2:] if ":=" in it]
+    for grid in GRIDS:
+        for letters in LETTERS:
+            built = [f"grid={grid}", *([f"opt={letters}"] if letters else [])]
+            with open(f"{place}/code.lst", "wb") as listing:
+                subprocess.run([PROGRAM, "list", path, *built, *settings], stdin=subprocess.DEVNULL, stdout=listing, check=False)
+            ran = subprocess.run([PROGRAM, "check", "code.lst"], cwd=place, stdin=subprocess.DEVNULL,
+                                 stdout=subprocess.PIPE, stderr=subprocess.STDOUT, text=True, check=False)
+            yield " ".join(built), ran.stdout
+
+
 def main():
     with tempfile.TemporaryDirectory() as place:
         found = {path: of_program(place, path) for path in sorted(glob.glob("examples/**/*.zpl", recursive=True))}
         found.update((path, of_listing(place, path)) for path in sorted(glob.glob("examples/listings/*.txt")))
+        codes = {(path, built): told for path, (_, wanted) in found.items() if path.endswith(".zpl") and wanted[1] in (0, 7)
+                 for built, told in told_of_code(place, path)}
+    unsound = {it: told for it, told in codes.items() if not told.startswith("sound, links ")}
+    for (path, built), told in unsound.items():
+        print(f"{path} {built}: its code is told {told!r}")
     wrong = [path for path, (told, wanted) in found.items() if told != wanted]
     for path in wrong:
         print(f"{path}: told {found[path][0]}, its comment says {found[path][1]}")
-    print(f"{len(found) - len(wrong)} examples are as their comments say, {len(wrong)} aren't")
-    return 1 if wrong else 0
+    print(f"{len(found) - len(wrong)} examples are as their comments say, {len(wrong)} aren't; "
+          f"{len(codes) - len(unsound)} codes of them are sound, {len(unsound)} aren't")
+    return 1 if wrong or unsound else 0
 
 
 sys.exit(main())

@@ -2,19 +2,8 @@
 use Rattle.std.specs.Prelude.{◌≡◌, ℕ, List, Result, Ok, Err}
 use Rattle.zpl_nums.specs.declared.ends.End.{End}
 use Rattle.zpl_io.specs.Sink.{Takes, TakesFront}
-use Rattle.zpl_tree.specs.Syntax.{Program}
-use Rattle.zpl_binding.specs.Settings.{Setting}
-use Rattle.zpl_binding.specs.Bound.{IsAcceptedWith}
-use Rattle.zpl_bind.specs.Bound.{IsBoundBy}
-use Rattle.zpl_bind.specs.declared.lists.Bound.{Bound}
 use Rattle.zpl_meaning.specs.Program.{Meaning}
 use Rattle.array_statements.specs.declared.faults.MeanFault.{MeanFault}
-
--- some settings that the program accepts bind it to this
-pub record IsBound (program : Program) (bound : Bound) : Type 0 where
-  pub settings : List Setting
-  pub accepted : IsAcceptedWith program settings
-  pub binds : IsBoundBy program settings bound
 
 -- The sink took just the bytes of the meaning, and the answer is its end.
 pub record HasMeant (meaning : Meaning) (answer : End) (before after : List ℕ → Type 0) : Type 0

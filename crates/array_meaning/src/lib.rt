@@ -5,5 +5,5 @@ mod means;
 
 pub use array_statements::MeanFault;
 pub use means::mean;
-pub use rank_types;
+pub use zpl_bound::rank_types;
 pub use zpl_nums::{End, TrapKind};

@@ -16,9 +16,9 @@ use Rattle.zpl_binding.specs.Outcome.{BindFault}
 use Rattle.zpl_binding.specs.Outcome as bound
 use Rattle.zpl_binding.specs.Settings.{Setting}
 use Rattle.zpl_binding.specs.Bound.{HasBindFault}
-use Rattle.rank_types.specs.declared.faults.Fault.{Fault}
-use Rattle.rank_types.specs.declared.faults.Fault.TheVariants as judge
-use Rattle.rank_types.specs.Faults.{Holds}
+use Rattle.zpl_bound.specs.of_rank_types.declared.faults.Fault.{Fault}
+use Rattle.zpl_bound.specs.of_rank_types.declared.faults.Fault.TheVariants as judge
+use Rattle.zpl_bound.specs.of_rank_types.Faults.{Holds}
 use Rattle.zpl_bind.specs.declared.faults.BindFault.{BindFault as TheBindFault}
 use Rattle.zpl_bind.specs.declared.faults.BindFault.TheVariants as bind
 use Rattle.zpl_bound.specs.Faults.{Holds as HoldsBound}

@@ -4,7 +4,7 @@ use Rattle.zpl_tree.specs.Syntax.{Program}
 use Rattle.zpl_tree.specs.View.{syntax_of}
 use Rattle.zpl_binding.specs.Settings.{Setting}
 use Rattle.zpl_bind.specs.Bound.{IsBoundBy}
-use Rattle.rank_types.specs.Typed.{HasText}
+use Rattle.zpl_bound.specs.of_rank_types.Typed.{HasText}
 use Rattle.bound_texts.specs.declared.texts.Accepted.{Accepted}
 
 -- its program

@@ -15,10 +15,10 @@ ghost use Rattle.bound_texts.specs.Refused.{IsOnlyTree, IsRefused, IsRejected, I
 use crate::settings::settings_of;
 use bumpalo::Bump;
 use call_answers::Refusal;
-use rank_types::{Typed, judge};
 use std::alloc::Global;
 use zpl_bind::Bound;
 use zpl_bound::bind;
+use zpl_bound::rank_types::{Typed, judge};
 use zpl_parse::parse;
 use zpl_text::{Token, lex, text_is_cut_one_way};
 use zpl_tree::Program;

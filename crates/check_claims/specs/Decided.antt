@@ -28,8 +28,8 @@ IsSoundCode code = (links : ℕ) × IsChecked code links
 abbrev pub ChecksListing : Call → (Tables → Type 0) → Type 0
 ChecksListing call Holds = Checks call (λ file asked. HasListing call file Holds)
 
--- ---- each status comes just where its own cause is, where no put or fetch failed, memory wasn't
--- wanting, and the files tell one text a name
+-- ---- each status comes just where its own cause is, where it is none of 2, 9 and 10, and the files
+-- tell one text a name
 pub record IsExact (call : Call) (status : ℕ) : Type 0 where
   pub too_long : IsSettled call status → (status ≡ TOO_LONG) ↔ ChecksTooLong call
   pub refused : IsSettled call status → (status ≡ LISTING_REFUSED) ↔ ChecksNoListing call

@@ -18,9 +18,9 @@ ghost use Rattle.exec_claims.specs.declared.status.TheConstants.{ORDER_REFUSED, 
 use node_text::bytes_have_one_program;
 use zpl_io::Files;
 
-/// Of what was made and run in a call there is a cause of one status, where memory wasn't wanting,
-/// no put or fetch failed, and the files tell one text a name: each status comes just where its own
-/// cause is.
+/// Of what was made and run in a call there is a cause of one status, among those that are none of
+/// 2, 9 and 10, where the files tell one text a name: each status comes just where its own cause
+/// is.
 pub fn exec_causes_are_one<F: Files>()
     ensures { (files : F) (words : List (List ℕ)) (ran : Execution) (n m : ℕ)
         (told other : List ℕ) →
@@ -76,11 +76,11 @@ pub fn exec_statuses_are_exact<F: Files>()
     bytes_have_one_program();
 }
 
-/// A call of `exec` whose file tells a listing, of sound code where its words ask for that, and whose
-/// words name an order of its processors, if any, has run the listed code under the order, and its
-/// status is that of what came of the run: it is over, all turns were given, a processor is stuck, or
-/// none can move. So it is where the status has its cause, memory wasn't wanting, no put and no fetch
-/// failed, and the files tell one text a name.
+/// A call of `exec` whose file tells a listing, of sound code where its words ask for that, and
+/// whose words name an order of its processors, if any, has run the listed code under the order,
+/// and its status is that of what came of the run: it is over, all turns were given, a processor is
+/// stuck, or none can move. So it is where the status has its cause and is none of 2, 9 and 10, and
+/// the files tell one text a name.
 pub fn listings_are_executed<F: Files>()
     ensures { (files : F) (words : List (List ℕ)) (ran : Execution) (status : ℕ) (told : List ℕ) →
         let call = call_of words (F.tells files) (F.may_fail files)

@@ -61,7 +61,7 @@ pub record HasComeTo (seed : ℕ) (asked : Asked) (execution : Execution)
 abbrev pub RunsTo : List (List ℕ) → Execution → (Run → ℕ → Type 0) → Type 0
 RunsTo words execution Holds = Gens words (λ seed asked. HasRun seed asked execution Holds)
 
--- ---- each status comes just where its own cause is, where memory wasn't wanting and no put failed
+-- ---- each status comes just where its own cause is, where it is neither 9 nor 10
 pub record IsExact (words : List (List ℕ)) (execution : Execution) (status : ℕ) : Type 0 where
   -- 0: the last run begun was that on five processors, and it ended normally
   pub done : IsDecided status

@@ -23,8 +23,8 @@ pub fn texts_have_one_program()
     texts_have_one_tree();
 }
 
-/// A status that has its cause comes just where its own cause is, where memory wasn't wanting and
-/// no put failed; for some, where no fetch failed and the files tell one text a name.
+/// A status that has its cause comes just where its own cause is, where it is neither 9 nor 10; for
+/// some, where it isn't 2 either and the files tell one text a name.
 pub fn list_statuses_are_exact<F: Files>()
     ensures { (files : F) (words : List (List ℕ)) (ran : Execution) (n : ℕ) (told : List ℕ) →
         let call = call_of words (F.tells files) (F.may_fail files)
@@ -32,9 +32,9 @@ pub fn list_statuses_are_exact<F: Files>()
         Cause call ran n told → IsExact call ran n }
 {}
 
-/// A call of `list` whose file tells an accepted program has listed it: what the program is compiled
-/// to was made, and the status is that of work that was done, where it has its cause, memory wasn't
-/// wanting, no put and no fetch failed, and the files tell one text a name.
+/// A call of `list` whose file tells an accepted program has listed it: what the program is
+/// compiled to was made, and the status is that of work that was done, where it has its cause and
+/// is none of 2, 9 and 10, and the files tell one text a name.
 pub fn accepted_programs_are_listed<F: Files>()
     ensures { (files : F) (words : List (List ℕ)) (ran : Execution) (status : ℕ) (told : List ℕ) →
         let call = call_of words (F.tells files) (F.may_fail files)

@@ -33,8 +33,8 @@ pub record IsMeant (call : Call) (answered : Ran) (out errs : Stream) : Type 0 w
   -- Each status but that of a failed put has its cause, and errs took its text.
   pub cause : answered.status ≢ PUT_FAILED
       → IsAnswered (Cause call) answered.status errs.before errs.after
-  -- Each status comes just where its own cause is, where no put or fetch failed, the files tell one
-  -- text a name, and memory wasn't wanting.
+  -- Each status comes just where its own cause is, where it is none of 2, 9 and 10, and the files
+  -- tell one text a name.
   pub exact : IsSettled call answered.status → IsExact call answered.status
   -- Where the file tells an accepted program, which ends within the turns that are asked for, the
   -- call has printed what it means, under the same conditions.

@@ -21,7 +21,7 @@ TakesPart call before after =
     Takes before [] after ⊎ Means call (λ meaning. TakesFront before meaning.bytes after)
 
 -- All of them where the status is that of a meaning, a part where memory was wanting, and nothing
--- for each other status but that of a failed put.
+-- for each other status. It is said of calls of which no put of out failed.
 pub record TakesOutput (call : Call) (status : ℕ) (before after : List ℕ → Type 0) : Type 0 where
   pub whole : IsEnd status → TakesMeaning call before after
   pub part : status ≡ NO_MEMORY → TakesPart call before after

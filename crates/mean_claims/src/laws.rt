@@ -14,8 +14,8 @@ use zpl_io::{Files, Sink};
 use zpl_parse::texts_have_one_tree;
 use zpl_text::text_is_cut_one_way;
 
-/// In a call there is a cause of one status, where memory wasn't wanting, no put or fetch failed,
-/// and the files tell one text a name.
+/// In a call there is a cause of one status, among those that are none of 2, 9 and 10, where the
+/// files tell one text a name.
 pub fn mean_causes_are_one<F: Files>()
     ensures { (files : F) (words : List (List ℕ)) (n m : ℕ) (told other : List ℕ) →
         let call = call_of words (F.tells files) (F.may_fail files)
@@ -37,10 +37,10 @@ pub fn mean_statuses_are_exact<F: Files>()
     texts_have_one_tree();
 }
 
-/// A call of `mean` whose file tells an accepted program, which ends within the turns that are asked
-/// for, has the status of that end (`ended`), where the status has its cause, memory wasn't wanting,
-/// no put and no fetch failed, and the files tell one text a name. What standard output took is then
-/// just what the program means (`taken`).
+/// A call of `mean` whose file tells an accepted program, which ends within the turns that are
+/// asked for, has the status of that end (`ended`), where the status has its cause and is none of
+/// 2, 9 and 10, and the files tell one text a name. What standard output took is then just what the
+/// program means (`taken`).
 pub fn accepted_programs_are_meant<F: Files, O: Sink>()
     ensures ended { (files : F) (words : List (List ℕ)) (status : ℕ) (told : List ℕ) →
         let call = call_of words (F.tells files) (F.may_fail files)

@@ -4,8 +4,8 @@ ghost use Rattle.zpl_tree.specs.Grammar.{IsProgram};
 ghost use Rattle.zpl_tree.specs.View.{syntax_of};
 ghost use Rattle.zpl_binding.specs.Settings.{Setting};
 ghost use Rattle.zpl_bind.specs.Bound.{IsBoundBy};
-ghost use Rattle.rank_types.specs.Typed.{HasText};
-ghost use Rattle.array_meaning.specs.Means.{IsBound};
+ghost use Rattle.zpl_bound.specs.of_rank_types.Typed.{HasText};
+ghost use Rattle.zpl_bound.specs.Accepted.{IsBound};
 ghost use Rattle.node_form.specs.Grid.{IsGrid};
 ghost use Rattle.lowered_flat.specs.Apart.{NamesStandApart};
 ghost use Rattle.zpl_compile.specs.Compilable.{IsCompiledTo};
@@ -17,9 +17,9 @@ use flat_code::{Build, code_of};
 use flat_form::Flat;
 use lowered_flat::lowered_programs_are_flat;
 use node_form::NodeProgram;
-use rank_types::Typed;
 use std::alloc::Global;
 use zpl_bind::Bound;
+use zpl_bound::rank_types::Typed;
 use zpl_lower::lower;
 
 /// The node code that a program, bound by its settings, is compiled to, with the optimisations of

@@ -1,12 +1,13 @@
 -- What is said of a call of `resume`.
 --
---   IsOutputCut   where a put of what is printed failed
---   IsResumed     what comes of the call
+--   IsCutIn     where a put of what is printed failed
+--   HasGoneOn   what a call answers and puts that has all that it needs
+--   IsResumed   what comes of the call
 use Rattle.std.specs.Prelude.{◌≡◌, ◌≢◌, ◌⊎◌, ◌↔◌, ℕ, List, Some, MatchOption}
 use Rattle.zpl_io.specs.Faults.{Rose}
 use Rattle.zpl_io.specs.Sink.{Takes}
 use Rattle.node_form.specs.declared.tables.Tables.{Tables}
-use Rattle.grid_runs.specs.Run.{IsCutOff, IsLimitedAt}
+use Rattle.grid_runs.specs.Run.{IsCutOff, IsLimitedAt, grid_at}
 use Rattle.call_words.specs.of_call_claims.declared.ran.Ran.{Ran}
 use Rattle.call_words.specs.of_call_claims.Answer.{IsAnswered, IsHalfAnswered}
 use Rattle.call_words.specs.of_call_claims.Call.{Call}
@@ -18,7 +19,7 @@ use Rattle.call_words.specs.of_call_claims.declared.status.TheConstants.{DONE, P
 use Rattle.exec_call.specs.of_exec_claims.Decided.{IsDoneAt, IsStuckOrIdleAt, IsTrapAt}
 use Rattle.exec_call.specs.of_exec_claims.declared.status.TheConstants.{ORDER_REFUSED, SAVE_REFUSED, STUCK}
 use Rattle.exec_call.specs.of_resume_claims.Answer.{GoesOn, IsReadFor, TakesPrinted}
-use Rattle.exec_call.specs.of_resume_claims.Cause.{Cause, Resumes}
+use Rattle.exec_call.specs.of_resume_claims.Cause.{Cause, Resumes, onward_run}
 use Rattle.exec_call.specs.of_resume_claims.Decided.{ResumesBadOrder, ResumesNone, ResumesRun, ResumesTooLong}
 use Rattle.exec_call.specs.of_resume_claims.Whole.{CanResume, HasResumed}
 
@@ -30,6 +31,19 @@ pub record IsCutIn (call : Call) (ran : Ran) (before after : List ℕ → Type 0
   pub read : ran.code ≡ Some code
   pub runs : Resumes call (λ file asked. GoesOn call ran file asked code
       (λ run k. IsCutOff run k before after))
+
+-- ---- a call that has all that it needs
+-- The run went on from the saved grid under the order, the counts are those of its grid after the
+-- given turns, and out took what these turns print; the status is that of what came of the run.
+pub record HasGoneOn {call : Call} {file : List ℕ} {asked : Asked} (can : CanResume call file asked)
+    (ran : Ran) (told : List ℕ) (before after : List ℕ → Type 0) : Type 0 where
+  pub resumed : HasResumed can (execution_of ran) ran.status told
+  pub sends : ran.sends
+      ≡ (grid_at (onward_run can.code can.grid asked can.order) resumed.onward.given).sends
+  pub words : ran.words_sent
+      ≡ (grid_at (onward_run can.code can.grid asked can.order) resumed.onward.given).words
+  pub printed : Takes before
+      (grid_at (onward_run can.code can.grid asked can.order) resumed.onward.given).printed after
 
 -- ---- the call
 pub record IsResumed (call : Call) (ran : Ran) (out errs : Stream) : Type 0 where
@@ -45,7 +59,7 @@ pub record IsResumed (call : Call) (ran : Ran) (out errs : Stream) : Type 0 wher
   -- behind it.
   pub cause : ran.status ≢ PUT_FAILED
       → IsAnswered (Cause call (execution_of ran)) ran.status errs.before errs.after
-  -- When statuses come, where no put or fetch failed and memory wasn't wanting.
+  -- When statuses come, where the status is none of 2, 9 and 10.
   pub too_long : IsSettled call ran.status
       → (ran.status ≡ TOO_LONG) ↔ ResumesTooLong call
   pub refused : IsSettled call ran.status
@@ -65,7 +79,7 @@ pub record IsResumed (call : Call) (ran : Ran) (out errs : Stream) : Type 0 wher
   pub finished : IsSettled call ran.status → (file : List ℕ) (asked : Asked)
       → IsResume call.words file asked → (can : CanResume call file asked)
       → (told : List ℕ) × Takes errs.before told errs.after
-      × HasResumed can (execution_of ran) ran.status told
+      × HasGoneOn can ran told out.before out.after
   -- A put failed: one of out, and errs took nothing, or one of errs, once out had taken all.
   pub put_failed : ran.status ≡ PUT_FAILED
       → (IsCutIn call ran out.before out.after × Rose out.faults out.faults_after × errs.same)

@@ -14,8 +14,9 @@ use crate::texts::work_for;
 use call_claims::Ran;
 use call_words::FileCommand;
 use exec_call::grid_call::exec_claims::status::SAVE_REFUSED;
-use exec_call::tell;
+use exec_call::resume_claims::grid_save::texts_tell_one_grid;
 use exec_call::resume_claims::{resume_statuses_are_exact, saved_grids_are_resumed};
+use exec_call::tell;
 use std::alloc::Global;
 use zpl_io::{Files, Sink};
 
@@ -59,6 +60,7 @@ pub fn resume<F: Files, O: Sink, E: Sink>(
 {
     resume_statuses_are_exact::<F>();
     saved_grids_are_resumed::<F>();
+    texts_tell_one_grid();
     let telling = work_for(alloc, command, files, out);
     tell(alloc, telling, SAVE_REFUSED, errs)
 }

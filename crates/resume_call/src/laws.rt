@@ -7,7 +7,6 @@ ghost use Rattle.call_words.specs.of_call_claims.Stream.{stream_of};
 ghost use Rattle.call_words.specs.of_call_claims.declared.ran.Ran.{Ran};
 ghost use Rattle.resume_call.specs.Parts.{AreOneRun, AsksSaved, IsFirstPart};
 
-use exec_call::resume_claims::grid_save::texts_tell_one_grid;
 use zpl_io::{Files, Sink};
 
 /// A call of `exec` told the saved grid, as its words ask, and one of `resume` goes on from what it
@@ -29,6 +28,4 @@ pub fn parts_are_one_run<F: Files, O: Sink, E: Sink>()
         (stream_of (O.tells to) (O.tells to_then) (O.faults to) (O.faults to_then) (to_then ≡ to))
         (stream_of (E.tells on) (E.tells on_then) (E.faults on) (E.faults on_then)
         (on_then ≡ on))) }
-{
-    texts_tell_one_grid();
-}
+{}

@@ -18,9 +18,9 @@ use list_claims::texts_have_one_program;
 use zpl_io::{Files, Sink};
 use zpl_meaning::endings_stay;
 
-/// A status of `run` that has its cause comes just where its own cause is, where memory wasn't
-/// wanting, no put failed and the order is one; for some, where no fetch failed and the files tell
-/// one text a name. That a processor is stuck, or that none can move, never comes.
+/// A status of `run` that has its cause comes just where its own cause is, where it is neither 9
+/// nor 10 and the order is one; for some, where it isn't 2 either and the files tell one text a
+/// name. That a processor is stuck, or that none can move, never comes.
 pub fn run_causes_are_exact<F: Files>()
     ensures { (files : F) (words : List (List ℕ)) (ran : Execution) (n : ℕ) (told : List ℕ) →
         let call = call_of words (F.tells files) (F.may_fail files)
@@ -33,11 +33,11 @@ pub fn run_causes_are_exact<F: Files>()
 }
 
 /// A call of `run` whose file tells an accepted program, whose words name an order of its
-/// processors, if any, and whose turns are enough for what the program means, has finished: what its
-/// run has printed is what the program means, and the status is that of the meaning's end. So it is
-/// where the status has its cause, memory wasn't wanting, no put and no fetch failed, and the files
-/// tell one text a name (`finished`). A sink that took what the run has printed has taken what the
-/// program means (`taken`).
+/// processors, if any, and whose turns are enough for what the program means, has finished: what
+/// its run has printed is what the program means, and the status is that of the meaning's end. So
+/// it is where the status has its cause and is none of 2, 9 and 10, and the files tell one text a
+/// name (`finished`). A sink that took what the run has printed has taken what the program means
+/// (`taken`).
 pub fn runs_print_what_is_meant<F: Files, O: Sink>()
     ensures finished { (files : F) (words : List (List ℕ)) (ran : Execution) (status : ℕ)
         (told : List ℕ) → let call = call_of words (F.tells files) (F.may_fail files)

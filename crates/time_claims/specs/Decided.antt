@@ -34,8 +34,8 @@ abbrev pub TimesRun : Call → Execution → (Run → ℕ → Type 0) → Type 0
 TimesRun call execution Holds =
     Times call (λ file asked. HasRun call file asked execution Holds)
 
--- ---- each status comes just where its own cause is, where no put or fetch failed, memory wasn't
--- wanting, and the files tell one text a name
+-- ---- each status comes just where its own cause is, where it is none of 2, 9 and 10, and the files
+-- tell one text a name
 pub record IsExact (call : Call) (execution : Execution) (status : ℕ) : Type 0 where
   pub too_long : IsSettled call status → (status ≡ TOO_LONG) ↔ TimesTooLong call
   pub order_refused : IsSettled call status → (status ≡ ORDER_REFUSED) ↔ TimesBadOrder call

@@ -8,8 +8,8 @@ ghost use Rattle.time_claims.specs.Decided.{IsExact};
 use node_text::bytes_have_one_program;
 use zpl_io::Files;
 
-/// A status that has its cause comes just where its own cause is, where memory wasn't wanting, no
-/// put or fetch failed, and the files tell one text a name.
+/// A status that has its cause comes just where its own cause is, where it is none of 2, 9 and 10,
+/// and the files tell one text a name.
 pub fn time_statuses_are_exact<F: Files>()
     ensures { (files : F) (words : List (List ℕ)) (ran : Execution) (n : ℕ) (told : List ℕ) →
         let call = call_of words (F.tells files) (F.may_fail files)

@@ -61,9 +61,10 @@ AsksGen words = (n : ℕ) × (asked : Asked) × IsGen words n asked
 pub record IsRan (call : Call) (answered : Ran) (out errs : Stream) : Type 0 where
   -- The code is made of the text that the file of the words tells, for the build that they ask for.
   -- It is what the program is compiled to: over all links that it is for it is right after every
-  -- order of turns, some order brings it in step to each bound of the meaning, and it comes to its end
-  -- in time; and it is tidy. It was not run, or it was under the order that the words ask for, and the
-  -- counts are those of the grid after the given turns, before which it is neither over nor idle.
+  -- order of turns, some order brings it in step to each bound of the meaning, and it comes to its
+  -- end in time; and it is tidy. It was not run, or it was under the order that the words ask for,
+  -- and the counts are those of the grid after the given turns, before which it is neither over nor
+  -- idle.
   pub code : MatchOption answered.code (HasNoCounts answered) (IsMadeFor call answered)
   -- Out took what that grid has printed.
   pub output : answered.status ≢ PUT_FAILED
@@ -76,8 +77,8 @@ pub record IsRan (call : Call) (answered : Ran) (out errs : Stream) : Type 0 whe
   pub exact : answered.status ≢ PUT_FAILED
       → IsRunExact call (execution_of answered) answered.status
   -- Where the file tells an accepted program, and the turns are enough for it under the order that
-  -- the words ask for, the run is over, and out took just what the program means; unless memory was
-  -- wanting, or a put or a fetch failed.
+  -- the words ask for, the run is over, and out took just what the program means; unless the status
+  -- is 2, 9 or 10, or the files tell two texts under a name.
   pub finished : IsSettled call answered.status → (file : List ℕ) (asked : Asked)
       → IsRun call.words file asked → (n : ℕ) (can : CanFinish call file asked n)
       → HasFinished can (execution_of answered) answered.status
@@ -105,8 +106,8 @@ pub record IsListed (call : Call) (answered : Ran) (out errs : Stream) : Type 0 
       → IsAnswered (Cause call (execution_of answered)) answered.status errs.before errs.after
   -- When each status comes.
   pub exact : answered.status ≢ PUT_FAILED → IsExact call (execution_of answered) answered.status
-  -- Where the file tells an accepted program, out took the listing of what it is compiled to, and all
-  -- was done; unless memory was wanting, or a put or a fetch failed.
+  -- Where the file tells an accepted program, out took the listing of what it is compiled to, and
+  -- all was done; unless the status is 2, 9 or 10, or the files tell two texts under a name.
   pub listed : IsSettled call answered.status → (file : List ℕ) (asked : Asked)
       → IsList call.words file asked → (can : CanList call file asked)
       → HasListed can (execution_of answered) answered.status

@@ -1,3 +1,4 @@
 pub mod Call
 pub mod Done
+pub mod Whole
 pub mod Work

@@ -19,6 +19,7 @@ ghost use Rattle.call_claims.specs.declared.ran.Ran.{Ran as Answered};
 ghost use Rattle.top_call.specs.Call.{AsksCheck, AsksChecked, AsksExec, AsksGen, AsksList};
 ghost use Rattle.top_call.specs.Call.{AsksMean, AsksResume, AsksRun, AsksTime};
 ghost use Rattle.top_call.specs.Call.{IsListed, IsRan, IsUnknown};
+ghost use Rattle.top_call.specs.Whole.{IsWhole};
 
 use crate::commands::perform;
 use call_claims::{Ran, commands_are_one};
@@ -142,6 +143,13 @@ pub fn zplgrid<F: Files, O: Sink, E: Sink>(
 
     // The status of words comes just where they are none.
     ensures usage { result.status ≡ USAGE → IsNoCommand (map string_bytes words.now) }
+
+    // Calls that have all that they need, of files that are there for sure, and no put of which
+    // failed: the answer is the one that is named, or memory was wanting.
+    ensures whole { let call = call_of (map string_bytes words.now) (F.tells files.old)
+        (F.may_fail files.old) (F.may_fail_later files.old) in
+        ¬ O.has_failed out.new → ¬ E.has_failed errs.new →
+        IsWhole call result (O.tells out.old) (O.tells out.new) }
 
     // Files and counts after the call: the texts are the same, and a count of faults rises only
     // with its status. Behind a put that failed nothing is put.

@@ -5,9 +5,11 @@
 mod call;
 mod commands;
 mod fetches;
+mod laws;
 mod lists;
 mod runs;
 
 pub use call::zplgrid;
 pub use call_claims::Ran;
+pub use laws::kept_files_are_sure;
 pub use mean_call::call_answers;

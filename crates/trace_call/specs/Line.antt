@@ -1,34 +1,21 @@
 -- The line of a turn: its number, counted from 1, the processor, the number of the instruction that
--- it is at, and what the turn comes to.
+-- it is at, and what the turn comes to. Whom a move sends a message to, and whose it takes, are those
+-- that `turn_told` tells (`receiver_in`, `sender_in`).
 --
---   stage_at    at which stage of its next row a processor is
 --   turn_text   what a turn comes to
 --   line_of     the line of a processor's next turn
-use Rattle.std.specs.Prelude.{ℕ, ◌+◌, List, [], ◌++◌, codes, length, sum_by, Option, Some, None, slice_get, option_and_then}
+use Rattle.std.specs.Prelude.{ℕ, ◌+◌, List, [], ◌++◌, codes, length, sum_by, Option, Some, None, slice_get}
 use Rattle.std.specs.Fmt.{decimal}
-use Rattle.zpl_nums.specs.declared.ends.End.{End}
 use Rattle.node_form.specs.declared.tables.Tables.{Tables}
 use Rattle.grid_links.specs.declared.messages.Message.{Message}
-use Rattle.grid_links.specs.Machine.{Heads, Moves, Waiting, Over, Stuck}
+use Rattle.grid_links.specs.Machine.{Heads, Goes, Awaits, Moves, Waiting, Over, Stuck}
 use Rattle.grid_links.specs.Run.{heads_at}
-use Rattle.grid_meaning.specs.Collective.{Stage, Alone, Sends, TakesFrom, Last, stage_of}
+use Rattle.grid_meaning.specs.Action.{Action}
 use Rattle.grid_meaning.specs.Grid.{Grid, next_turn, sent_in}
 use Rattle.grid_meaning.specs.Local.{Local, processors}
-use Rattle.grid_meaning.specs.Rows.{collective}
-use Rattle.grid_meaning.specs.Turn.{Turn}
+use Rattle.grid_meaning.specs.Turn.{Turn, act}
+use Rattle.exec_call.specs.of_grid_sim.Simulation.{receiver_in, sender_in}
 use Rattle.exec_claims.specs.Texts.{kind_name}
-
--- ---- whom a turn concerns
--- In a row in which processors work together a processor is at a stage, which names the one that it
--- sends to, or takes from. One that has ended is at none.
-abbrev pub stage_running : Tables → ℕ → Local → Option End → Option Stage
-stage_running code p local (Some ending) = None
-stage_running code p local None =
-    option_and_then (λ row. stage_of row local)
-    (option_and_then (collective code p) (slice_get code.code local.at))
-
-abbrev pub stage_at : Tables → ℕ → Local → Option Stage
-stage_at code p local = stage_running code p local local.ended
 
 -- ---- what a turn comes to
 -- how many words a message has, and none where there is no message
@@ -40,29 +27,29 @@ words_of (Some message) = length message.words
 abbrev pub words_in : Turn → ℕ
 words_in turn = sum_by (λ message. length message.words) (sent_in turn)
 
--- a move: it sends so many words, or takes those of the oldest message; or neither
-abbrev pub move_text : Option Stage → Heads Message → ℕ → List ℕ
-move_text None heads words = codes "moves"
-move_text (Some Alone) heads words = codes "moves"
-move_text (Some (Sends to)) heads words =
+-- a move, by whom it sends to and whom it takes from: it sends so many words, or takes those of the
+-- oldest message; or neither
+abbrev pub move_text : ℕ → Heads Message → Option ℕ → Option ℕ → List ℕ
+move_text words heads (Some to) sender =
     codes "sends " ++ (decimal words ++ (codes " to " ++ decimal to))
-move_text (Some (TakesFrom from)) heads words =
+move_text words heads None (Some from) =
     codes "takes " ++ (decimal (words_of (heads from)) ++ (codes " from " ++ decimal from))
-move_text (Some Last) heads words = codes "moves"
+move_text words heads None None = codes "moves"
 
--- it waits: the link to a processor is full, or none of another's messages is there
-abbrev pub wait_text : Option Stage → List ℕ
-wait_text None = codes "waits"
-wait_text (Some Alone) = codes "waits"
-wait_text (Some (Sends to)) = codes "waits for room to " ++ decimal to
-wait_text (Some (TakesFrom from)) = codes "waits for " ++ decimal from
-wait_text (Some Last) = codes "waits"
+-- it waits, by what it would do: it has a message to send, and the link is full; or it awaits one,
+-- and none is there
+abbrev pub wait_text : Action → List ℕ
+wait_text (Goes next (Some sent) shown) = codes "waits for room to " ++ decimal sent.0
+wait_text (Awaits from) = codes "waits for " ++ decimal from
+wait_text action = codes "waits"
 
-abbrev pub turn_text : Option Stage → Heads Message → Turn → List ℕ
-turn_text stage heads (Moves move) = move_text stage heads (words_in (Moves move))
-turn_text stage heads Waiting = wait_text stage
-turn_text stage heads Over = codes "over"
-turn_text stage heads (Stuck kind) = codes "stuck " ++ kind_name kind
+-- by what the processor does by itself, and the oldest messages for it
+abbrev pub turn_text : Action → Heads Message → Turn → List ℕ
+turn_text action heads (Moves move) =
+    move_text (words_in (Moves move)) heads (receiver_in (Moves move)) (sender_in (Moves move))
+turn_text action heads Waiting = wait_text action
+turn_text action heads Over = codes "over"
+turn_text action heads (Stuck kind) = codes "stuck " ++ kind_name kind
 
 -- ---- a line
 -- a number and a space
@@ -77,7 +64,7 @@ abbrev pub line_at : Tables → Option ℕ → Grid → ℕ → Option Local →
 line_at code links grid p None = []
 line_at code links grid p (Some local) =
     line_with (grid.turns + 1) p local.at
-    (turn_text (stage_at code p local) (heads_at (processors code) grid.world.links p)
+    (turn_text (act code p local) (heads_at (processors code) grid.world.links p)
     (next_turn code links grid p))
 
 abbrev pub line_of : Tables → Option ℕ → Grid → ℕ → List ℕ

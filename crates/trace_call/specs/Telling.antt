@@ -14,6 +14,7 @@ use Rattle.grid_runs.specs.Run.{Run}
 use Rattle.exec_call.specs.of_grid_sim.Simulation.{IsStuckTurn, Simulation, turn_given, turn_in}
 use Rattle.exec_call.specs.of_grid_sim.declared.faults.SimFault.{SimFault}
 use Rattle.exec_call.specs.of_grid_sim.declared.faults.SimFault.TheVariants as fault
+use Rattle.exec_call.specs.of_grid_sim.declared.turns.Told.{Told}
 use Rattle.exec_call.specs.of_grid_sim.declared.turns.Turned.{Turned}
 use Rattle.exec_call.specs.of_grid_sim.declared.turns.Turned.TheVariants as turned
 use Rattle.exec_call.specs.of_call_answers.Answers.{kind_text}
@@ -23,14 +24,14 @@ use Rattle.trace_call.specs.declared.events.Event.{Event}
 use Rattle.trace_call.specs.declared.events.Event.TheVariants as event
 
 -- ---- what a turn came to
--- a move, by its stage: so many words were sent, or so many has the message that was taken
-abbrev pub moved_in : Option Stage → ℕ → ℕ → Event
-moved_in None sent taken = event.Moves
-moved_in (Some stage.Alone) sent taken = event.Moves
-moved_in (Some (stage.Sends to)) sent taken = event.Sends sent to
-moved_in (Some (stage.TakesFrom from)) sent taken = event.Takes taken from
-moved_in (Some stage.Last) sent taken = event.Moves
+-- A move, by whom it sent to and whom it took from: so many words were sent, or so many had the
+-- message that was taken.
+abbrev pub moved_in : Option ℕ → Option ℕ → ℕ → ℕ → Event
+moved_in (Some to) sender sent taken = event.Sends sent to
+moved_in None (Some from) sent taken = event.Takes taken from
+moved_in None None sent taken = event.Moves
 
+-- it waits, by its stage
 abbrev pub waits_in : Option Stage → Event
 waits_in None = event.Waits
 waits_in (Some stage.Alone) = event.Waits
@@ -38,10 +39,15 @@ waits_in (Some (stage.Sends to)) = event.AwaitsRoom to
 waits_in (Some (stage.TakesFrom from)) = event.Awaits from
 waits_in (Some stage.Last) = event.Waits
 
-abbrev pub event_in : Option Stage → ℕ → ℕ → Turned → Event
-event_in at sent taken turned.Moved = moved_in at sent taken
-event_in at sent taken turned.Waiting = waits_in at
-event_in at sent taken turned.Over = event.Over
+-- the first of these where it moved, the other where it waits
+abbrev pub event_by : Turned → Event → Event → Event
+event_by turned.Moved one other = one
+event_by turned.Waiting one other = other
+event_by turned.Over one other = event.Over
+
+abbrev pub event_in : Told → Option Stage → ℕ → ℕ → Event
+event_in told at sent taken =
+    event_by told.turned (moved_in told.sent told.took sent taken) (waits_in at)
 
 abbrev pub event_text : Event → List ℕ
 event_text event.Moves = codes "moves"

@@ -2,7 +2,7 @@
 ghost use Rattle.std.specs.Prelude.{◌≡◌};
 ghost use Rattle.trace_call.specs.Telling.{event_in, moved_in, waits_in};
 
-use exec_call::grid_sim::{StuckKind, Turned};
+use exec_call::grid_sim::{StuckKind, Told, Turned};
 use node_stages::Stage;
 
 /// What a turn came to.
@@ -26,15 +26,16 @@ pub enum Event {
     Stuck(StuckKind),
 }
 
-/// What a move at a stage came to, in which so many words were sent, or so many has the message
-/// that was taken.
-fn moved(at: Option<Stage>, sent: u128, taken: u64) -> Event
-    ensures { result ≡ moved_in at sent taken }
+/// What a move came to, in which so many words were sent, or so many had the message that was taken.
+fn moved(told: Told, sent: u128, taken: u64) -> Event
+    ensures { result ≡ moved_in told.sent told.took sent taken }
 {
-    match at {
-        None | Some(Stage::Alone) | Some(Stage::Last) => Event::Moves,
-        Some(Stage::Sends(to)) => Event::Sends(sent, to),
-        Some(Stage::TakesFrom(from)) => Event::Takes(taken, from),
+    if let Some(to) = told.sent {
+        return Event::Sends(sent, to);
+    }
+    match told.took {
+        Some(from) => Event::Takes(taken, from),
+        None => Event::Moves,
     }
 }
 
@@ -49,12 +50,12 @@ fn waits(at: Option<Stage>) -> Event
     }
 }
 
-/// What a turn at a stage came to, which was given.
-pub fn event_of(at: Option<Stage>, sent: u128, taken: u64, turned: Turned) -> Event
-    ensures { result ≡ event_in at sent taken turned }
+/// What a turn came to that was given at a stage, and is told so.
+pub fn event_of(told: Told, at: Option<Stage>, sent: u128, taken: u64) -> Event
+    ensures { result ≡ event_in told at sent taken }
 {
-    match turned {
-        Turned::Moved => moved(at, sent, taken),
+    match told.turned {
+        Turned::Moved => moved(told, sent, taken),
         Turned::Waiting => waits(at),
         Turned::Over => Event::Over,
     }

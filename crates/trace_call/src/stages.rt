@@ -5,8 +5,7 @@ ghost use Rattle.grid_meaning.specs.Local.{processors};
 ghost use Rattle.grid_meaning.specs.Stored.{arrangement_of};
 ghost use Rattle.node_local.specs.Workplace.{IsReady};
 ghost use Rattle.node_stages.specs.Stage.{staged};
-ghost use Rattle.trace_call.specs.Line.{stage_at};
-ghost use Rattle.trace_call.specs.Stages.{IsHeadOf, NamesOneOf};
+ghost use Rattle.trace_call.specs.Stages.{IsHeadOf, NamesOneOf, stage_at};
 
 use exec_call::grid_sim::Local;
 use exec_call::row_turn::{is_together, row_stage};

@@ -37,7 +37,7 @@ pub fn give_turn(
     match sim.turn_told(alloc, p, &mut unseen) {
         Ok(told) => {
             let sent = sim.counts().words - before.words;
-            let event = event_of(stage, sent, taken, told.turned);
+            let event = event_of(told, stage, sent, taken);
             append_line(before.turns + 1, p, at, event, lines)?;
             Ok(())
         }

@@ -3,12 +3,13 @@ use Rattle.call_words.specs.of_call_claims.Call.{call_of}
 use Rattle.call_words.specs.of_call_claims.Stream.{stream_of}
 use Rattle.call_words.proofs.of_call_claims.MetLemmas.{is_met}
 use Rattle.call_words.specs.Reading.{asked_in}
-use Rattle.exec_call.specs.of_call_answers.Work.{execution_in}
+use Rattle.exec_call.specs.of_call_answers.Work.{execution_in, ran_of}
 use Rattle.exec_call.proofs.ToldLemmas.{stops_so}
 use Rattle.call_words.specs.of_call_claims.declared.status.TheConstants.{PUT_FAILED}
 use Rattle.exec_call.specs.of_resume_claims.Decided.{IsExact}
 use Rattle.exec_call.proofs.of_resume_claims.KnownLemmas.{cause_known}
 use Rattle.resume_call.specs.Call.{IsResumed}
+use Rattle.resume_call.proofs.GoneLemmas.{gone_on}
 use Rattle.resume_call.proofs.WorkLemmas.{cut_for, printed_for, read_for, told_so}
 use Rattle.resume_call.proofs.call.resume.Goals as goal
 
@@ -48,11 +49,15 @@ returns-clause-resumed g c = λ words given.
       trap = λ settled. (exact_at settled.decided.put).trap settled;
       turn_limit = λ settled. (exact_at settled.decided.put).turn_limit settled;
       stuck = λ settled. (exact_at settled.decided.put).stuck settled;
-      finished = λ settled named wanted given can. (
+      finished = λ settled named wanted asks can. (
         (so.cause settled.decided.put).text,
         (so.cause settled.decided.put).told,
-        c.saved_grids_are_resumed.ensures c.args.files.now words at status (so.cause settled.decided.put).text
-            (so.cause settled.decided.put).cause settled named wanted given can,
+        gone_on c.texts_tell_one_grid.ensures call (ran_of status telling.work) before after named wanted asks settled.one can
+            (so.cause settled.decided.put).text
+            (c.saved_grids_are_resumed.ensures c.args.files.now words at status (so.cause settled.decided.put).text
+            (so.cause settled.decided.put).cause settled named wanted asks can)
+            (read_for call file asked given telling before after status is)
+            (printed_for call file asked given telling before after status is (so.other settled.decided.put)),
       );
       put_failed = λ nine. elim (so.put nine) [
         | inl failed ↦ inl (

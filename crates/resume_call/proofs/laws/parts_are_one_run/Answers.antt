@@ -14,7 +14,7 @@ returns g c = λ files words ran out out_then errs errs_then asks.
     (g.E.Sink.faults errs_then) (errs_then ≡ errs) in (
       first_part call ran put told asks,
       λ later more next to to_then on on_then.
-          parts_are_one c.texts_tell_one_grid.ensures call ran put told asks (first_part call ran put told asks)
+          parts_are_one call ran put told asks (first_part call ran put told asks)
           (call_of more (g.F.Files.tells later) (g.F.Files.may_fail later) (g.F.Files.may_fail_later later)) next
           (stream_of (g.O.Sink.tells to) (g.O.Sink.tells to_then) (g.O.Sink.faults to) (g.O.Sink.faults to_then)
           (to_then ≡ to))

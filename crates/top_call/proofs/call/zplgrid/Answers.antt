@@ -6,6 +6,7 @@ use Rattle.mean_call.proofs.of_call_answers.CallLemmas.{call_stops}
 use Rattle.top_call.specs.Call.{IsUnknown}
 use Rattle.top_call.proofs.CheckedLemmas.{goes_on}
 use Rattle.top_call.proofs.UnknownLemmas.{none_fetched, tells_usage, usage_read}
+use Rattle.top_call.proofs.WholeLemmas.{none_failed, none_whole, whole_of}
 use Rattle.top_call.proofs.WordLemmas.{is_some, of_check, of_exec, of_gen, of_list, of_mean, of_resume, of_run, of_time}
 use Rattle.top_call.proofs.call.zplgrid.Goals as goal
 
@@ -98,6 +99,15 @@ returns-in-Some-clause-unknown g c = λ none.
 pub returns-in-Some-clause-usage : goal.returns-in-Some-clause-usage
 returns-in-Some-clause-usage g c = λ e. absurd (c.perform.ensures.known e)
 
+pub returns-in-Some-clause-whole : goal.returns-in-Some-clause-whole
+returns-in-Some-clause-whole g c = λ out_kept errs_kept.
+    let words = map string_bytes c.args.words.now in
+    let is = c.in-Some.ensures {u = tt} in
+    whole_of c.commands_are_one.ensures (call_of words (g.F.Files.tells c.args.files.now)
+    (g.F.Files.may_fail c.args.files.now) (g.F.Files.may_fail_later c.args.files.now)) _ _ _
+    c.in-Some.command is (c.perform.ensures.done words is)
+    (none_failed c.perform.ensures.stops out_kept errs_kept)
+
 pub returns-in-None-clause-run : goal.returns-in-None-clause-run
 returns-in-None-clause-run g c = λ asks.
     absurd ((c.in-None.ensures {u = tt}).no_run asks.0 asks.1 asks.2)
@@ -161,6 +171,12 @@ returns-in-None-clause-unknown g c = λ none.
       told = tells_usage c.without_turns.result.answer c.answered.result.status _
           c.without_turns.ensures.answer c.answered.ensures.told;
     })
+
+pub returns-in-None-clause-whole : goal.returns-in-None-clause-whole
+returns-in-None-clause-whole g c = λ out_kept errs_kept.
+    none_whole (call_of (map string_bytes c.args.words.now) (g.F.Files.tells c.args.files.now)
+    (g.F.Files.may_fail c.args.files.now) (g.F.Files.may_fail_later c.args.files.now)) _ _ _
+    (c.in-None.ensures {u = tt})
 
 pub returns-in-None-clause-fetches : goal.returns-in-None-clause-fetches
 returns-in-None-clause-fetches g c =
