@@ -1,7 +1,13 @@
 //! The lines of the parts of states.
-ghost use Rattle.std.specs.Prelude.{◌≡◌, ◌++◌, ℤ, pos, IfOk, OnOk, map, take};
+ghost use Rattle.std.specs.Prelude.{◌≡◌, ◌≢◌, ◌^◌, ◌<◌, ◌++◌, ℤ, pos, All, IfOk, OnOk, Some, map, take};
+ghost use Rattle.std.specs.Prelude.{length, slice_get};
+ghost use Rattle.zpl_nums.specs.Integer.{IsInteger};
+ghost use Rattle.zpl_nums.specs.declared.ends.End.TheVariants.{More};
+ghost use Rattle.zpl_region.specs.Region.{IsRegion};
 ghost use Rattle.listing_rows.specs.Rows.{trap_number};
 ghost use Rattle.save_lines.specs.declared.lines.SavedLine.{SavedLine as Line};
+ghost use Rattle.save_lines.specs.Line.{IsEndWord, IsProcRow, IsSavedLine};
+ghost use Rattle.grid_save.specs.Kept.{IsEnding};
 ghost use Rattle.grid_save.specs.Written.{box_dim, end_of, flag_number, kept_line, message_line};
 ghost use Rattle.grid_save.specs.Written.{proc_row, slot_line};
 
@@ -13,10 +19,51 @@ use std::alloc::{AllocError, Global};
 use zpl_nums::{End, TrapKind};
 use zpl_region::{Dim, Region};
 
+// ---- numbers
+
+/// A number as lines have it; an error where it is none of 64 bits, as of a row whose number is so
+/// great that no memory holds its code.
+fn number(n: u64) -> Result<i128, AllocError>
+    ensures { IfOk result (λ z. (z ≡ pos n) × IsInteger z) }
+{
+    if n < 1 << 63 {
+        Ok(i128::from(n))
+    } else {
+        Err(AllocError)
+    }
+}
+
+/// A law: values in memory are of 64 bits.
+pub(crate) fn values_are_integers(values: &[i64])
+    ensures { All IsInteger values.now }
+{
+    for i in 0..values.len() {
+        let _value = value_at(values, i);
+    }
+}
+
+fn value_at(values: &[i64], i: usize) -> i64
+    requires { i < length values.now }
+    ensures there { slice_get values.now i ≡ Some result }
+    ensures range { IsInteger result }
+{
+    values[i]
+}
+
+/// A law: the line of a trap is of 32 bits.
+pub(crate) fn traps_have_lines(ended: Option<End>)
+    ensures { ended ≢ Some More → IsEnding ended }
+{
+    if let Some(End::Trap(_kind, line)) = ended {
+        let _line = line;
+    }
+}
+
 // ---- where a processor stands
 
 fn trap_number(kind: TrapKind) -> i128
-    ensures { result ≡ pos (trap_number kind) }
+    ensures is { result ≡ pos (trap_number kind) }
+    ensures range { IsInteger result }
 {
     match kind {
         TrapKind::DivideByZero => 1,
@@ -27,7 +74,8 @@ fn trap_number(kind: TrapKind) -> i128
 }
 
 fn end_of(ended: Option<End>) -> EndWord
-    ensures { result ≡ end_of ended }
+    ensures is { result ≡ end_of ended }
+    ensures range { IsEndWord result }
 {
     match ended {
         None | Some(End::More) => EndWord::Going,
@@ -36,28 +84,29 @@ fn end_of(ended: Option<End>) -> EndWord
     }
 }
 
-fn flag_number(flag: Option<u64>) -> i128
-    ensures { result ≡ flag_number flag }
+fn flag_number(flag: Option<u64>) -> Result<i128, AllocError>
+    ensures { IfOk result (λ z. (z ≡ flag_number flag) × IsInteger z) }
 {
     match flag {
-        Some(member) => i128::from(member),
-        None => -1,
+        Some(member) => number(member),
+        None => Ok(-1),
     }
 }
 
-/// Where a processor stands.
-pub(crate) fn proc_row(p: u32, local: &Local) -> ProcRow
-    ensures { result ≡ proc_row p local.now.local }
+/// Where a processor stands. An error comes where a number is none of 64 bits, which no memory holds
+/// code for.
+pub(crate) fn proc_row(p: u32, local: &Local) -> Result<ProcRow, AllocError>
+    ensures { IfOk result (λ row. (row ≡ proc_row p local.now.local) × IsProcRow row) }
 {
-    ProcRow {
+    Ok(ProcRow {
         processor: i128::from(p),
-        at: i128::from(local.at()),
-        made: i128::from(local.made()),
-        index: i128::from(local.index()),
-        member: i128::from(local.member()),
-        flag: flag_number(local.flag()),
+        at: number(local.at())?,
+        made: number(local.made())?,
+        index: number(local.index())?,
+        member: number(local.member())?,
+        flag: flag_number(local.flag())?,
         end: end_of(local.ending()),
-    }
+    })
 }
 
 // ---- lines of values
@@ -110,20 +159,24 @@ pub(crate) fn store_line(
 
 /// The line of words that are kept of a processor's message.
 pub(crate) fn kept_line(alloc: Global, from: u32, words: &Words) -> Result<SavedLine, AllocError>
-    ensures { IfOk result (λ line. line ≡ kept_line (from, words.now)) }
+    ensures { IfOk result (λ line. (line ≡ kept_line (from, words.now)) × IsSavedLine line) }
 {
+    values_are_integers(words.as_slice());
     let words = Row::of(Vec::from_slice(alloc, words.as_slice())?);
     Ok(SavedLine::Kept(i128::from(from), words))
 }
 
-/// The line of a message to a processor.
+/// The line of a message to a processor. An error comes where its tag is none of 64 bits, which no
+/// memory holds code for.
 pub(crate) fn message_line(
     alloc: Global,
     to: u32,
     message: &Message,
 ) -> Result<SavedLine, AllocError>
-    ensures { IfOk result (λ line. line ≡ message_line to message.now) }
+    ensures { IfOk result (λ line. (line ≡ message_line to message.now) × IsSavedLine line) }
 {
+    values_are_integers(message.words.as_slice());
+    let tag = number(message.tag)?;
     let words = Row::of(Vec::from_slice(alloc, message.words.as_slice())?);
-    Ok(SavedLine::Msg(i128::from(to), i128::from(message.tag), words))
+    Ok(SavedLine::Msg(i128::from(to), tag, words))
 }

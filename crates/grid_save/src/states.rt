@@ -8,11 +8,12 @@ ghost use Rattle.grid_meaning.specs.Local.{processors};
 ghost use Rattle.node_form.specs.declared.tables.Tables.{Tables};
 ghost use Rattle.node_local.specs.Workplace.{IsReady};
 ghost use Rattle.save_lines.specs.declared.lines.SavedLine.{SavedLine as Line};
-ghost use Rattle.save_lines.specs.Line.{saved_text};
+ghost use Rattle.save_lines.specs.Line.{IsSavedLine};
+ghost use Rattle.grid_save.specs.Writing.{Writes};
 ghost use Rattle.grid_save.specs.Written.{found_lines, kept_line, kept_lines, local_lines};
 ghost use Rattle.grid_save.specs.Written.{slot_line, store_line};
 
-use crate::parts::{kept_line, proc_row, slot_line, store_line};
+use crate::parts::{kept_line, proc_row, slot_line, store_line, values_are_integers};
 use grid_links::Words;
 use node_form::{ArrayRow, NodeProgram, Row};
 use node_local::Local;
@@ -21,7 +22,8 @@ use save_lines::{SavedLine, write_line};
 use std::alloc::{AllocError, Global};
 use zpl_region::Region;
 
-/// Appends the lines of a processor's state.
+/// Appends the lines of a processor's state. An error comes for want of memory, and where a number
+/// is none of 64 bits or an array none of 32, which no memory holds code for.
 pub(crate) fn add_local(
     alloc: Global,
     code: &NodeProgram,
@@ -32,11 +34,10 @@ pub(crate) fn add_local(
 ) -> Result<(), AllocError>
     requires ready { IsReady code.now p local.now }
     requires count { count ≡ processors code.now }
-    requires arrays { length code.now.arrays < 2 ^ 32 }
-    ensures { OnOk result (text.new.items
-        ≡ text.old.items ++ saved_text (local_lines code.now p local.now.local)) }
+    ensures { OnOk result (Writes text.old.items (local_lines code.now p local.now.local)
+        text.new.items) }
 {
-    write_line(&SavedLine::Proc(proc_row(p, local)), text)?;
+    write_line(&SavedLine::Proc(proc_row(p, local)?), text)?;
     add_scalars(alloc, local, code.tables().scalars, text)?;
     add_slots(alloc, local.slots(), text)?;
     add_cells(alloc, local, code.tables().cells, text)?;
@@ -51,31 +52,33 @@ fn add_scalars(
     text: &mut Vec<u8>,
 ) -> Result<(), AllocError>
     requires { length local.now.local.scalars ≡ count }
-    ensures { OnOk result (text.new.items
-        ≡ text.old.items ++ saved_text (Line.Scalars local.now.local.scalars ∷ [])) }
+    ensures { OnOk result (Writes text.old.items (Line.Scalars local.now.local.scalars ∷ [])
+        text.new.items) }
 {
     let mut values = Vec::new(alloc);
     for i in 0..count {
         values.push(local.scalar(i).unwrap_or(0))?;
     }
+    values_are_integers(values.as_slice());
     write_line(&SavedLine::Scalars(Row::of(values)), text)
 }
 
 fn add_cells(alloc: Global, local: &Local, count: u32, text: &mut Vec<u8>) -> Result<(), AllocError>
     requires { length local.now.local.cells ≡ count }
-    ensures { OnOk result (text.new.items
-        ≡ text.old.items ++ saved_text (Line.Cells local.now.local.cells ∷ [])) }
+    ensures { OnOk result (Writes text.old.items (Line.Cells local.now.local.cells ∷ [])
+        text.new.items) }
 {
     let mut values = Vec::new(alloc);
     for i in 0..count {
         values.push(local.cell(i).unwrap_or(0))?;
     }
+    values_are_integers(values.as_slice());
     write_line(&SavedLine::Cells(Row::of(values)), text)
 }
 
 fn add_slots(alloc: Global, slots: &[Region], text: &mut Vec<u8>) -> Result<(), AllocError>
-    ensures { OnOk result (text.new.items
-        ≡ text.old.items ++ saved_text (map slot_line slots.now)) }
+    requires { All (λ region. IsSavedLine (slot_line region)) slots.now }
+    ensures { OnOk result (Writes text.old.items (map slot_line slots.now) text.new.items) }
 {
     for i in 0..slots.len() {
         add_slot(alloc, slot_at(slots, i), text)?;
@@ -91,8 +94,9 @@ fn slot_at(slots: &[Region], i: usize) -> Option<&Region>
 
 /// Appends the line of a slot, if there is one.
 fn add_slot(alloc: Global, found: Option<&Region>, text: &mut Vec<u8>) -> Result<(), AllocError>
-    ensures { OnOk result (text.new.items ≡ text.old.items
-        ++ saved_text (found_lines slot_line (option_copied found.entry))) }
+    requires { IfSome (option_copied found) (λ region. IsSavedLine (slot_line region)) }
+    ensures { OnOk result (Writes text.old.items
+        (found_lines slot_line (option_copied found.entry)) text.new.items) }
 {
     match found {
         Some(region) => write_line(&slot_line(alloc, region)?, text),
@@ -108,11 +112,13 @@ fn add_stores(
     text: &mut Vec<u8>,
 ) -> Result<(), AllocError>
     requires ready { IsReady code.now p local.now }
-    requires few { length code.now.arrays < 2 ^ 32 }
-    ensures { OnOk result (text.new.items
-        ≡ text.old.items ++ saved_text (map store_line local.now.local.stores)) }
+    ensures { OnOk result (Writes text.old.items (map store_line local.now.local.stores)
+        text.new.items) }
 {
     let count = code.tables().arrays.len();
+    if count > u64::from(u32::MAX) {
+        return Err(AllocError);
+    }
     for array in 0..count as u32 {
         let places = held_places(code, p, local, array);
         add_store(alloc, local, array, places, text)?;
@@ -130,6 +136,13 @@ fn held_places(code: &NodeProgram, p: u32, local: &Local, array: u32) -> Option<
 {
     has_three(code.tables().arrays.get(u64::from(array))?);
     local.shape(array)
+}
+
+/// A law: a region has three dimensions.
+fn places_have_three(places: &Region)
+    ensures { length places.now.dims ≡ 3 }
+{
+    let [_planes, _rows, _columns] = places.dims;
 }
 
 /// A law: an array has three dimensions.
@@ -151,21 +164,23 @@ fn add_store(
     requires places { places ≡ option_map (λ store. store.storage)
         (slice_get local.now.local.stores array) }
     requires region { ForSome places IsRegion }
-    ensures { OnOk result (text.new.items ≡ text.old.items
-        ++ saved_text (found_lines store_line (slice_get local.now.local.stores array))) }
+    ensures { OnOk result (Writes text.old.items
+        (found_lines store_line (slice_get local.now.local.stores array)) text.new.items) }
 {
     let Some(places) = places else {
         return Ok(());
     };
     let mut values = Vec::new(alloc);
     push_values(local, array, &places, &mut values)?;
+    places_have_three(&places);
+    values_are_integers(values.as_slice());
     write_line(&store_line(alloc, &places, values)?, text)
 }
 
 /// Appends the lines of the words that are kept.
 fn add_kept(alloc: Global, local: &Local, count: u32, text: &mut Vec<u8>) -> Result<(), AllocError>
-    ensures { (code : Tables) → processors code ≡ count → OnOk result (text.new.items
-        ≡ text.old.items ++ saved_text (kept_lines code local.now.local.kept)) }
+    ensures { (code : Tables) → processors code ≡ count → OnOk result (Writes text.old.items
+        (kept_lines code local.now.local.kept) text.new.items) }
 {
     for q in 0..count {
         add_kept_from(alloc, q, local.kept(q), text)?;
@@ -180,8 +195,9 @@ fn add_kept_from(
     found: Option<&Words>,
     text: &mut Vec<u8>,
 ) -> Result<(), AllocError>
-    ensures { OnOk result (text.new.items ≡ text.old.items
-        ++ saved_text (found_lines (λ words. kept_line (from, words)) (option_copied found.entry))) }
+    ensures { OnOk result (Writes text.old.items
+        (found_lines (λ words. kept_line (from, words)) (option_copied found.entry))
+        text.new.items) }
 {
     match found {
         Some(words) => write_line(&kept_line(alloc, from, words)?, text),

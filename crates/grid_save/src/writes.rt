@@ -1,15 +1,16 @@
 //! Writing grids.
-ghost use Rattle.std.specs.Prelude.{◌≡◌, ◌^◌, ◌<◌, ◌++◌, OnErr, OnOk, length, map};
-ghost use Rattle.std.specs.Prelude.{slice_get};
+ghost use Rattle.std.specs.Prelude.{◌≡◌, ◌<◌, ◌++◌, ℕ, OnErr, OnOk, Some, map, slice_get};
 ghost use Rattle.std.specs.Fmt.{decimal};
 ghost use Rattle.std.specs.Option.{option_copied};
 ghost use Rattle.grid_links.specs.Links.{link_of};
-ghost use Rattle.grid_meaning.specs.Local.{processors};
-ghost use Rattle.save_lines.specs.Line.{saved_text};
+ghost use Rattle.grid_meaning.specs.Local.{Local, processors};
+ghost use Rattle.grid_save.specs.Onward.{CanBeSaved, MayBe};
+ghost use Rattle.grid_save.specs.Saved.{IsSaveable};
+ghost use Rattle.grid_save.specs.Writing.{Writes};
 ghost use Rattle.grid_save.specs.Written.{counts_text, found_lines, grid_lines, message_line};
 ghost use Rattle.grid_save.specs.Written.{message_lines, save_text, state_lines};
 
-use crate::parts::message_line;
+use crate::parts::{message_line, traps_have_lines};
 use crate::states::add_local;
 use grid_links::Message;
 use grid_sim::{Counts, Sim};
@@ -18,13 +19,16 @@ use listing_rows::write_listing;
 use save_lines::write_line;
 use std::alloc::{AllocError, Global};
 
-/// Appends the grid's saved text. Where memory runs out nothing is appended.
+/// Appends the grid's saved text. Where memory runs out nothing is appended; so it is where a number
+/// is none of 64 bits, or an array's none of 32, as of code that no memory holds.
 pub fn write_save(alloc: Global, sim: &Sim, into: &mut Vec<u8>) -> Result<(), AllocError>
-    requires { length sim.now.code.arrays < 2 ^ 32 }
     ensures ok { OnOk result (into.new.items
         ≡ into.old.items ++ save_text sim.now.code sim.now.grid) }
+    ensures saveable { OnOk result (CanBeSaved sim.now.code sim.now.grid
+        → IsSaveable sim.now.code sim.now.grid) }
     ensures err { OnErr result (into.new.items ≡ into.old.items) }
 {
+    states_may_be(sim);
     let mut text = Vec::new(alloc);
     text.extend_from_slice(b"zplsave 1\n")?;
     add_counts(&sim.counts(), &mut text)?;
@@ -53,11 +57,20 @@ fn add_counts(counts: &Counts, text: &mut Vec<u8>) -> Result<(), AllocError>
     text.extend_from_slice(b"\n")
 }
 
+/// A law: each processor is in a state that it may have, and the line of its trap is of 32 bits.
+fn states_may_be(sim: &Sim)
+    ensures { (p : ℕ) (local : Local) → p < processors sim.now.code →
+        slice_get sim.now.grid.world.locals p ≡ Some local → MayBe sim.now.code p local }
+{
+    for p in 0..sim.processors() {
+        traps_have_lines(sim.local(p).ending());
+    }
+}
+
 /// Appends the lines of all processors.
 fn add_states(alloc: Global, sim: &Sim, text: &mut Vec<u8>) -> Result<(), AllocError>
-    requires { length sim.now.code.arrays < 2 ^ 32 }
-    ensures { OnOk result (text.new.items
-        ≡ text.old.items ++ saved_text (grid_lines sim.now.code sim.now.grid)) }
+    ensures { OnOk result (Writes text.old.items (grid_lines sim.now.code sim.now.grid)
+        text.new.items) }
 {
     for p in 0..sim.processors() {
         add_state(alloc, sim, p, text)?;
@@ -66,11 +79,10 @@ fn add_states(alloc: Global, sim: &Sim, text: &mut Vec<u8>) -> Result<(), AllocE
 }
 
 fn add_state(alloc: Global, sim: &Sim, p: u32, text: &mut Vec<u8>) -> Result<(), AllocError>
-    requires arrays { length sim.now.code.arrays < 2 ^ 32 }
-    requires processor { p < processors sim.now.code }
-    ensures { OnOk result (text.new.items ≡ text.old.items ++ saved_text
+    requires { p < processors sim.now.code }
+    ensures { OnOk result (Writes text.old.items
         (state_lines sim.now.code sim.now.grid.world.links p
-        (slice_get sim.now.grid.world.locals p))) }
+        (slice_get sim.now.grid.world.locals p)) text.new.items) }
 {
     add_local(alloc, sim.code(), sim.processors(), p, sim.local(p), text)?;
     add_messages(alloc, sim, p, text)
@@ -79,8 +91,8 @@ fn add_state(alloc: Global, sim: &Sim, p: u32, text: &mut Vec<u8>) -> Result<(),
 /// Appends the lines of the messages that a processor sent.
 fn add_messages(alloc: Global, sim: &Sim, p: u32, text: &mut Vec<u8>) -> Result<(), AllocError>
     requires { p < processors sim.now.code }
-    ensures { OnOk result (text.new.items ≡ text.old.items
-        ++ saved_text (message_lines sim.now.code sim.now.grid.world.links p)) }
+    ensures { OnOk result (Writes text.old.items
+        (message_lines sim.now.code sim.now.grid.world.links p) text.new.items) }
 {
     for q in 0..sim.processors() {
         add_link(alloc, sim, p, q, text)?;
@@ -92,8 +104,8 @@ fn add_messages(alloc: Global, sim: &Sim, p: u32, text: &mut Vec<u8>) -> Result<
 fn add_link(alloc: Global, sim: &Sim, p: u32, q: u32, text: &mut Vec<u8>) -> Result<(), AllocError>
     requires from { p < processors sim.now.code }
     requires to { q < processors sim.now.code }
-    ensures { OnOk result (text.new.items ≡ text.old.items ++ saved_text (map (message_line q)
-        (link_of (processors sim.now.code) sim.now.grid.world.links p q))) }
+    ensures { OnOk result (Writes text.old.items (map (message_line q)
+        (link_of (processors sim.now.code) sim.now.grid.world.links p q)) text.new.items) }
 {
     for k in 0..sim.links().length(p, q) {
         add_message(alloc, q, sim.links().nth(p, q, k), text)?;
@@ -108,8 +120,8 @@ fn add_message(
     found: Option<&Message>,
     text: &mut Vec<u8>,
 ) -> Result<(), AllocError>
-    ensures { OnOk result (text.new.items ≡ text.old.items
-        ++ saved_text (found_lines (message_line to) (option_copied found.entry))) }
+    ensures { OnOk result (Writes text.old.items
+        (found_lines (message_line to) (option_copied found.entry)) text.new.items) }
 {
     match found {
         Some(message) => write_line(&message_line(alloc, to, message)?, text),

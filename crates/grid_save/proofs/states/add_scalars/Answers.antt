@@ -1,9 +1,10 @@
-use Rattle.std.proofs.Common.{rules, ◌≡◌, ◌++◌, [], ◌∷◌, pos, arith, ap, ◌∙◌}
-use Rattle.std.specs.Prelude.{unwrap_or}
+use Rattle.std.proofs.Common.{rules, ◌≡◌, ◌++◌, [], ◌∷◌, pos, arith, ap, subst, ◌∙◌}
+use Rattle.std.specs.Prelude.{All, unwrap_or}
+use Rattle.zpl_nums.specs.Integer.{IsInteger}
 use Rattle.save_lines.specs.declared.lines.SavedLine.TheVariants.{Scalars}
 use Rattle.save_lines.specs.Line.{saved_text}
 use Rattle.save_lines.proofs.Appends.{by_ok}
-use Rattle.grid_save.proofs.WriteLemmas.{value_more, values_end}
+use Rattle.grid_save.proofs.WriteLemmas.{value_more, values_end, writes_one}
 use Rattle.grid_save.proofs.states.add_scalars.Goals as goal
 
 pub loop-i-preserved : goal.loop-i-preserved
@@ -14,5 +15,8 @@ loop-i-preserved c =
 
 pub returns : goal.returns
 returns c =
-    let all = values_end c.args.local.now.local.scalars c.loop-i.values.items c.loop-i.i (omega (arith, c.loop-i-test.false, c.requires)) c.loop-i.invariant in
-    by_ok c.write_line.result _ _ c.write_line.ensures (λ last. last ∙ ap (λ values. c.args.text.now.items ++ saved_text (Scalars values ∷ [])) (c.of.ensures ∙ all))
+    let scalars = c.args.local.now.local.scalars in
+    let all = values_end scalars c.loop-i.values.items c.loop-i.i (omega (arith, c.loop-i-test.false, c.requires)) c.loop-i.invariant in
+    let range : All IsInteger scalars = subst (All IsInteger) (c.as_slice.ensures.value ∙ all) c.values_are_integers.ensures in
+    by_ok c.write_line.result _ _ c.write_line.ensures (λ last. writes_one c.args.text.now.items c.write_line.new.into.items (Scalars scalars) range
+    (last ∙ ap (λ values. c.args.text.now.items ++ saved_text (Scalars values ∷ [])) (c.of.ensures ∙ all)))

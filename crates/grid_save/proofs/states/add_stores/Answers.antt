@@ -3,13 +3,16 @@ use Rattle.node_form.specs.declared.tables.Tables.{Tables}
 use Rattle.grid_meaning.specs.State.{IsStore}
 use Rattle.grid_save.specs.Written.{store_line}
 use Rattle.grid_save.proofs.StoreLemmas.{zip_long}
-use Rattle.grid_save.proofs.WriteLemmas.{line_more, lines_end}
+use Rattle.grid_save.proofs.WriteLemmas.{element_more, elements_end, writes_none}
 use Rattle.grid_save.proofs.states.add_stores.Goals as goal
+
+pub loop-array-init : goal.loop-array-init
+loop-array-init c = writes_none c.args.text.now.items
 
 pub loop-array-preserved : goal.loop-array-preserved
 loop-array-preserved c =
-    line_more store_line c.args.local.now.local.stores _ c.loop-array.text.items c.add_store.new.text.items c.loop-array.array c.loop-array.invariant
-    c.in_ok-add_store.ensures
+    element_more store_line c.args.local.now.local.stores c.args.text.now.items c.loop-array.text.items c.add_store.new.text.items
+    c.loop-array.array c.loop-array.invariant c.in_ok-add_store.ensures
 
 pub returns : goal.returns
 returns c =
@@ -17,6 +20,5 @@ returns c =
     let stores = c.args.local.now.local.stores in
     let many : length code.arrays ≡ length stores = zip_long (IsStore code c.args.p) code.arrays stores c.requires.ready.state.parts.stores in
     let same = ap (λ (tables : Tables). length tables.arrays) c.tables.ensures.same in
-    let few = c.requires.few in
-    lines_end store_line stores _ c.loop-array.text.items c.loop-array.array (omega (arith, many, same, few, c.len-count.ensures, c.loop-array-test.false))
-    c.loop-array.invariant
+    elements_end store_line stores c.args.text.now.items c.loop-array.text.items c.loop-array.array
+    (omega (arith, many, same, c.len-count.ensures, c.loop-array-test.false)) c.loop-array.invariant

@@ -6,6 +6,7 @@ use Rattle.listing_rows.specs.Listing.{listing_of}
 use Rattle.save_lines.specs.Line.{saved_text}
 use Rattle.grid_sim.specs.declared.counts.Counts.{Counts}
 use Rattle.grid_save.specs.Written.{counts_text, grid_lines, save_text, version_text}
+use Rattle.grid_save.proofs.OnwardLemmas.{on_ok, saveable}
 use Rattle.grid_save.proofs.WriteLemmas.{whole_saved}
 use Rattle.grid_save.proofs.writes.write_save.Goals as goal
 
@@ -29,6 +30,11 @@ returns-clause-ok c =
     let is_three : three ≡ two ++ listing_of sim.code =
     c.in_ok-write_listing.ensures.ok ∙ ap (λ (code : Tables). two ++ listing_of code) c.code.ensures in
     let whole = whole_saved [] one two three four version_text (counts_text grid.turns grid.sends grid.words) (listing_of sim.code)
-    (saved_text (grid_lines sim.code grid)) is_one is_two is_three c.in_ok-add_states.ensures in
+    (saved_text (grid_lines sim.code grid)) is_one is_two is_three c.in_ok-add_states.ensures.text in
     ok_appended c.extend_from_slice-2.result c.extend_from_slice-2.new.self.items c.args.into.now.items c.deref.result.now _
     c.extend_from_slice-2.ensures.items (c.deref.ensures.value ∙ whole)
+
+pub returns-clause-saveable : goal.returns-clause-saveable
+returns-clause-saveable c =
+    let sim = c.args.sim.now in
+    on_ok c.extend_from_slice-2.result _ (saveable sim.code sim.grid c.in_ok-add_states.ensures.are c.states_may_be.ensures)

@@ -1,0 +1,3 @@
+mod ActLemmas
+mod OtherLemmas
+mod RunLemmas
