@@ -1,9 +1,8 @@
 //! The lines of the parts of states.
-ghost use Rattle.std.specs.Prelude.{◌≡◌, ◌≢◌, ◌^◌, ◌<◌, ◌++◌, ℤ, pos, All, IfOk, OnOk, Some, map, take};
-ghost use Rattle.std.specs.Prelude.{length, slice_get};
+ghost use Rattle.std.specs.Prelude.{◌≡◌, ◌≢◌, ◌<◌, pos, All, IfOk, Some, length, map, slice_get};
+ghost use Rattle.std.specs.Prelude.{take};
 ghost use Rattle.zpl_nums.specs.Integer.{IsInteger};
 ghost use Rattle.zpl_nums.specs.declared.ends.End.TheVariants.{More};
-ghost use Rattle.zpl_region.specs.Region.{IsRegion};
 ghost use Rattle.listing_rows.specs.Rows.{trap_number};
 ghost use Rattle.save_lines.specs.declared.lines.SavedLine.{SavedLine as Line};
 ghost use Rattle.save_lines.specs.Line.{IsEndWord, IsProcRow, IsSavedLine};
@@ -93,8 +92,8 @@ fn flag_number(flag: Option<u64>) -> Result<i128, AllocError>
     }
 }
 
-/// Where a processor stands. An error comes where a number is none of 64 bits, which no memory holds
-/// code for.
+/// Where a processor stands. An error comes where a number is none of 64 bits, as of code that no
+/// memory holds.
 pub(crate) fn proc_row(p: u32, local: &Local) -> Result<ProcRow, AllocError>
     ensures { IfOk result (λ row. (row ≡ proc_row p local.now.local) × IsProcRow row) }
 {
@@ -166,8 +165,8 @@ pub(crate) fn kept_line(alloc: Global, from: u32, words: &Words) -> Result<Saved
     Ok(SavedLine::Kept(i128::from(from), words))
 }
 
-/// The line of a message to a processor. An error comes where its tag is none of 64 bits, which no
-/// memory holds code for.
+/// The line of a message to a processor. An error comes where its tag is none of 64 bits, as of
+/// code that no memory holds.
 pub(crate) fn message_line(
     alloc: Global,
     to: u32,

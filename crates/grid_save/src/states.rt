@@ -1,6 +1,5 @@
 //! Writing the state of a processor.
-ghost use Rattle.std.specs.Prelude.{◌≡◌, ◌^◌, ◌<◌, ◌++◌, [], ◌∷◌, All, IfSome, OnOk, length, map};
-ghost use Rattle.std.specs.Prelude.{slice_get};
+ghost use Rattle.std.specs.Prelude.{◌≡◌, [], ◌∷◌, All, IfSome, OnOk, length, map, slice_get};
 ghost use Rattle.std.specs.Option.{ForSome, option_copied, option_map};
 ghost use Rattle.zpl_region.specs.Region.{IsRegion};
 ghost use Rattle.zpl_arrays.specs.Array.{IsArray};
@@ -23,7 +22,7 @@ use std::alloc::{AllocError, Global};
 use zpl_region::Region;
 
 /// Appends the lines of a processor's state. An error comes for want of memory, and where a number
-/// is none of 64 bits or an array none of 32, which no memory holds code for.
+/// is none of 64 bits or an array's none of 32, as of code that no memory holds.
 pub(crate) fn add_local(
     alloc: Global,
     code: &NodeProgram,

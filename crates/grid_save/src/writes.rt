@@ -19,8 +19,8 @@ use listing_rows::write_listing;
 use save_lines::write_line;
 use std::alloc::{AllocError, Global};
 
-/// Appends the grid's saved text. Where memory runs out nothing is appended; so it is where a number
-/// is none of 64 bits, or an array's none of 32, as of code that no memory holds.
+/// Appends the grid's saved text. Where memory runs out nothing is appended; so it is where a
+/// number is none of 64 bits, or an array's none of 32, as of code that no memory holds.
 pub fn write_save(alloc: Global, sim: &Sim, into: &mut Vec<u8>) -> Result<(), AllocError>
     ensures ok { OnOk result (into.new.items
         ≡ into.old.items ++ save_text sim.now.code sim.now.grid) }

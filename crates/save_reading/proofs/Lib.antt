@@ -1,6 +1,7 @@
 mod BoxLemmas
-mod OneLine
-mod OneReading
-mod OneWay
-mod ReadLemmas
+pub mod OneLine
+pub mod OneReading
+pub mod OneWay
+pub mod ReadLemmas
 mod SentLemmas
+pub use Rattle.grid_save.proofs as of_grid_save

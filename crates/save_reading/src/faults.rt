@@ -24,7 +24,7 @@ impl From<AllocError> for StateFault {
 }
 
 /// A rule is broken at the line with this place, counted from 0.
-pub(crate) fn bad_state(at: usize) -> StateFault
+pub fn bad_state(at: usize) -> StateFault
     requires { at + 1 < 2 ^ 32 }
     ensures { result ≡ StateFault.BadState (at + 1) }
 {

@@ -11,7 +11,8 @@ mod reads;
 mod slots;
 mod values;
 
-pub use faults::StateFault;
+pub use faults::{StateFault, bad_state};
 pub use laws::{messages_have_one_reading, values_have_one_reading};
-pub use messages::{Sent, take_messages};
+pub use lines::keep;
+pub use messages::{Sent, processor_count, take_messages};
 pub use reads::read_values;

@@ -37,7 +37,7 @@ pub(crate) fn message_at(lines: &[SavedLine], at: usize) -> Option<&SavedLine>
 }
 
 /// Appends an item.
-pub(crate) fn keep<T: Drop>(list: &mut Vec<T>, item: T) -> Result<(), AllocError>
+pub fn keep<T: Drop>(list: &mut Vec<T>, item: T) -> Result<(), AllocError>
     ensures { OnOk result (list.new.items ≡ list.old.items ++ item ∷ []) }
 {
     list.push(item)?;

@@ -70,7 +70,7 @@ fn read_message(
 }
 
 /// How many processors there are.
-fn processor_count(_code: &Tables, layout: &Layout) -> u32
+pub fn processor_count(_code: &Tables, layout: &Layout) -> u32
     requires { layout.now ≡ arrangement_of _code.now }
     ensures { result ≡ processors _code.now }
 {

@@ -1,6 +1,6 @@
 -- A processor sends to others alone, keeps words of others, and does not end in wanting more.
-use Rattle.std.proofs.Common.{◌≡◌, ◌≢◌, ℕ, zero, suc, ◌==◌, Bool, true, false, ℤ, List, [], ◌∷◌, length, map, take, Option, Some, None, subst, ap, ◌∙◌, cond, nat_lt, refl}
-use Rattle.std.specs.Prelude.{All, slice_get, slice_set, option_and_then, ⊤}
+use Rattle.std.proofs.Common.{◌≡◌, ◌≢◌, ℕ, zero, suc, ◌==◌, Bool, true, false, ℤ, List, [], ◌∷◌, length, map, take, Option, Some, None, cond, nat_lt, refl}
+use Rattle.std.specs.Prelude.{All, slice_get, option_and_then, ⊤}
 use Rattle.std.specs.Option.{IfSome, option_map}
 use Rattle.std.proofs.lemmas.List.Elements.{All-nil, All-cons, All-head, All-tail}
 use Rattle.zpl_nums.specs.declared.ends.End.{End}
@@ -31,7 +31,7 @@ use Rattle.grid_meaning.specs.Collective.{Collective, Stage, Alone, Sends, Takes
 use Rattle.grid_meaning.specs.Delivery.{Delivery, delivered, each_word, edging, flooding, parting}
 use Rattle.grid_meaning.specs.Exchange.{finished, started}
 use Rattle.grid_meaning.specs.Gather.{gather_last, gathered, prints_gathered}
-use Rattle.grid_meaning.specs.Local.{Local, processor_numbers, start_local}
+use Rattle.grid_meaning.specs.Local.{Local}
 use Rattle.grid_meaning.specs.Loop.{after_members, looped, turn_at_index}
 use Rattle.grid_meaning.specs.Owner.{region_in}
 use Rattle.grid_meaning.specs.Place.{with_values}

@@ -1,5 +1,5 @@
 -- What each turn keeps, from the start of a program on.
-use Rattle.std.proofs.Common.{◌≡◌, ◌≢◌, ℕ, zero, suc, ◌+◌, ◌*◌, ◌<◌, Bool, true, ◌&&◌, nat_lt, ℤ, List, [], ◌∷◌, ◌++◌, length, drop, map, replicate, refl, sym, ap, ◌∙◌, subst, length-set}
+use Rattle.std.proofs.Common.{◌≡◌, ◌≢◌, ℕ, zero, suc, ◌*◌, ◌<◌, true, nat_lt, ℤ, List, [], ◌∷◌, length, drop, map, replicate, refl, sym, ap, ◌∙◌, subst, length-set}
 use Rattle.std.specs.Prelude.{Option, Some, None, All, slice_get, slice_set, slice_index_or, ⊤}
 use Rattle.std.specs.Option.{IfSome}
 use Rattle.std.proofs.lemmas.Bool.{and_parts, ltb-true}
@@ -13,7 +13,7 @@ use Rattle.grid_links.specs.Links.{link_number, link_of}
 use Rattle.grid_links.specs.Machine.{Moves, Waiting, Over, Stuck}
 use Rattle.grid_links.specs.Run as run
 use Rattle.grid_links.proofs.LinkLemmas.{number-from, number-to}
-use Rattle.grid_meaning.specs.Grid.{Grid, after_from, given_turn, next_turn, start_grid, system_over}
+use Rattle.grid_meaning.specs.Grid.{Grid, after_from, given_turn, start_grid, system_over}
 use Rattle.grid_meaning.specs.Local.{Local, processor_numbers, processors, start_local, start_locals}
 use Rattle.grid_meaning.specs.Order.{given}
 use Rattle.grid_meaning.specs.Turn.{Turn}

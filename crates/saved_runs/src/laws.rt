@@ -6,8 +6,8 @@ ghost use Rattle.grid_runs.specs.Run.{Run, grid_at};
 ghost use Rattle.grid_save.specs.Onward.{IsOnward};
 ghost use Rattle.grid_save.specs.Saved.{IsSaveable};
 
-/// What `write_save` asks of a grid, beside its counts, holds of each program's grid before its first
-/// turn, and of a grid that was saved; and each turn keeps it, over links of any capacity.
+/// What `write_save` asks of a grid, beside its counts, holds of each program's grid before its
+/// first turn, and of a grid that was saved; and each turn keeps it, over links of any capacity.
 pub fn runs_stay_onward()
     ensures start { (code : Code) → IsOnward code (start_grid code) }
     ensures saved { (code : Code) (grid : Grid) → IsSaveable code grid → IsOnward code grid }

@@ -1,5 +1,5 @@
 -- Whom a processor has a message for, or awaits one of, is whom its stage names.
-use Rattle.std.proofs.Common.{◌≡◌, ℕ, zero, suc, Bool, List, refl, ℤ}
+use Rattle.std.proofs.Common.{ℕ, zero, suc, Bool, List, refl, ℤ}
 use Rattle.std.specs.Prelude.{Option, Some, None, slice_get, option_and_then}
 use Rattle.std.specs.Fmt.{signed_decimal}
 use Rattle.std.specs.Option.{option_map}

@@ -1,0 +1,10 @@
+mod BegunLemmas
+mod FarLemmas
+mod FrontLemmas
+mod KeepLemmas
+mod KeeperLemmas
+mod SenderLemmas
+mod SizeLemmas
+mod StageLemmas
+mod WalkLemmas
+mod WordLemmas

@@ -1,0 +1,19 @@
+use Rattle.std.specs.Prelude.{◌≡◌, Some}
+use Rattle.grid_meaning.specs.Collective.{Collective, stage_of}
+use Rattle.node_stages.specs.Stage.{staged}
+use Rattle.row_progress.proofs.KeeperLemmas.{of_scan, scan_along, scan_slot, scan_under}
+use Rattle.row_progress.proofs.keepers.stage_in_scan.Goals as goal
+
+pub region_in-region-requires-clause-slot : goal.region_in-region-requires-clause-slot
+region_in-region-requires-clause-slot c = scan_slot c.args.code.now c.args.p c.args.row.now c.scan_of-scan.result c.scan_of-scan.ensures c.args.local.now c.requires.along
+
+pub scan_stage-requires-clause-along : goal.scan_stage-requires-clause-along
+scan_stage-requires-clause-along c =
+    scan_along c.args.code.now c.args.p c.args.row.now c.scan_of-scan.result c.scan_of-scan.ensures c.args.local.now c.requires.along c.region_in-region.result c.region_in-region.ensures.ranked
+
+pub scan_stage-requires-clause-made : goal.scan_stage-requires-clause-made
+scan_stage-requires-clause-made c = scan_under c.args.code.now c.args.p c.args.row.now c.scan_of-scan.result c.scan_of-scan.ensures c.args.local.now c.requires.along
+
+pub returns : goal.returns
+returns c =
+    of_scan c.args.code.now c.args.p c.args.row.now c.scan_of-scan.result c.scan_of-scan.ensures (λ (r : Collective). stage_of r c.args.local.now.local ≡ Some (staged c.scan_stage.result)) c.scan_stage.ensures

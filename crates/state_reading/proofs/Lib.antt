@@ -1,0 +1,5 @@
+mod GridLemmas
+mod KeptLemmas
+mod LocalLemmas
+mod OneState
+mod Steps
