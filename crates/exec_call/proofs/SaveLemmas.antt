@@ -1,6 +1,6 @@
 -- Runs whose grid is saved where all turns were given.
 use Rattle.std.proofs.Common.{◌≡◌, ◌≢◌, ℕ, ◌+◌, ◌*◌, ◌^◌, ◌<◌, ◌≤◌, Bool, true, false, List, length, Option, Some, None, Result, Ok, Err, codes}
-use Rattle.std.specs.Prelude.{IsTrue, MatchOption, Vec, ◌⊎◌}
+use Rattle.std.specs.Prelude.{IfSome, IsTrue, MatchOption, OnOk, Vec, ◌⊎◌}
 use Rattle.std.specs.declared.alloc.Global.{Global}
 use Rattle.std.proofs.Common.{refl, sym, ◌∙◌, ap, subst, inl, inr, arith, zero-add}
 use Rattle.zpl_nums.specs.declared.ends.End.{End}
@@ -161,6 +161,10 @@ few_after law run zero start new left before after ended is few begun adds =
     (ap (λ (s : Simulation). s.grid.sends) begun) (ap (λ (s : Simulation). s.grid.words) begun) adds
     (omega (arith, turns, within, few))
 
+-- what is said of a result that is there
+pub on_ok : {A E P : Type 0} (r : Result A E) (a : A) → r ≡ Ok a → OnOk r P → P
+on_ok {A = A} {E = E} {P = P} r a is holds = subst (λ (s : Result A E). OnOk s P) is holds
+
 -- what was printed isn't in the grid of a run that goes on
 pub can_be_saved : (run : Run) (k : ℕ) (new : Simulation) → new ≡ run_to run k
     → AreCounted new.grid.turns new.grid.sends new.grid.words → IsOnward run.code (saved_at run k)
@@ -319,6 +323,18 @@ module _ (words : List (List ℕ)) (tells other : List ℕ → List ℕ → Type
           saves = saves.1.saves;
         },
       )) is
+
+-- no put failed where a grid is saved
+pub none_failed : (call : Call) (file : List ℕ) (asked : Asked) (telling : Telling)
+    → IsSavedListed call file asked telling → IfSome telling.text (λ text. telling.work.answer ≢ answer.PutFailed)
+none_failed call file asked telling is = by telling.text is
+  where
+    by : (o : Option (Vec ℕ Global))
+        → MatchOption o (asked.save ≡ true → status_of telling.work.answer ≢ TURN_LIMIT)
+        (λ (text : Vec ℕ Global). SavesListed call file asked telling.work text.items)
+        → IfSome o (λ (text : Vec ℕ Global). telling.work.answer ≢ answer.PutFailed)
+    by None other = tt
+    by (Some text) saves = λ put. let no : limited ≡ answer.PutFailed = sym saves.limit ∙ put in cc
 
 -- ---- what was told
 module _ (call : Call) (file : List ℕ) (asked : Asked) (given : IsExec call.words file asked)

@@ -1,5 +1,5 @@
 //! Work, and what is told of it.
-ghost use Rattle.std.specs.Prelude.{◌≡◌, ◌≢◌, MatchOption, None};
+ghost use Rattle.std.specs.Prelude.{◌≡◌, ◌≢◌, IfSome, MatchOption, None};
 ghost use Rattle.zpl_io.specs.Sink.{StopsAtFault};
 ghost use Rattle.call_claims.specs.Answer.{CountsPuts};
 ghost use Rattle.call_claims.specs.Stream.{stream_of};
@@ -24,16 +24,18 @@ pub struct Telling<'a> {
 impl<'a> Telling<'a> {
     /// The answer is told.
     pub fn of(work: Work<'a>) -> Telling<'a>
-        ensures work { result.work ≡ work }
+        ensures work { result.work ≡ work.entry }
         ensures text { result.text ≡ None }
     {
         Telling { work, text: None }
     }
 }
 
-/// Tells of the answer of work, or the text in its place with this status, and answers the call.
+/// Tells of the answer of work, or the text in its place with this status, and answers the call. Such
+/// a text is told only where no put failed.
 pub fn tell<E: Sink>(alloc: Global, telling: Telling<'_>, status: u8, errs: &mut E) -> Ran
-    requires { status ≢ PUT_FAILED }
+    requires other { status ≢ PUT_FAILED }
+    requires fine { IfSome telling.text (λ _. telling.work.answer ≢ Answer.PutFailed) }
     ensures ran { result ≡ ran_of result.status telling.entry.work }
     ensures told { MatchOption telling.entry.text
         (IsAnswerOf telling.entry.work.answer result.status (stream_of (E.tells errs.old)

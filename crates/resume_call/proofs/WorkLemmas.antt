@@ -301,6 +301,16 @@ module _ (call : Call) (file : List ℕ) (asked : Asked) (given : IsResume call.
   refusal_of (unfetched none no_code is nothing) line at = let no : Some line ≡ None = sym at ∙ none in cc
   refusal_of (fetched source does) line at = refusal_in source does line at
 
+  -- no put failed where a refusal is told
+  pub none_failed : IsFileWork call file asked telling before after
+      → IfSome telling.text (λ (l : Vec ℕ Global). telling.work.answer ≢ answer.PutFailed)
+  none_failed is = by telling.text refl
+    where
+      by : (o : Option (Vec ℕ Global)) → telling.text ≡ o
+          → IfSome o (λ (l : Vec ℕ Global). telling.work.answer ≢ answer.PutFailed)
+      by None at = tt
+      by (Some line) at = (refusal_of is line at).fine
+
   -- ---- the code and the counts
   nothing_read : (status : ℕ) → telling.work.code ≡ None → HasNoTurns telling.work before after
       → MatchOption telling.work.code (HasNoCounts (ran_of status telling.work)) (IsReadFor call (ran_of status telling.work))

@@ -6,7 +6,7 @@ use Rattle.call_claims.proofs.MetLemmas.{is_met}
 use Rattle.grid_call.specs.of_call_answers.Work.{execution_in}
 use Rattle.call_words.specs.Reading.{asked_in}
 use Rattle.exec_call.specs.Call.{IsExecuted}
-use Rattle.exec_call.proofs.SaveLemmas.{told_so}
+use Rattle.exec_call.proofs.SaveLemmas.{none_failed, told_so}
 use Rattle.exec_call.proofs.ToldLemmas.{stops_so}
 use Rattle.exec_call.proofs.WorkLemmas.{caused, cut_for, printed_for, read_for}
 use Rattle.resume_claims.proofs.SavingLemmas.{tells_cause, tells_known}
@@ -17,6 +17,14 @@ work_for-work-requires g c = record {
   asked = is_met c.requires.given.1.worded;
   alone = c.requires.given.1.takes.together.alone;
 }
+
+pub tell-requires-clause-fine : goal.tell-requires-clause-fine
+tell-requires-clause-fine g c =
+    let given = c.requires.given in
+    none_failed (call_of given.0 (g.F.Files.tells c.args.files.now)
+    (g.F.Files.may_fail c.args.files.now) (g.F.Files.may_fail_later c.args.files.now))
+    c.args.command.file.now (asked_in c.args.command.asked) c.work_for-work.result
+    (c.work_for-work.ensures.saved given.0)
 
 pub returns-clause-executed : goal.returns-clause-executed
 returns-clause-executed g c = λ words given.

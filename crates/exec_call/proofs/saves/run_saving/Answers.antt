@@ -8,7 +8,7 @@ use Rattle.grid_call.specs.Work.IsCodeWork.{ran}
 use Rattle.grid_call.specs.of_exec_claims.Cause.{run_of}
 use Rattle.grid_call.proofs.of_call_answers.FetchLemmas.{not_fetched}
 use Rattle.grid_call.proofs.WorkLemmas.{run_fetches_none}
-use Rattle.exec_call.proofs.SaveLemmas.{saved_code, turns_few, unrun_other, unsaved_code}
+use Rattle.exec_call.proofs.SaveLemmas.{answer_unrun, saved_code, turns_few, unrun_other, unsaved_code}
 use Rattle.exec_call.proofs.saves.run_saving.Goals as goal
 
 pub save_under-requires-clause-order : goal.save_under-requires-clause-order

@@ -10,11 +10,20 @@ use Rattle.exec_call.specs.of_resume_claims.Decided.{IsExact}
 use Rattle.exec_call.proofs.of_resume_claims.KnownLemmas.{cause_known}
 use Rattle.resume_call.specs.Call.{IsResumed}
 use Rattle.resume_call.proofs.GoneLemmas.{gone_on}
-use Rattle.resume_call.proofs.WorkLemmas.{cut_for, printed_for, read_for, told_so}
+use Rattle.resume_call.proofs.WorkLemmas.{cut_for, none_failed, printed_for, read_for, told_so}
 use Rattle.resume_call.proofs.call.resume.Goals as goal
 
 pub work_for-telling-requires : goal.work_for-telling-requires
 work_for-telling-requires g c = record { asked = is_met c.requires.given.1.worded }
+
+pub tell-requires-clause-fine : goal.tell-requires-clause-fine
+tell-requires-clause-fine g c =
+    let given = c.requires.given in
+    none_failed (call_of given.0 (g.F.Files.tells c.args.files.now)
+    (g.F.Files.may_fail c.args.files.now) (g.F.Files.may_fail_later c.args.files.now))
+    c.args.command.file.now (asked_in c.args.command.asked) given.1 c.work_for-telling.result
+    (g.O.Sink.tells c.args.out.now) (g.O.Sink.tells c.work_for-telling.new.out)
+    (c.work_for-telling.ensures.work given.0)
 
 pub returns-clause-resumed : goal.returns-clause-resumed
 returns-clause-resumed g c = λ words given.
