@@ -22,7 +22,7 @@ pub returns-in-Err-clause-work : goal.returns-in-Err-clause-work
 returns-in-Err-clause-work g c = λ words.
     unread_work _ c.args.text.now (asked_in c.args.asked) c.refusal_of.result c.in-Err.fault
     (g.O.Sink.tells c.args.out.now) (c.in-Err.ensures {u = tt}).err
-    (λ known code grid is. known (c.texts_are_saved_or_faulty.ensures c.args.text.now code grid
+    (λ known code grid is. known (c.texts_are_saved_or_faulty.ensures.saved c.args.text.now code grid
     c.in-Err.fault is (c.in-Err.ensures {u = tt}).err))
     c.refusal_of.ensures.code c.refusal_of.ensures.answer c.refusal_of.ensures.counts
     c.refusal_of.ensures.text
