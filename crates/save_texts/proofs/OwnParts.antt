@@ -64,9 +64,11 @@ untrue b more rest k e =
 opened : (k : Keyword) (fields : List Field) (more : List ℕ) →
     (b : ℕ) × (rest : List ℕ) × ((keyword_text k ++ flat_map (λ field. spaced (field_text field)) fields) ++ 10 ∷ more ≡ keyword_text k ++ b ∷ rest)
 opened k [] more = (10, more, ap (λ text. text ++ 10 ∷ more) (append-nil (keyword_text k)))
-opened k (field ∷ fields) more =
-    (32, (field_text field ++ flat_map (λ f. spaced (field_text f)) fields) ++ 10 ∷ more,
-      append_assoc (keyword_text k) (flat_map (λ f. spaced (field_text f)) (field ∷ fields)) (10 ∷ more))
+opened k (field ∷ fields) more = (
+  32,
+  (field_text field ++ flat_map (λ f. spaced (field_text f)) fields) ++ 10 ∷ more,
+  append_assoc (keyword_text k) (flat_map (λ f. spaced (field_text f)) (field ∷ fields)) (10 ∷ more),
+)
 
 line_begins : (line : Line) (more back : List ℕ) → back ≡ line_text line ++ 10 ∷ more → BeginsState back → ⊥
 line_begins line more back e begins =

@@ -25,12 +25,7 @@ fn send_one(alloc: Global, links: &mut Links, from: u32, sent: Sent) -> Result<(
 }
 
 /// Puts a sender's messages on their links, one after another.
-fn send_all(
-    alloc: Global,
-    links: &mut Links,
-    from: u32,
-    sents: Vec<Sent>,
-) -> Result<(), AllocError>
+fn send_all(alloc: Global, links: &mut Links, from: u32, sents: Vec<Sent>) -> Result<(), AllocError>
     requires from { from < links.old.count }
     requires unbounded { links.old.capacity ≡ None }
     requires receivers { AreTo links.old.count (map sent_pair sents.items) }
