@@ -1,7 +1,8 @@
 //! Reading saved grids.
-ghost use Rattle.std.specs.Prelude.{◌≡◌, ◌+◌, ◌^◌, ◌<◌, ℕ, List, IfErr, IfOk, None};
-ghost use Rattle.std.specs.Prelude.{length};
+ghost use Rattle.std.specs.Prelude.{◌≡◌, ◌+◌, ◌^◌, ◌<◌, ℕ, List, IfErr, IfOk, MatchResult};
+ghost use Rattle.std.specs.Prelude.{None, length};
 ghost use Rattle.node_form.specs.declared.tables.Tables.{Tables as Code};
+ghost use Rattle.grid_meaning.specs.Grid.{Grid};
 ghost use Rattle.listing_lines.specs.declared.lines.Line.{Line as ListedLine};
 ghost use Rattle.listing_lines.specs.Listing.{AreLines as AreListedLines};
 ghost use Rattle.node_text.specs.Listing.{Explains as ExplainsListing, IsListing};
@@ -14,9 +15,10 @@ ghost use Rattle.save_texts.specs.Parts.{IsFaultOf, IsGridOf};
 
 use crate::cuts::{line_count, listing_len};
 use crate::heads::{behind_text, take_counts};
+use crate::laws::texts_are_saved_or_faulty;
 use crate::links::place_states;
 use code_layout::layout_of;
-use grid_save::SaveFault;
+use grid_save::{SaveFault, texts_tell_one_grid};
 use grid_sim::{Counts, Sim};
 use listing_runs::listed_code_has_room;
 use node_form::NodeProgram;
@@ -134,6 +136,12 @@ pub fn read_save(alloc: Global, bytes: &[u8]) -> Result<Sim, SaveFault>
     ensures ok { IfOk result (λ sim. IsSaved bytes.now sim.code sim.grid) }
     ensures links { IfOk result (λ sim. sim.capacity ≡ None) }
     ensures err { IfErr result (Explains bytes.now) }
+    ensures told { (code : Code) (grid : Grid) → IsSaved bytes.now code grid →
+        MatchResult result
+        (λ sim. (sim.code ≡ code) × (sim.grid ≡ grid))
+        (λ fault. fault ≡ SaveFault.NoMemory) }
 {
+    texts_tell_one_grid();
+    texts_are_saved_or_faulty();
     read_text(alloc, bytes)
 }
