@@ -3,8 +3,8 @@ use Rattle.save_texts.proofs.laws.texts_are_saved_or_faulty.Goals as goal
 
 pub returns : goal.returns
 returns c =
-    let listed = c.listings_have_one_reading.ensures in
-    let lines = c.lines_have_one_reading.ensures in
+    let listed = c.bytes_have_one_reading.ensures in
+    let lines = c.bytes_have_one_reading-2.ensures in
     let program = c.bytes_have_one_program.ensures in
     let typed = c.what_is_written_is_read.ensures.typed in
     let grids = c.grids_have_one_reading.ensures in
