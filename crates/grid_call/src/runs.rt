@@ -96,7 +96,7 @@ fn run_sim<'a, O: Sink>(
 }
 
 /// The answer of a run that ended so.
-pub fn answer_of<'a>(ended: Result<End, SimFault>, report: Option<Counts>) -> Answer<'a>
+fn answer_of<'a>(ended: Result<End, SimFault>, report: Option<Counts>) -> Answer<'a>
     requires { ended ≢ Ok More }
     ensures { result ≡ answer_in ended report }
 {
@@ -112,7 +112,7 @@ pub fn answer_of<'a>(ended: Result<End, SimFault>, report: Option<Counts>) -> An
 }
 
 /// The counts, where a report is wanted.
-pub fn report_for(wanted: bool, counts: Counts) -> Option<Counts>
+fn report_for(wanted: bool, counts: Counts) -> Option<Counts>
     ensures { result ≡ counts_for wanted counts }
 {
     if wanted { Some(counts) } else { None }

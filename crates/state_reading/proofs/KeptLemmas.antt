@@ -1,7 +1,7 @@
 -- Lines of words that are kept: those that are told, and their senders.
-use Rattle.std.proofs.Common.{◌≡◌, ℕ, zero, suc, ◌+◌, ◌-◌, ◌*◌, ◌/◌, ◌<◌, ◌≤◌, Bool, true, false, ℤ, pos, List, [], ◌∷◌, ◌++◌, length, map, take, drop, refl, sym, ◌∙◌, ap, subst, arith}
+use Rattle.std.proofs.Common.{◌≡◌, ℕ, zero, suc, ◌+◌, ◌-◌, ◌*◌, ◌/◌, ◌<◌, ◌≤◌, Bool, true, false, ℤ, List, [], ◌∷◌, ◌++◌, length, map, take, refl, sym, ◌∙◌, ap, subst, arith}
 use Rattle.std.specs.Prelude.{Option, Some, None, is_some, ◌==◌, filter, if◌then◌else◌, nat_lt, slice_get}
-use Rattle.std.specs.List.{filter_map, range_with_len}
+use Rattle.std.specs.List.{filter_map}
 use Rattle.std.specs.Option.{option_map}
 use Rattle.std.proofs.Math.Nat.{div-le_self}
 use Rattle.std.proofs.lemmas.Bool.{ltb-true}
@@ -28,7 +28,7 @@ use Rattle.save_lines.specs.declared.lines.SavedLine.{SavedLine}
 use Rattle.save_lines.specs.declared.lines.SavedLine.TheVariants.{Proc, Scalars, Slot, Cells, Store, Kept, Msg}
 use Rattle.save_reading.specs.of_grid_save.Reads.{BeginsAs, BeginsAt, BeginsIn, IsKeptLine, MayBegin, Run, Ends, GoesOn, begins, is_kept, told_kept, with_kept}
 use Rattle.save_reading.specs.of_grid_save.Written.{kept_line}
-use Rattle.save_reading.proofs.of_grid_save.CutLemmas.{Every, every-append}
+use Rattle.save_reading.proofs.of_grid_save.CutLemmas.{Every}
 use Rattle.save_reading.proofs.of_grid_save.OrderLemmas.{ascending_every, every-filter, part_every, range_below, take_every}
 
 -- ---- the words that are told are those that were read

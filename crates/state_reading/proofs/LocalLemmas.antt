@@ -1,6 +1,6 @@
 -- A state that lines tell is one that its processor may have.
-use Rattle.std.proofs.Common.{◌≡◌, ℕ, ◌<◌, ◌≤◌, Bool, true, false, ℤ, List, [], ◌∷◌, length, refl, sym, ◌∙◌, subst, ap}
-use Rattle.std.specs.Prelude.{All, IsSome, Option, Some, None, is_some, slice_get}
+use Rattle.std.proofs.Common.{◌≡◌, ℕ, ◌<◌, Bool, true, false, ℤ, List, [], sym, ◌∙◌, subst, ap}
+use Rattle.std.specs.Prelude.{All, Option, Some, None, is_some, slice_get}
 use Rattle.std.specs.List.{AllZip}
 use Rattle.zpl_nums.specs.declared.ends.End.{End}
 use Rattle.grid_links.specs.declared.messages.Message.{Message}
@@ -10,7 +10,7 @@ use Rattle.node_form.specs.declared.instructions.Instr.{Instr}
 use Rattle.node_form.specs.declared.instructions.Instr.TheVariants as instr
 use Rattle.node_form.specs.declared.tables.Tables.{Tables}
 use Rattle.grid_meaning.specs.Local.{Local, processors}
-use Rattle.grid_meaning.specs.State.{HasParts, IsFresh, IsLocal, IsOutside, IsSlot, IsStore, Stands}
+use Rattle.grid_meaning.specs.State.{HasParts, IsFresh, IsLocal, IsOutside, IsSlot, IsStore}
 use Rattle.save_lines.specs.declared.lines.SavedLine.{SavedLine}
 use Rattle.save_reading.specs.of_grid_save.Reads.{AtKept, AtMessage, BreaksState, Each, Over, More, IsFar, IsKeptLine, IsMessageLine, LacksKept, MayKeep, MayKeepAs, MayStand, MayStandAt, ReadsState, ReadsValues, Run, RunBreaks, TooFar, is_kept, is_message, told_kept, with_kept}
 use Rattle.save_reading.specs.Three.{HasThree}

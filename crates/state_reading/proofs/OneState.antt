@@ -1,18 +1,18 @@
 -- The lines of processors are those of one grid's states at most, and not both of some and of none.
-use Rattle.std.proofs.Common.{◌≡◌, ℕ, ℤ, List, [], ◌∷◌, ◌++◌, refl, sym, ◌∙◌, subst}
+use Rattle.std.proofs.Common.{◌≡◌, ℕ, ℤ, List, [], refl, sym, ◌∙◌, subst}
 use Rattle.std.specs.Prelude.{All, is_some}
 use Rattle.grid_links.specs.declared.messages.Message.{Message}
 use Rattle.node_form.specs.declared.tables.Tables.{Tables}
 use Rattle.grid_meaning.specs.Local.{Local, processor_numbers}
 use Rattle.save_lines.specs.declared.lines.SavedLine.{SavedLine}
-use Rattle.save_reading.specs.of_grid_save.Reads.{BreaksGrid, AtState, Behind, BreaksState, AtValues, TooFar, AtKept, LacksKept, AtMessage, BreaksValues, Each, IsFar, IsKeptLine, IsMessageLine, MayKeep, ReadsGrid, ReadsState, ReadsValues, Run, RunBreaks, State, is_kept, is_message, told_kept, with_kept}
+use Rattle.save_reading.specs.of_grid_save.Reads.{BreaksGrid, AtState, Behind, BreaksState, AtValues, TooFar, AtKept, LacksKept, AtMessage, BreaksValues, IsFar, IsKeptLine, IsMessageLine, MayKeep, ReadsGrid, ReadsState, ReadsValues, Run, RunBreaks, State, is_kept, is_message, told_kept, with_kept}
 use Rattle.save_reading.specs.Three.{HasThree}
 use Rattle.save_reading.proofs.OneReading.{breaks_one, values_not, values_one}
 use Rattle.save_reading.proofs.OneLine.{message_told}
 use Rattle.save_reading.proofs.OneWay.{IsTold, Same, each_left, each_not, each_one, run_left, run_not, run_one}
 use Rattle.state_reading.proofs.KeptLemmas.{kept_same}
 use Rattle.state_reading.proofs.Steps as step
-use Rattle.state_reading.proofs.Steps.{Either, IsFirstTold, IsOneWay, Unless, either_left, unless_left}
+use Rattle.state_reading.proofs.Steps.{Either, IsOneWay, Unless, either_left, unless_left}
 
 -- ---- a line of words that are kept
 kept_told : (code : Tables) (p : ℕ) (local : Local) (done : List (ℕ × List ℤ)) (line : SavedLine) (a b : ℕ × List ℤ) →

@@ -1,5 +1,5 @@
 -- What breaks in one of two steps, and what a fact must hold for.
-use Rattle.std.proofs.Common.{◌≡◌, List, refl, sym, subst}
+use Rattle.std.proofs.Common.{◌≡◌, List, refl, subst}
 use Rattle.save_lines.specs.declared.lines.SavedLine.{SavedLine}
 use Rattle.save_reading.proofs.OneWay.{Same}
 

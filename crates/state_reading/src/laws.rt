@@ -4,7 +4,8 @@
 ghost use Rattle.std.specs.Prelude.{◌≡◌, ℕ, List, All};
 ghost use Rattle.node_form.specs.declared.tables.Tables.{Tables as Code};
 ghost use Rattle.save_lines.specs.declared.lines.SavedLine.{SavedLine as Line};
-ghost use Rattle.save_reading.specs.of_grid_save.Reads.{BreaksGrid, BreaksState, ReadsGrid, ReadsState, State};
+ghost use Rattle.save_reading.specs.of_grid_save.Reads.{BreaksGrid, BreaksState, ReadsGrid};
+ghost use Rattle.save_reading.specs.of_grid_save.Reads.{ReadsState, State};
 ghost use Rattle.save_reading.specs.Three.{HasThree};
 
 /// The state of a processor has one reading: lines begin with those of one state at most, and then

@@ -1,7 +1,7 @@
-use Rattle.std.proofs.Common.{◌≡◌, ◌∙◌, ℕ, ◌+◌, List, [], ◌∷◌, ◌++◌, ap, drop, length, map, sym, subst, rules, arith}
+use Rattle.std.proofs.Common.{◌≡◌, ◌∙◌, ◌+◌, [], ◌∷◌, ◌++◌, ap, drop, length, map, rules, arith}
 use Rattle.std.proofs.lemmas.List.{length-append, map-append}
 use Rattle.grid_meaning.specs.Local.{processor_numbers, processors}
-use Rattle.save_reading.specs.of_grid_save.Reads.{AtState, BreaksGrid, BreaksState, EachBreaks, ReadsState}
+use Rattle.save_reading.specs.of_grid_save.Reads.{AtState, BreaksGrid, BreaksState, ReadsState}
 use Rattle.save_reading.proofs.ReadLemmas.{along_on, along_stop, fault_passed}
 use Rattle.state_reading.specs.Read.{state_in}
 use Rattle.state_reading.proofs.GridLemmas.{grid_broken, grid_read, next_number, ready_more}

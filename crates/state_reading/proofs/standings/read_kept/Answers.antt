@@ -1,8 +1,7 @@
-use Rattle.std.proofs.Common.{◌≡◌, ◌∙◌, ℕ, ◌+◌, ℤ, Bool, true, false, List, length, ap, drop, map, refl, sym, subst, rules, arith, []}
+use Rattle.std.proofs.Common.{◌≡◌, ◌∙◌, ℕ, ℤ, false, List, ap, drop, map, refl, sym, subst, rules, []}
 use Rattle.std.specs.Prelude.{IsTrue, is_some}
 use Rattle.node_local.specs.Standing.{entry_of, standing_local}
 use Rattle.node_local.specs.Workplace.{Workplace}
-use Rattle.save_lines.specs.declared.lines.SavedLine.{SavedLine}
 use Rattle.row_progress.specs.Begun.{stands}
 use Rattle.row_progress.specs.declared.progress.Progress.{Progress}
 use Rattle.save_reading.specs.of_grid_save.Reads.{AtValues, BreaksState, BreaksValues, IsFar, IsKeptLine, MayKeep, Run, RunBreaks, is_kept, told_kept}

@@ -1,4 +1,4 @@
-use Rattle.std.proofs.Common.{◌≡◌, ◌∙◌, ℕ, ℤ, List, ap, drop, map, sym, subst}
+use Rattle.std.proofs.Common.{List, ap, drop, map, subst}
 use Rattle.std.specs.Prelude.{All}
 use Rattle.node_form.specs.declared.tables.Tables.{Tables}
 use Rattle.node_local.specs.Standing.{entry_of, standing_local}

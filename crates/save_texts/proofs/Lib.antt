@@ -1,0 +1,14 @@
+pub mod Back
+pub mod CutFound
+pub mod CutOnce
+pub mod Faults
+pub mod Groups
+pub mod HeadLemmas
+pub mod LinkSteps
+pub mod LinkLemmas
+pub mod OneFault
+pub mod OwnParts
+pub mod ReadLines
+pub mod Restored
+pub mod TableFault
+pub mod Tails
