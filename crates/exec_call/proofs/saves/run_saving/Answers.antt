@@ -27,7 +27,7 @@ save_under-requires-clause-turns g c =
 pub returns-in-Ok-clause-work : goal.returns-in-Ok-clause-work
 returns-in-Ok-clause-work g c = λ words.
     ran _ ((c.in-Ok.ensures {u = tt}).ok words)
-    (subst (λ (report : Bool). IsRunOn (run_of c.args.code (asked_in c.args.asked) _) report
+    (subst (λ (report : Bool). IsRunOn (run_of c.args.code (asked_in c.args.asked) c.in-Ok.order) report
     c.save_under.result.work.answer c.save_under.result.work.counts
     (g.O.Sink.tells c.args.out.now) (g.O.Sink.tells c.save_under.new.out))
     (sym c.requires.report) c.save_under.ensures.ran)

@@ -1,4 +1,4 @@
-use Rattle.std.proofs.Common.{None, refl, sym, ◌∙◌, ap, subst}
+use Rattle.std.proofs.Common.{None, false, refl, sym, ◌∙◌, ap, subst}
 use Rattle.zpl_nums.specs.declared.ends.End.TheVariants.{More}
 use Rattle.call_words.specs.Reading.{asked_in}
 use Rattle.grid_call.specs.Work.{IsRunOn}
@@ -72,7 +72,8 @@ returns-clause-ran g c =
     let is = run_begun c.args.sim (asked_in c.args.asked) c.args.order c.limit.result c.run-ended.new.self
     c.run-ended.new.order _ _ c.run-ended.result c.requires.start c.requires.links c.limit.ensures
     c.run-ended.ensures.run in
-    subst (λ (w : Work). IsRunOn run _ w.answer w.counts _ _) (sym c.of.ensures.work)
+    subst (λ (w : Work). IsRunOn run false w.answer w.counts (g.O.Sink.tells c.args.out.now)
+    (g.O.Sink.tells c.run-ended.new.out)) (sym c.of.ensures.work)
     (run_is_on c.turns_count.ensures run refl _ c.run-ended.new.self c.run-ended.new.order _ _
     c.run-ended.result c.counts-counts.result None _ is c.counts-counts.ensures refl c.answer_of.ensures)
 
