@@ -10,7 +10,7 @@ use Rattle.call_words.specs.of_call_claims.declared.ran.Ran.{Ran}
 use Rattle.call_words.specs.of_call_claims.Call.{Call}
 use Rattle.call_words.specs.of_call_claims.Command.{Asked, IsResume, ResumeTakes}
 use Rattle.call_words.specs.of_call_claims.Execution.{HasNoCounts, execution_of}
-use Rattle.call_words.proofs.of_call_claims.OneLemmas.{of_given}
+use Rattle.call_claims.proofs.OneLemmas.{of_given}
 use Rattle.exec_call.specs.of_exec_claims.Decided.{IsOrderText}
 use Rattle.exec_call.specs.of_resume_claims.of_grid_save.Saved.{IsSaved}
 use Rattle.exec_call.specs.of_resume_claims.Answer.{HasCounts, HasSavedCounts, IsReadFor, IsSavedIn, Runs, TakesPrinted}
@@ -39,7 +39,7 @@ one_order call one named count a b order other is also read again =
 
 -- ---- the run that went on
 module _ (one : IsOneGrid) (call : Call) (ran : Ran) (before after : List ℕ → Type 0) (file : List ℕ) (asked : Asked)
-    (words : IsResume call.words file asked) (tells : TellsOne call) (can : CanResume call file asked) where
+    (asks : IsResume call.words file asked) (tells : TellsOne call) (can : CanResume call file asked) where
   abbrev more : Run
   more = onward_run can.code can.grid asked can.order
 
@@ -79,13 +79,13 @@ module _ (one : IsOneGrid) (call : Call) (ran : Ran) (before after : List ℕ �
     printed_then : TakesPrinted call ran before after (Some can.code)
         → Takes before (grid_at (onward_run can.code can.grid asked can.order) j).printed after
     printed_then (inl none) =
-        let stands = of_given (codes "resume") ResumeTakes call.words file asked words none.0 in
+        let stands = of_given (codes "resume") ResumeTakes call.words file asked asks none.0 in
         let still : j ≡ 0 = no_more stands.grid (same_grid stands.grid stands.saved) stands.counts.turns in
         let printed : can.grid.printed ≡ [] = can.saved.grid_is.printed in
         subst (λ n. Takes before (grid_at (onward_run can.code can.grid asked can.order) n).printed after)
         (sym still) (subst (λ t. Takes before t after) (sym printed) none.1)
     printed_then (inr some) =
-        let goes = of_given (codes "resume") ResumeTakes call.words file asked words some in
+        let goes = of_given (codes "resume") ResumeTakes call.words file asked asks some in
         of_runs (λ it n. Takes before (grid_at it n).printed after) goes.grid
         (same_grid goes.grid goes.saved) goes.runs
 
@@ -110,7 +110,7 @@ module _ (one : IsOneGrid) (call : Call) (ran : Ran) (before after : List ℕ �
 
     counts_then : IsReadFor call ran can.code → AreCounts
     counts_then read =
-        let of = of_given (codes "resume") ResumeTakes call.words file asked words read in
+        let of = of_given (codes "resume") ResumeTakes call.words file asked asks read in
         counts_by of.grid (same_grid of.grid of.saved) of.counts
 
   pub gone_on : (told : List ℕ) → HasResumed can (execution_of ran) ran.status told

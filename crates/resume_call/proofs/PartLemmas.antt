@@ -14,7 +14,7 @@ use Rattle.call_words.specs.of_call_claims.Command.{Asked, ExecTakes, IsExec, Re
 use Rattle.call_words.specs.of_call_claims.Execution.{HasNoCounts, execution_of}
 use Rattle.call_words.specs.of_call_claims.Stream.{Stream}
 use Rattle.call_words.specs.of_call_claims.declared.status.TheConstants.{TURN_LIMIT}
-use Rattle.call_words.proofs.of_call_claims.OneLemmas.{of_given}
+use Rattle.call_claims.proofs.OneLemmas.{of_given}
 use Rattle.exec_call.specs.of_exec_claims.Answer.{TakesPrinted as TakesRun}
 use Rattle.exec_call.specs.of_exec_claims.Cause.{RunCause, run_of}
 use Rattle.exec_call.specs.of_exec_claims.Decided.{IsOrderText}

@@ -243,12 +243,6 @@ unfetched_cause call file asked ex answer.PutFailed is none d = elim is [ ]
 
 module _ (call : Call) (file : List ℕ) (asked : Asked) (given : IsResume call.words file asked)
     (telling : Telling) (before after : List ℕ → Type 0) where
-  abbrev did : Work
-  did = telling.work
-
-  abbrev ex : Execution
-  ex = execution_in telling.work
-
   no_run : telling.work.code ≡ None → HasNoTurns telling.work before after → HasNoRun (execution_in telling.work)
   no_run none nothing =
       record { no_code = none; no_turns = ap (λ counts. counts.turns) nothing.counts }
@@ -521,7 +515,7 @@ saved_counts text code grid is = record {
 }
 
 -- ---- the text of the file
-pub saved_source : (call : Call) (file text : List ℕ) → IsWholeText (call.tells file) MOST_SAVED text
+abbrev pub saved_source : (call : Call) (file text : List ℕ) → IsWholeText (call.tells file) MOST_SAVED text
     → Source call file
 saved_source call file text is = record { text = text; told = is.told; short = is.short }
 

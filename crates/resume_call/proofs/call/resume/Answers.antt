@@ -1,7 +1,7 @@
 use Rattle.std.proofs.Common.{◌≡◌, ◌≢◌, inl, inr, sym, subst, arith}
 use Rattle.call_words.specs.of_call_claims.Call.{call_of}
 use Rattle.call_words.specs.of_call_claims.Stream.{stream_of}
-use Rattle.call_words.proofs.of_call_claims.MetLemmas.{is_met}
+use Rattle.call_claims.proofs.MetLemmas.{is_met}
 use Rattle.call_words.specs.Reading.{asked_in}
 use Rattle.exec_call.specs.of_call_answers.Work.{execution_in, ran_of}
 use Rattle.exec_call.proofs.ToldLemmas.{stops_so}
