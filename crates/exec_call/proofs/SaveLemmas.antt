@@ -1,14 +1,13 @@
 -- Runs whose grid is saved where all turns were given.
-use Rattle.std.proofs.Common.{◌≡◌, ◌≢◌, ℕ, ◌+◌, ◌*◌, ◌^◌, ◌<◌, ◌≤◌, Bool, true, false, List, length, Option, Some, None, Result, Ok, Err, codes}
-use Rattle.std.specs.Prelude.{IfSome, IsTrue, MatchOption, OnOk, Vec, ◌⊎◌}
+use Rattle.std.proofs.Common.{◌≡◌, ◌≢◌, ℕ, ◌+◌, ◌*◌, ◌<◌, ◌≤◌, true, false, List, length, Option, Some, None, Result, Ok, Err, codes}
+use Rattle.std.specs.Prelude.{IfSome, IsTrue, MatchOption, OnOk, Vec}
 use Rattle.std.specs.declared.alloc.Global.{Global}
-use Rattle.std.proofs.Common.{refl, sym, ◌∙◌, ap, subst, inl, inr, arith, zero-add}
+use Rattle.std.proofs.Common.{refl, sym, ◌∙◌, ap, subst, arith, zero-add}
 use Rattle.zpl_nums.specs.declared.ends.End.{End}
 use Rattle.zpl_nums.specs.declared.ends.End.TheVariants as ending
 use Rattle.node_form.specs.declared.tables.Tables.{Tables}
-use Rattle.grid_meaning.specs.Grid.{Grid, processors, start_grid}
-use Rattle.grid_order.specs.Reading.{reading}
-use Rattle.grid_runs.specs.Run.{Run, GoesOnTo, IsLimitedAt, grid_at, turns_in}
+use Rattle.grid_meaning.specs.Grid.{Grid, processors}
+use Rattle.grid_runs.specs.Run.{Run, GoesOnTo, IsLimitedAt, turns_in}
 use Rattle.node_text.specs.Listing.{IsListing}
 use Rattle.resume_claims.specs.of_grid_save.Onward.{CanBeSaved, IsOnward}
 use Rattle.resume_claims.specs.of_grid_save.Saved.{IsSaveable, IsSaved}
@@ -18,8 +17,7 @@ use Rattle.call_claims.specs.Call.{Call, call_of}
 use Rattle.call_claims.specs.Command.{Asked, ExecTakes, IsExec, SavesAlone, limit_of}
 use Rattle.call_claims.specs.Decided.{IsDecided}
 use Rattle.call_claims.specs.Stream.{Stream}
-use Rattle.call_claims.specs.Texts.{no_memory_text}
-use Rattle.call_claims.specs.declared.status.TheConstants.{NO_MEMORY, PUT_FAILED, TURN_LIMIT}
+use Rattle.call_claims.specs.declared.status.TheConstants.{TURN_LIMIT}
 use Rattle.call_claims.proofs.OneLemmas.{of_given}
 use Rattle.grid_call.specs.Ended.{answer_in}
 use Rattle.grid_call.specs.Work.{IsOrderOf, IsRunOn}
@@ -35,7 +33,6 @@ use Rattle.grid_call.specs.of_exec_claims.Cause.{Cause, PassesCheck, run_of}
 use Rattle.grid_call.specs.of_exec_claims.Cause.Cause.{no_memory}
 use Rattle.grid_call.specs.of_call_answers.declared.answers.Answer.{Answer}
 use Rattle.grid_call.specs.of_call_answers.declared.answers.Answer.TheVariants as answer
-use Rattle.grid_call.specs.of_call_answers.declared.answers.Stop.TheVariants as stop
 use Rattle.grid_call.specs.of_grid_sim.Counting.{AddTurns, AreCounted}
 use Rattle.grid_call.specs.of_grid_sim.Run.{EndsRun, IsRun, run_in, run_to}
 use Rattle.grid_call.specs.of_grid_sim.Simulation.{Simulation, counts_of, start_simulation}

@@ -27,7 +27,7 @@ use Rattle.call_claims.specs.declared.status.TheConstants.{PUT_FAILED, TURN_LIMI
 use Rattle.grid_runs.specs.Run.{Run, GoesOnTo}
 use Rattle.resume_claims.specs.Saving.{IsSavedAt, SavesRun}
 use Rattle.grid_call.specs.of_exec_claims.Answer.{IsListedIn}
-use Rattle.grid_call.specs.of_exec_claims.Cause.{CheckFails, ListedCause, PassesCheck, run_of}
+use Rattle.grid_call.specs.of_exec_claims.Cause.{ListedCause, PassesCheck, run_of}
 use Rattle.grid_call.specs.of_call_answers.Answers.{status_of, told_of}
 use Rattle.grid_call.specs.Work.{HasNoTurns, IsCodeWork, IsOrderOf}
 use Rattle.grid_call.specs.of_call_answers.Work.{execution_in}

@@ -1,8 +1,7 @@
 -- A call that has all that it needs has gone on from the saved grid: its counts, and what it put.
 use Rattle.std.proofs.Common.{◌≡◌, ◌⊎◌, ℕ, ◌+◌, List, [], Option, Some, None, Ok, MatchOption, codes, inl, inr}
-use Rattle.std.proofs.Common.{refl, sym, ◌∙◌, ap, subst, arith}
+use Rattle.std.proofs.Common.{sym, ◌∙◌, ap, subst, arith}
 use Rattle.zpl_io.specs.Sink.{Takes}
-use Rattle.node_form.specs.declared.tables.Tables.{Tables}
 use Rattle.grid_meaning.specs.Grid.{Grid, processors}
 use Rattle.grid_order.specs.Reading.{reading}
 use Rattle.grid_runs.specs.Run.{Run, grid_at}

@@ -1,6 +1,6 @@
 -- A run in two parts is one run.
-use Rattle.std.proofs.Common.{◌≡◌, ◌≢◌, ◌⊎◌, ℕ, ◌+◌, Bool, true, List, [], ◌++◌, Option, Some, None, Ok, MatchOption, codes, inl, inr}
-use Rattle.std.proofs.Common.{refl, sym, ◌∙◌, ap, subst, arith, zero-add}
+use Rattle.std.proofs.Common.{◌≡◌, ◌≢◌, ℕ, ◌+◌, true, List, Option, Some, None, Ok, codes, inl, inr}
+use Rattle.std.proofs.Common.{refl, sym, ◌∙◌, ap, subst, arith}
 use Rattle.zpl_io.specs.Sink.{Takes}
 use Rattle.node_form.specs.declared.tables.Tables.{Tables}
 use Rattle.grid_meaning.specs.Grid.{Grid, processors}
@@ -10,21 +10,20 @@ use Rattle.grid_runs.proofs.TurnLemmas.{turns_at}
 use Rattle.exec_call.specs.of_resume_claims.of_grid_save.Saved.{IsSaved}
 use Rattle.call_words.specs.of_call_claims.declared.ran.Ran.{Ran}
 use Rattle.call_words.specs.of_call_claims.Call.{Call}
-use Rattle.call_words.specs.of_call_claims.Command.{Asked, ExecTakes, IsExec, ResumeTakes, limit_of}
-use Rattle.call_words.specs.of_call_claims.Execution.{HasNoCounts, execution_of}
+use Rattle.call_words.specs.of_call_claims.Command.{Asked, ExecTakes, limit_of}
+use Rattle.call_words.specs.of_call_claims.Execution.{execution_of}
 use Rattle.call_words.specs.of_call_claims.Stream.{Stream}
 use Rattle.call_words.specs.of_call_claims.declared.status.TheConstants.{TURN_LIMIT}
 use Rattle.call_claims.proofs.OneLemmas.{of_given}
 use Rattle.exec_call.specs.of_exec_claims.Answer.{TakesPrinted as TakesRun}
 use Rattle.exec_call.specs.of_exec_claims.Cause.{RunCause, run_of}
 use Rattle.exec_call.specs.of_exec_claims.Decided.{IsOrderText}
-use Rattle.exec_call.specs.of_resume_claims.Cause.{Onward, OnwardCause, Source, onward_run}
-use Rattle.exec_call.specs.of_resume_claims.Onward.{GoesOnFrom, in_front, joined}
+use Rattle.exec_call.specs.of_resume_claims.Cause.{onward_run}
+use Rattle.exec_call.specs.of_resume_claims.Onward.{GoesOnFrom, joined}
 use Rattle.exec_call.specs.of_resume_claims.Saving.{SavesRun, Tells, saved_at}
 use Rattle.exec_call.specs.of_resume_claims.Saving.Tells.{told, saved}
-use Rattle.exec_call.specs.of_resume_claims.Whole.{CanResume, HasResumed}
+use Rattle.exec_call.specs.of_resume_claims.Whole.{CanResume}
 use Rattle.exec_call.proofs.of_resume_claims.JoinedLemmas.{ends_as_one, joined_to}
-use Rattle.exec_call.proofs.of_resume_claims.OnwardLemmas.{IsOneGrid}
 use Rattle.resume_call.proofs.GoneLemmas.{one_order}
 use Rattle.resume_call.specs.Parts.{AreOneRun, AsksSaved, GoesOnWith, IsFirstPart, IsOneRun, whole_run}
 

@@ -1,11 +1,10 @@
 -- From what was fetched and read to the cause of the answer, and to what out took.
-use Rattle.std.proofs.Common.{◌≡◌, ◌≢◌, ℕ, ◌+◌, ◌*◌, ◌<◌, ◌≤◌, ◌⊎◌, Bool, List, [], length, Option, Some, None, Ok, codes, MatchOption}
+use Rattle.std.proofs.Common.{◌≡◌, ◌≢◌, ℕ, ◌+◌, ◌*◌, ◌<◌, ◌≤◌, Bool, List, [], length, Option, Some, None, Ok, MatchOption}
 use Rattle.std.proofs.Common.{refl, sym, ◌∙◌, ap, subst, inl, inr, arith}
 use Rattle.std.specs.Prelude.{Vec}
 use Rattle.std.specs.declared.alloc.Global.{Global}
 use Rattle.std.proofs.Common.{append-nil, get_or}
 use Rattle.std.specs.Prelude.{All, IfSome}
-use Rattle.zpl_io.specs.Faults.{Rose}
 use Rattle.zpl_io.specs.Sink.{Takes}
 use Rattle.zpl_nums.specs.declared.ends.End.{End}
 use Rattle.zpl_nums.specs.declared.ends.End.TheVariants.{More}
@@ -20,14 +19,13 @@ use Rattle.exec_call.specs.of_resume_claims.of_grid_save.Saved.{IsSaved}
 use Rattle.exec_call.specs.of_resume_claims.of_grid_save.Fault.{Explains}
 use Rattle.exec_call.specs.of_resume_claims.of_grid_save.declared.faults.SaveFault.{SaveFault}
 use Rattle.exec_call.specs.of_resume_claims.of_grid_save.declared.faults.SaveFault.TheVariants as wanting
-use Rattle.call_words.specs.of_call_claims.Answer.{IsAnswered, IsHalfAnswered}
 use Rattle.call_words.specs.of_call_claims.Call.{Call, call_of}
 use Rattle.call_words.specs.of_call_claims.Command.{Asked, IsResume}
 use Rattle.call_words.specs.of_call_claims.Decided.{IsDecided}
 use Rattle.call_words.specs.of_call_claims.Execution.{Execution, HasNoCounts, HasNoRun}
 use Rattle.call_words.specs.of_call_claims.Stream.{Stream}
-use Rattle.call_words.specs.of_call_claims.Texts.{no_memory_text, too_long_text, unreadable_text}
-use Rattle.call_words.specs.of_call_claims.declared.status.TheConstants.{DONE, NO_MEMORY, PUT_FAILED, TOO_LONG, TRAPPED, TURN_LIMIT, UNREADABLE}
+use Rattle.call_words.specs.of_call_claims.Texts.{too_long_text, unreadable_text}
+use Rattle.call_words.specs.of_call_claims.declared.status.TheConstants.{DONE, TOO_LONG, TRAPPED, TURN_LIMIT, UNREADABLE}
 use Rattle.exec_call.specs.Work.{IsTextTold}
 use Rattle.exec_call.specs.declared.telling.Telling.{Telling}
 use Rattle.exec_call.specs.of_call_answers.Answers.{IsUnrun, status_of, told_of}
@@ -40,7 +38,7 @@ use Rattle.exec_call.specs.of_call_answers.declared.answers.Answer.TheVariants a
 use Rattle.exec_call.specs.of_call_answers.declared.refusals.BuildFault.{BuildFault}
 use Rattle.exec_call.specs.of_call_answers.declared.refusals.BuildFault.TheVariants as build
 use Rattle.exec_call.specs.of_call_answers.declared.work.Work.{Work}
-use Rattle.exec_call.specs.of_exec_claims.Cause.{OrderFileCause, RunCause, TextCause}
+use Rattle.exec_call.specs.of_exec_claims.Cause.{OrderFileCause, RunCause}
 use Rattle.exec_call.specs.of_exec_claims.Cause.OrderCause.{bad_item as wrong_item, ran as run_under}
 use Rattle.exec_call.specs.of_exec_claims.Cause.TextCause.{too_long as long_text, unreadable as no_text, work as of_text}
 use Rattle.exec_call.specs.of_exec_claims.declared.status.TheConstants.{SAVE_REFUSED, STUCK}
@@ -50,16 +48,15 @@ use Rattle.exec_call.specs.of_grid_sim.Simulation.{counts_of}
 use Rattle.exec_call.specs.of_grid_sim.declared.counts.Counts.{Counts}
 use Rattle.exec_call.proofs.ToldLemmas.{IsToldSo, answer_told, text_told}
 use Rattle.exec_call.proofs.of_grid_call.WorkLemmas.{AreFew, none_counted, order_back, source_back, text_few}
-use Rattle.exec_call.specs.of_resume_claims.Answer.{GoesOn, HasSavedCounts, IsReadFor, TakesPrinted}
-use Rattle.exec_call.specs.of_resume_claims.Cause.{Cause, GridCause, GridFileCause, IsRefused, IsTooLong, Onward, ResumeCause, SavesNone, Source}
-use Rattle.exec_call.specs.of_resume_claims.Cause.{onward_run}
+use Rattle.exec_call.specs.of_resume_claims.Answer.{HasSavedCounts, IsReadFor, TakesPrinted}
+use Rattle.exec_call.specs.of_resume_claims.Cause.{Cause, GridCause, GridFileCause, ResumeCause, SavesNone, Source}
 use Rattle.exec_call.specs.of_resume_claims.Cause.GridCause.{bad_item, ran as went}
 use Rattle.exec_call.specs.of_resume_claims.Cause.SavedCause.{refused as no_save, saved as of_save}
 use Rattle.exec_call.specs.of_resume_claims.Cause.ResumeCause.{unreadable, too_long, work}
 use Rattle.exec_call.specs.of_resume_claims.Cause.Cause.{no_memory, resume}
 use Rattle.exec_call.specs.of_resume_claims.Texts.{fault_text}
 use Rattle.exec_call.specs.of_resume_claims.declared.limits.TheConstants.{MOST_SAVED}
-use Rattle.resume_call.specs.Call.{IsCutIn, IsResumed}
+use Rattle.resume_call.specs.Call.{IsCutIn}
 use Rattle.resume_call.specs.Work.{HasNone, IsFileWork, IsGridWork, IsOnwardOn, IsTextWork, StandsStill}
 use Rattle.resume_call.specs.Work.IsGridWork.{unordered, ran}
 use Rattle.resume_call.specs.Work.IsTextWork.{unread, refused, resumed}

@@ -4,7 +4,6 @@ use Rattle.call_words.specs.Reading.{asked_in}
 use Rattle.grid_call.specs.Work.{IsRunOn}
 use Rattle.grid_call.specs.of_call_answers.Answers.{status_of}
 use Rattle.grid_call.specs.of_call_answers.declared.work.Work.{Work}
-use Rattle.call_claims.specs.declared.status.TheConstants.{TURN_LIMIT}
 use Rattle.grid_call.specs.of_exec_claims.Cause.{run_of}
 use Rattle.grid_call.specs.of_grid_sim.Run.{EndsRun}
 use Rattle.grid_call.specs.of_grid_sim.Simulation.{Simulation}
