@@ -13,8 +13,8 @@ use grid_order::orders_have_their_bounds;
 use run_claims::list_claims::texts_have_one_program;
 use zpl_meaning::endings_stay;
 
-/// A status that has its cause comes just where its own cause is, where it is neither 9 nor 10. That
-/// a processor is stuck, or that none can move, never comes.
+/// A status that has its cause comes just where its own cause is, where it is neither 9 nor 10.
+/// That a processor is stuck, or that none can move, never comes.
 pub fn gen_statuses_are_exact()
     ensures { (words : List (List ℕ)) (ran : Execution) (n : ℕ) (told : List ℕ) →
         Cause words ran n told → IsExact words ran n }

@@ -1,5 +1,6 @@
 //! Walks along all rows, until goals know no less any more.
-ghost use Rattle.std.specs.Prelude.{◌≡◌, ◌∷◌, [], ◌+◌, ◌<◌, ◌≤◌, IfOk, OnOk, Option, false, true, length};
+ghost use Rattle.std.specs.Prelude.{◌≡◌, ◌∷◌, [], ◌+◌, ◌<◌, ◌≤◌, IfOk, OnOk, Option, false, true};
+ghost use Rattle.std.specs.Prelude.{length};
 ghost use Rattle.node_form.specs.Fits.{Fits, FitsInstr};
 ghost use Rattle.node_check.specs.Walk.{
   falls,

@@ -1,5 +1,6 @@
 //! Where a processor stands.
-ghost use Rattle.std.specs.Prelude.{◌≡◌, ◌≤◌, ◌<◌, ◌^◌, ◌↔◌, ℕ, Option, IfSome, IsTrue, Some, length};
+ghost use Rattle.std.specs.Prelude.{◌≡◌, ◌≤◌, ◌<◌, ◌^◌, ◌↔◌, ℕ, Option, IfSome, IsTrue, Some};
+ghost use Rattle.std.specs.Prelude.{length};
 ghost use Rattle.std.specs.Prelude.{is_some, pos, slice_get};
 ghost use Rattle.std.specs.List.{Any};
 ghost use Rattle.std.specs.Option.{IsSomeAnd, option_map};

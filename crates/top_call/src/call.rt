@@ -28,8 +28,8 @@ use std::alloc::Global;
 use zpl_io::{Files, Sink};
 
 /// Does what the words ask for: what the program prints, its listing, the time of its run, that its
-/// code is sound, or the lines of runs of a drawn program go to `out`, and what is told of the answer
-/// to `errs`.
+/// code is sound, or the lines of runs of a drawn program go to `out`, and what is told of the
+/// answer to `errs`.
 ///
 /// The status has its cause. After a failed put nothing more is put on either sink.
 pub fn zplgrid<F: Files, O: Sink, E: Sink>(
@@ -66,8 +66,8 @@ pub fn zplgrid<F: Files, O: Sink, E: Sink>(
         (stream_of (E.tells errs.old) (E.tells errs.new) (E.faults errs.old) (E.faults errs.new)
         (errs.new ≡ errs.old)) }
 
-    // `exec` with the word `checked`: it never tells that the run is stuck, or that no processor can
-    // move.
+    // `exec` with the word `checked`: it never tells that the run is stuck, or that no processor
+    // can move.
     ensures checked { AsksChecked (map string_bytes words.now) → result.status ≢ STUCK }
 
     // `mean`: that the program's meaning is printed, and why the status is what it is.

@@ -26,7 +26,8 @@ pub enum Event {
     Stuck(StuckKind),
 }
 
-/// What a move came to, in which so many words were sent, or so many had the message that was taken.
+/// What a move came to, in which so many words were sent, or so many had the message that was
+/// taken.
 fn moved(told: Told, sent: u128, taken: u64) -> Event
     ensures { result ≡ moved_in told.sent told.took sent taken }
 {
