@@ -4,6 +4,7 @@
 --   Run            what is run, and how
 --   grid_at        the grid after so many turns
 --   Stops          there the run goes no further: all have ended, or none can move
+--   GoesOnTo       it has come so far: before none of these turns did it stop, and none was stuck
 --   HasNext        the run has not stopped, and there are turns left
 --   IsStuckAt, IsIdleAt, IsLimitedAt   how it ends where it isn't over
 --   IsCutOff       what a sink took that fails in the next turn
@@ -42,19 +43,24 @@ IsStopped code capacity grid = IsOver grid ⊎ IsIdle code capacity grid
 abbrev pub Stops : Run → ℕ → Type 0
 Stops run k = IsStopped run.code run.capacity (grid_at run k)
 
--- at no turn before the k-th does it stop
+-- whose turn is next
+abbrev pub next_processor : Run → ℕ → ℕ
+next_processor run k = turn_number run.order (processors run.code) k
+
+-- the next turn is stuck
+abbrev pub IsStuckNext : Run → ℕ → Type 0
+IsStuckNext run k = (kind : StuckKind)
+    × (next_turn run.code run.capacity (grid_at run k) (next_processor run k) ≡ Stuck kind)
+
+-- before none of the first k turns does it stop, and none of them is stuck
 abbrev pub GoesOnTo : Run → ℕ → Type 0
-GoesOnTo run k = (j : ℕ) → j < k → ¬ Stops run j
+GoesOnTo run k = (j : ℕ) → j < k → ¬ Stops run j × ¬ IsStuckNext run j
 
 -- ---- how a run ends
 -- after k turns the run has not stopped, and there are turns left
 pub record HasNext (run : Run) (k : ℕ) : Type 0 where
   pub goes_on : ¬ Stops run k
   pub left : k < turns_in run
-
--- whose turn is next
-abbrev pub next_processor : Run → ℕ → ℕ
-next_processor run k = turn_number run.order (processors run.code) k
 
 -- the next turn is this processor's, and stuck so
 pub record IsStuckAt (run : Run) (k p : ℕ) (kind : StuckKind) : Type 0 where

@@ -13,14 +13,16 @@ use Rattle.grid_meaning.specs.Action.{StuckKind as Kind}
 use Rattle.grid_meaning.specs.Grid.{EndsAs, Grid, given_turn, next_turn, printed_by, shown_in}
 use Rattle.grid_meaning.specs.Local.{processors}
 use Rattle.grid_meaning.specs.Order.{IsOrder, turn_number}
+use Rattle.grid_meaning.specs.Turn.{Turn}
 use Rattle.grid_sim.specs.declared.faults.SimFault.{SimFault}
 use Rattle.grid_sim.specs.declared.faults.SimFault.TheVariants as fault
 use Rattle.grid_sim.specs.declared.runs.Rounds.{Rounds}
-use Rattle.grid_runs.specs.Run.{GoesOnTo, HasNext, IsIdleAt, IsLimitedAt, IsStopped, IsStuckAt, Run, Stops, grid_at, next_processor, turns_in}
+use Rattle.grid_sim.specs.declared.turns.Turned.{Turned}
+use Rattle.grid_runs.specs.Run.{GoesOnTo, HasNext, IsIdleAt, IsLimitedAt, IsStopped, IsStuckAt, IsStuckNext, Run, Stops, grid_at, next_processor, turns_in}
 use Rattle.grid_runs.specs.Run as runs
 use Rattle.grid_runs.proofs.TurnLemmas.{after_more, turns_at}
 use Rattle.grid_sim.specs.Run.{IsRun, IsStuckOrIdle, prints_after, run_in, run_to, stuck_taken}
-use Rattle.grid_sim.specs.Simulation.{IsCutOff, IsGiven, IsNotGiven, IsStuckAs, Simulation, printed_next, turn_given, turn_in, unprinted}
+use Rattle.grid_sim.specs.Simulation.{IsCutOff, IsGiven, IsNotGiven, IsStuckAs, Simulation, printed_next, turn_given, turn_in, turned_by, unprinted}
 use Rattle.grid_sim.specs.Stop.{IsAtEnd, IsIdleStop, IsPlace, IsStop, IsTurnAt}
 
 -- ---- whose turn is next
@@ -57,7 +59,7 @@ given_none sim all limit rounds tells silent left next some = record {
     next = next ∙ sym (ap (λ n. n % rounds.count) none ∙ mod_small some);
     below = subst (λ n. n < rounds.count) (sym next) some;
   };
-  goes_on = λ j less stops. absurd (omega arith);
+  goes_on = λ j less. absurd (omega arith);
   grid = ap (λ printed. record sim { grid = record sim.grid { printed = printed } }) silent;
   takes = λ taken told. subst tells (sym (ap (λ printed. taken ++ printed) silent ∙ append-nil taken)) told;
 }
@@ -77,13 +79,18 @@ unprinted_stops : (code : Tables) (capacity : Option ℕ) (g : Grid) → IsStopp
 unprinted_stops code capacity g (inl over) = inl over
 unprinted_stops code capacity g (inr idle) = inr (record { not_over = idle.not_over; resting = idle.resting })
 
+-- a turn that is told isn't stuck
+given_stuck : (turn : Turn) (told : Turned) → turned_by turn ≡ Some told → (kind : Kind) → turn ≡ Stuck kind → ⊥
+given_stuck turn told told_as kind is = (let none : None ≡ Some told = ap turned_by (sym is) ∙ told_as in cc)
+
 -- a turn more was given
 pub given_more : (run : Run) (new next : Simulation) (order left : List ℕ) (rounds rest : Rounds)
     (before between after : List ℕ → Type 0) (p : ℕ) (so : HasGiven run new order rounds before between)
     → rounds.count ≡ processors run.code → rest.count ≡ rounds.count
     → (IsStopped new.code new.capacity new.grid → ⊥) → IsTurnAt run.order run.limit so.turns left rest p
-    → IsGiven new next p between after → HasGiven run next left rest before after
-given_more run new next order left rounds rest before between after p so count kept goes_on turn made =
+    → IsGiven new next p between after → (told : Turned) → turned_by (turn_in new p) ≡ Some told
+    → HasGiven run next left rest before after
+given_more run new next order left rounds rest before between after p so count kept goes_on turn made told told_as =
     let k : ℕ = so.turns in
     let p_is : p ≡ next_processor run k = turn.number ∙ ap (λ n. turn_number run.order n k) (kept ∙ count) in
     let step : grid_at run (k + 1) ≡ given_turn run.code run.capacity (grid_at run k) p =
@@ -91,7 +98,12 @@ given_more run new next order left rounds rest before between after p so count k
     record {
       turns = k + 1;
       place = turn.place;
-      goes_on = below_more (λ j. Stops run j → ⊥) k so.goes_on (λ stops. goes_on (stops_at k so.grid stops));
+      goes_on = below_more (λ j. (Stops run j → ⊥) × (IsStuckNext run j → ⊥)) k so.goes_on (
+        (λ stops. goes_on (stops_at k so.grid stops)),
+        (λ stuck. given_stuck (turn_in new p) told told_as stuck.0
+            (ap (λ sim. turn_in sim p) so.grid
+            ∙ (ap (next_turn run.code run.capacity (grid_at run k)) p_is ∙ stuck.1))),
+      );
       grid = made.grid
           ∙ (ap (λ sim. turn_given sim p) so.grid
           ∙ ap (λ g. simulation_at run (unprinted g)) (sym step));

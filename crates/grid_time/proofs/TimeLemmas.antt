@@ -173,7 +173,7 @@ module _ (run : Run) (starts : run.start ≡ start_grid run.code)
   abbrev given_it : HasGiven run next left rest Unseen Unseen
   given_it =
       given_more run new next order left rounds rest Unseen Unseen Unseen p at.so at.count kept goes_on
-      turn (record { grid = made.grid; takes = λ taken no. no })
+      turn (record { grid = made.grid; takes = λ taken no. no }) told.turned is.turned
 
   turns_is : k + 1 ≡ given_it.turns
   turns_is =

@@ -5,7 +5,7 @@ use Rattle.run_claims.specs.Decided.{IsLast}
 
 no_later : (run : Run) (k j : ℕ) → GoesOnTo run j → j ≤ turns_in run → IsLast run k → k < j → ⊥
 no_later run k j goes within last less = elim last
-    [ inl stops ↦ goes k less stops | inr all ↦ omega (arith, within, all) ]
+    [ inl stops ↦ (goes k less).0 stops | inr all ↦ omega (arith, within, all) ]
 
 pub run_is_one : (run : Run) (k j : ℕ) → GoesOnTo run k → GoesOnTo run j → k ≤ turns_in run
     → j ≤ turns_in run → IsLast run k → IsLast run j → k ≡ j

@@ -8,7 +8,7 @@ use Rattle.grid_meaning.specs.Order.{turn_number}
 use Rattle.grid_runs.specs.Run.{IsStopped, IsStuckAt, Run, grid_at, next_processor}
 use Rattle.grid_runs.proofs.TurnLemmas.{turns_at}
 use Rattle.exec_call.specs.of_grid_sim.Run.{IsRun, IsStuckOrIdle, run_in, run_to}
-use Rattle.exec_call.specs.of_grid_sim.Simulation.{IsStuckTurn, Simulation, turn_given, turn_in}
+use Rattle.exec_call.specs.of_grid_sim.Simulation.{IsStuckTurn, Simulation, turn_in}
 use Rattle.exec_call.specs.of_grid_sim.Stop.{IsAtEnd, IsStop, IsTurnAt}
 use Rattle.exec_call.specs.of_grid_sim.StuckKind.{StuckKind as Kind}
 use Rattle.exec_call.specs.of_grid_sim.StuckKind.TheVariants as kind
@@ -18,7 +18,7 @@ use Rattle.exec_call.specs.of_grid_sim.declared.faults.SimFault.TheVariants as f
 use Rattle.exec_call.specs.of_grid_sim.declared.runs.Rounds.{Rounds}
 use Rattle.exec_call.proofs.of_grid_sim.RunLemmas.{HasGiven, given_more, given_none, run_limited, run_refused, run_stopped}
 use Rattle.trace_call.specs.Line.{line_of}
-use Rattle.trace_call.specs.Telling.{HasFlushed, IsBuffered, IsLined, IsPutLast}
+use Rattle.trace_call.specs.Telling.{HasFlushed, IsBuffered, IsLined, IsPutLast, WasGiven}
 use Rattle.trace_call.specs.Telling.IsPutLast.{cut, whole}
 use Rattle.trace_call.specs.Trace.{EndsBy, IsTrace, IsTracedRun, TakesBy, TakesTrace, next_line, trace_of}
 use Rattle.trace_call.specs.Trace.IsTrace.{given, stuck}
@@ -244,18 +244,18 @@ module _ (run : Run) (new next : Simulation) (order left : List ℕ) (rounds res
       put
 
   -- it was given
-  module _ (made : next ≡ turn_given new p) where
+  module _ (made : WasGiven new next p) where
     abbrev pub given_it : HasGiven run next left rest Unseen Unseen
     given_it =
         given_more run new next order left rounds rest Unseen Unseen Unseen p at.so at.count same
-        goes_on turn (record { grid = made; takes = λ taken no. no })
+        goes_on turn (record { grid = made.grid; takes = λ taken no. no }) made.answer made.told
 
     turns_is : suc k ≡ given_it.turns
     turns_is =
         let one : next.grid.turns ≡ run.start.turns + suc k =
         (let many : new.grid.turns ≡ run.start.turns + k = counted run new k at.so.grid in
         let more : next.grid.turns ≡ new.grid.turns + 1 =
-        ap (λ (s : Simulation). s.grid.turns) made in
+        ap (λ (s : Simulation). s.grid.turns) made.grid in
         omega (arith, many, more)) in
         turns_are run next given_it.turns (suc k) given_it.grid one
 

@@ -11,7 +11,7 @@ use Rattle.zpl_nums.specs.declared.ends.End.{End}
 use Rattle.node_stages.specs.declared.stages.Stage.{Stage}
 use Rattle.node_stages.specs.declared.stages.Stage.TheVariants as stage
 use Rattle.grid_runs.specs.Run.{Run}
-use Rattle.exec_call.specs.of_grid_sim.Simulation.{IsStuckTurn, Simulation, turn_given, turn_in}
+use Rattle.exec_call.specs.of_grid_sim.Simulation.{IsStuckTurn, Simulation, turn_given, turn_in, turned_by}
 use Rattle.exec_call.specs.of_grid_sim.declared.faults.SimFault.{SimFault}
 use Rattle.exec_call.specs.of_grid_sim.declared.faults.SimFault.TheVariants as fault
 use Rattle.exec_call.specs.of_grid_sim.declared.turns.Told.{Told}
@@ -62,18 +62,24 @@ event_text event.Over = codes "over"
 event_text (event.Stuck kind) = codes "stuck " ++ kind_text kind
 
 -- ---- a turn and its line
+-- the turn wasn't stuck, and was given
+pub record WasGiven (old new : Simulation) (p : ℕ) : Type 0 where
+  pub answer : Turned
+  pub told : turned_by (turn_in old p) ≡ Some answer
+  pub grid : new ≡ turn_given old p
+
 -- The turn was given, and its line is there; or it is stuck, its line is there, and nothing else
 -- has changed; or memory was wanting for the turn, or for its line.
 abbrev pub IsLined : Simulation → Simulation → ℕ → List ℕ → List ℕ → Result (Unit {0}) SimFault
     → Type 0
 IsLined old new p before after (Ok done) =
-    (new ≡ turn_given old p) × (after ≡ before ++ line_of old.code old.capacity old.grid p)
+    WasGiven old new p × (after ≡ before ++ line_of old.code old.capacity old.grid p)
 IsLined old new p before after (Err fault.TurnLimit) = ⊥
 IsLined old new p before after (Err fault.SinkFailed) = ⊥
 IsLined old new p before after (Err (fault.Stuck q kind)) =
     (q ≡ p) × IsStuckTurn kind (turn_in old p) × (new ≡ old)
     × (after ≡ before ++ line_of old.code old.capacity old.grid p)
-IsLined old new p before after (Err fault.NoMemory) = (new ≡ old) ⊎ (new ≡ turn_given old p)
+IsLined old new p before after (Err fault.NoMemory) = (new ≡ old) ⊎ WasGiven old new p
 
 -- ---- lines that are put together
 -- of the lines of the first k turns some were put, and the others are kept

@@ -5,7 +5,7 @@ use Rattle.trace_call.proofs.turns.give_turn.Goals as goal
 pub returns-in_ok-append_line-in-Ok : goal.returns-in_ok-append_line-in-Ok
 returns-in_ok-append_line-in-Ok c =
     let made = c.in-Ok.ensures.made in (
-      made.0.grid,
+      record { answer = c.in-Ok.told.turned; told = made.1.turned; grid = made.0.grid },
       c.in_ok-append_line-in-Ok.ensures
           ∙ ap (λ line. c.args.lines.now.items ++ line)
           (line_told c.args.sim.now c.args.p c.local-local.result.now.local c.local-local.ensures.state

@@ -36,7 +36,7 @@ turns-preserved g c =
     record {
       so = given_more (run_in c.args.self.now c.args.order.now c.args.tail_limit) c.turns.self c.turn.new.self c.turns.order c.next_turn.new.order
           c.turns.rounds c.next_turn.new.rounds _ _ _ c.in-Some-next_turn.p so c.turns.invariant.count c.next_turn.ensures.count
-          c.in_default.ensures turn made.0;
+          c.in_default.ensures turn made.0 _ made.1;
       count = c.next_turn.ensures.count ∙ c.turns.invariant.count;
       adds = adds_on _ _ _ c.turns.invariant.adds c.in_ok-turn.ensures.adds;
       faults = counts_same _ _ _ c.in_ok-turn.ensures.counts (λ failed. cc) ∙ c.turns.invariant.faults;
