@@ -8,9 +8,9 @@ pub const USAGE: u8 = 1;
 pub const UNREADABLE: u8 = 2;
 /// A file is longer than its limit.
 pub const TOO_LONG: u8 = 3;
-/// A text has a fault, or no code so far.
+/// A text has a fault, or its program is too much to compile.
 pub const REFUSED: u8 = 4;
-/// A text's declarations have a fault.
+/// The grid is none, settings or declarations have a fault, or arrays have no room.
 pub const UNBOUND: u8 = 5;
 /// A run is over with a trap.
 pub const TRAPPED: u8 = 7;

@@ -15,7 +15,7 @@ use Rattle.call_claims.specs.declared.status.TheConstants.{DONE, NO_MEMORY}
 use Rattle.exec_claims.specs.Cause.{CheckFails, ListedCause}
 
 -- ---- the listed code
--- it is sound, of which nothing is told; or the check of it fails
+-- it passes the check, of which nothing is told; or that fails
 pub data CheckCause (code : Tables) : ℕ → List ℕ → Type 0 where
   sound : (links : ℕ) → IsChecked code links → CheckCause code DONE []
   fails : {status : ℕ} {told : List ℕ} → CheckFails code status told → CheckCause code status told

@@ -20,7 +20,7 @@ abbrev pub ChecksNoListing : Call → Type 0
 ChecksNoListing call = Checks call (λ file asked. HasNoListing call file)
 
 -- ---- the listed code
--- it is sound
+-- it passes the check: it is sound, and not too large
 abbrev pub IsSoundCode : Tables → Type 0
 IsSoundCode code = (links : ℕ) × IsChecked code links
 

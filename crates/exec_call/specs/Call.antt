@@ -69,9 +69,9 @@ pub record IsExecuted (call : Call) (ran : Ran) (out errs : Stream) : Type 0 whe
       → (ran.status ≡ TURN_LIMIT) ↔ RunsTo call (execution_of ran) IsLimitedAt
   pub stuck : IsSettled call ran.status
       → (ran.status ≡ STUCK) ↔ RunsTo call (execution_of ran) IsStuckOrIdleAt
-  -- Where the file tells a listing, of sound code if the words ask for that, and they name an order
-  -- of its processors, if any, the listed code was run under it, and what is told is what came of the
-  -- run, under the same conditions.
+  -- Where the file tells a listing, of code that passes the check if the words ask for one, and
+  -- they name an order of its processors, if any, the listed code was run under it, and what is told
+  -- is what came of the run, under the same conditions.
   pub finished : IsSettled call ran.status → (file : List ℕ) (asked : Asked)
       → IsExec call.words file asked → (can : CanExecute call file asked)
       → (told : List ℕ) × HasExecuted can (execution_of ran) ran.status told

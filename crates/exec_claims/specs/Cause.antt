@@ -97,17 +97,17 @@ OrderFileCause call code asked turns (Some file) =
     TextCause call file (call.may_fail_later file) (turns ≡ 0) (OrderCause code asked turns)
 
 -- ---- the check of code
--- The code isn't sound: the demand of this instruction isn't met; or the code is too large for a
--- check.
+-- The code isn't too large for a check and isn't sound: the demand of this instruction isn't met; or
+-- it is too large.
 pub data CheckFails (code : Tables) : ℕ → List ℕ → Type 0 where
   unsound : (at : ℕ) → IsFaulty code (Unsound at) → CheckFails code UNSOUND (unsound_text at)
   too_large : IsFaulty code TooLarge → CheckFails code CHECK_LIMIT check_limit_text
 
--- the code is sound, where the words ask for that
+-- the code passes the check, where the words ask for one: it is sound, and not too large
 abbrev pub PassesCheck : Asked → Tables → Type 0
 PassesCheck asked code = IsTrue asked.checked → (links : ℕ) × IsChecked code links
 
--- The words ask that the code be sound, and the check of it fails; or there is the cause of the
+-- The words ask that the code be checked, and the check of it fails; or there is the cause of the
 -- order and the run.
 pub data CodeCause (call : Call) (asked : Asked) (turns : ℕ) (code : Tables) : ℕ → List ℕ → Type 0
   where

@@ -22,8 +22,8 @@ abbrev pub IsOrderText : Call → Option (List ℕ) → List ℕ → Type 0
 IsOrderText call None text = text ≡ []
 IsOrderText call (Some file) text = (source : Source call file) × (source.text ≡ text)
 
--- The code is the listed one, sound where the words ask for that, and was run under the order that
--- they ask for; this holds of the run and of the turns given.
+-- The code is the listed one, passes the check where the words ask for one, and was run under the
+-- order that they ask for; this holds of the run and of the turns given.
 pub record HasRun (call : Call) (file : List ℕ) (asked : Asked) (execution : Execution)
     (Holds : Run → ℕ → Type 0) : Type 0 where
   pub source : Source call file
@@ -72,7 +72,7 @@ pub record HasListing (call : Call) (file : List ℕ) (Holds : Tables → Type 0
   pub holds : Holds code
 
 -- ---- the check of its code
--- 13: the demand of an instruction isn't met
+-- 13: it isn't too large for a check, and the demand of an instruction isn't met
 abbrev pub IsUnsound : Tables → Type 0
 IsUnsound code = (at : ℕ) × IsFaulty code (Unsound at)
 

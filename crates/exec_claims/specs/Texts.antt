@@ -12,7 +12,7 @@ abbrev pub listing_refused_text : List ℕ → ℕ → List ℕ
 listing_refused_text name line =
     codes "listing refused: " ++ (name ++ (codes ", line " ++ (decimal line ++ codes "\n")))
 
--- how it is called that a processor is stuck; a listed program names nothing undefined
+-- how it is called that a processor is stuck
 abbrev pub kind_name : StuckKind → List ℕ
 kind_name WrongTag = codes "Tag"
 kind_name WrongLength = codes "Length"

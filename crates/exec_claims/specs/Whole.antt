@@ -14,8 +14,8 @@ use Rattle.grid_runs.specs.Run.{GoesOnTo}
 use Rattle.exec_claims.specs.Cause.{PassesCheck, RunCause, Source, run_of}
 use Rattle.exec_claims.specs.Decided.{IsOrderText}
 
--- The file tells a listing, its code is sound where the words ask for that, and what they name as an
--- order is one for the processors of the code.
+-- The file tells a listing, its code passes the check where the words ask for one, and what they
+-- name as an order is one for the processors of the code.
 pub record CanExecute (call : Call) (file : List ℕ) (asked : Asked) : Type 0 where
   pub source : Source call file
   pub code : Tables

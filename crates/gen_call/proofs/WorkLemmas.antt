@@ -160,7 +160,8 @@ module _ (words : List (List ℕ)) (seed : ℕ) (asked : Asked) (given : IsGen w
     -- ---- what out took
     stop_begun : {lines : List ℕ} → HasStopped seed asked work lines
         → work.answer ≢ answer.PutFailed → Begun seed asked (execution_in work) lines
-    stop_begun (without_code grid went next put why) other = all_ended went
+    stop_begun (without_code grid went next put why) other =
+        all_ended went (record { rest = grid ∷ next.rest; joins = next.is })
     stop_begun {lines} (ended_otherwise grid code went next made run end) other =
         subst (λ e. Begun seed asked e lines) (sym (execution_is seed asked work code made))
         (one_begun grid code work.counts.turns went next run)
@@ -192,7 +193,7 @@ module _ (words : List (List ℕ)) (seed : ℕ) (asked : Asked) (given : IsGen w
         → (status ≡ DONE → status_of work.answer ≡ DONE)
         → AreLines seed asked (execution_in work) status lines
     came_lines law {lines} status (going went is) put told = record {
-      begun = all_ended went;
+      begun = all_ended went (record { rest = []; joins = refl });
       all = λ e. went;
       meant = record {
         so_far = grids;

@@ -15,7 +15,8 @@ pub record IsGenerated (words : List (List ℕ)) (ran : Ran) (out errs : Stream)
   -- was begun, and the counts are those of that grid after the given turns.
   pub code : MatchOption ran.code (HasNoCounts ran) (IsRunFor words ran)
   -- Out took a line for each run before the last one, which ended normally; with status 0 it took
-  -- the last one's too. The lines tell of what the drawn program means.
+  -- the last one's too, and with 4, 5 and 10 it may have, if that ended normally. The lines tell of
+  -- what the drawn program means.
   pub output : ran.status ≢ PUT_FAILED
       → TakesLines words (execution_of ran) ran.status out.before out.after
   -- Each status but that of a failed put has its cause, and errs took its text.

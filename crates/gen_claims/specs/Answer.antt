@@ -37,7 +37,8 @@ pub record TellMeant (seed : ℕ) (asked : Asked) (status : ℕ) (lines : List �
   pub all : status ≡ DONE → so_far ≡ grids
   pub are : AreMeantFor seed asked so_far lines
 
--- The lines of the runs before the last one; with status 0 that of the last one too.
+-- The lines of the runs before the last one, or of this one too if it ended normally; with status 0
+-- of this one too.
 pub record AreLines (seed : ℕ) (asked : Asked) (execution : Execution) (status : ℕ)
     (lines : List ℕ) : Type 0 where
   pub begun : Begun seed asked execution lines

@@ -42,7 +42,8 @@ pub record HasRun (seed : ℕ) (asked : Asked) (execution : Execution) (Holds : 
   pub next : IsNext before grid
   pub on : HasRunOn seed asked execution grid Holds
 
--- It was given all turns and could go on. These are fewer than the bound wherever the meaning ends.
+-- It was given all turns, and is neither over nor idle. These are fewer than the bound wherever the
+-- meaning ends.
 pub record IsCutShort (seed : ℕ) (asked : Asked) (execution : Execution) : Type 0 where
   pub ran : HasRun seed asked execution IsLimitedAt
   pub too_few : IsTooFewFor (limit_of asked) ran.on.of_text

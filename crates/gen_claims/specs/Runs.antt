@@ -4,6 +4,7 @@
 --   Went      on the grids so far the runs ended normally; the last one, and their lines
 --   Begun     the runs that were begun
 use Rattle.std.specs.Prelude.{ℕ, List, [], ◌∷◌, ◌++◌, Some, None}
+use Rattle.zpl_lists.specs.Front.{IsFrontOf}
 use Rattle.zpl_nums.specs.declared.ends.End.TheVariants.{Done}
 use Rattle.node_form.specs.declared.tables.Tables.{Tables}
 use Rattle.grid_meaning.specs.Grid.{EndsAs}
@@ -13,7 +14,7 @@ use Rattle.call_claims.specs.Execution.{Execution}
 use Rattle.run_claims.specs.of_exec_claims.Cause.{run_of}
 use Rattle.run_claims.specs.of_list_claims.Code.{IsCodeOf}
 use Rattle.program_texts.specs.Text.{drawn_program}
-use Rattle.gen_claims.specs.Grids.{NamedGrid, IsNext, line_of}
+use Rattle.gen_claims.specs.Grids.{NamedGrid, IsNext, grids, line_of}
 
 -- ---- executions
 abbrev pub no_execution : Execution
@@ -49,11 +50,11 @@ pub data Went (seed : ℕ) (asked : Asked) : List NamedGrid → Execution → Li
       → Went seed asked (before ++ grid ∷ []) (execution_with code turns)
       (lines ++ line_for seed asked grid code turns)
 
--- The runs that were begun, up to this one: each of them ended normally, or each but the last one,
--- which may have, and has no line.
+-- The runs that were begun, on the first grids, up to this one: each of them ended normally, or each
+-- but the last one, which may have, and has no line.
 pub data Begun (seed : ℕ) (asked : Asked) : Execution → List ℕ → Type 0 where
-  all_ended : {grids : List NamedGrid} {last : Execution} {lines : List ℕ}
-      → Went seed asked grids last lines → Begun seed asked last lines
+  all_ended : {so_far : List NamedGrid} {last : Execution} {lines : List ℕ}
+      → Went seed asked so_far last lines → IsFrontOf so_far grids → Begun seed asked last lines
   one_begun : {before : List NamedGrid} {last : Execution} {lines : List ℕ}
       (grid : NamedGrid) (code : Tables) (turns : ℕ) → Went seed asked before last lines
       → IsNext before grid → IsRunOf seed asked grid code turns

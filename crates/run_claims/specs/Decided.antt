@@ -1,6 +1,6 @@
 -- When each status comes.
 --
---   IsRunSettled      the status is neither 9 nor 10, and the order is one
+--   IsRunSettled      the status is neither 9 nor 10, and the order's file, if any, was fetched
 --   HasCodeOf         code was made of the file's text
 --   IsUnder           it was run under the order that the words ask for
 --   IsTooFew          fewer turns than the bound on those of the code, wherever the meaning ends
@@ -32,8 +32,8 @@ use Rattle.exec_claims.specs.declared.status.TheConstants.{ORDER_REFUSED, STUCK}
 use Rattle.run_claims.specs.Cause.{Runs}
 
 -- ---- the order of a run
--- The status is neither that of a failed put nor that of want of memory, and the order of the run is
--- one.
+-- The status is neither that of a failed put nor that of want of memory; and where the words name
+-- the file of an order, no fetch failed, and that file tells at most one text.
 pub record IsRunSettled (call : Call) (status : ℕ) : Type 0 where
   pub decided : IsDecided status
   pub order : (file : List ℕ) (asked : Asked)

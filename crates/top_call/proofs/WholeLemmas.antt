@@ -35,7 +35,8 @@ use Rattle.gen_call.specs.of_run_claims.Whole.{CanFinish, HasFinished, meant_by}
 use Rattle.top_call.specs.Call.{AsksCheck, AsksExec, AsksList, AsksMean, AsksRun, AsksTime}
 use Rattle.top_call.specs.Call.{IsListed, IsRan}
 use Rattle.top_call.specs.Done.{IsDone}
-use Rattle.top_call.specs.Whole.{AreSure, HasPrinted, IsWhole, NamesFile, OrNoMemory}
+use Rattle.top_call.specs.Whole.{AreSure, AreThere, HasPrinted, IsWhole, NamesFile, OrNoMemory}
+use Rattle.top_call.specs.Whole.{TellOneText}
 use Rattle.top_call.proofs.FetchLemmas.{check_call_read, exec_call_read, list_call_read}
 use Rattle.top_call.proofs.FetchLemmas.{mean_call_read, run_call_read, time_call_read}
 use Rattle.top_call.proofs.WordLemmas.{AreOne, of_check, of_exec, of_list, of_mean, of_run, of_time}
@@ -54,15 +55,20 @@ or_so : {status : ℕ} {Holds Also : Type 0} → OrNoMemory status Holds → (Ho
 or_so (inl wanting) then = inl wanting
 or_so (inr holds) then = inr (then holds)
 
-module _ (call : Call) (ran : Ran) (out errs : Stream) (file : List ℕ) (asked : Asked)
-    (sure : AreSure call file asked) (put : ran.status ≢ PUT_FAILED) where
-  settled_or : ran.status ≢ UNREADABLE → OrNoMemory ran.status (IsSettled call ran.status)
+module _ (call : Call) (ran : Ran) (out errs : Stream) {failed : Type 0} (file : List ℕ)
+    (asked : Asked) (there : AreThere call failed file asked) (put : ran.status ≢ PUT_FAILED)
+    (rises : ran.status ≡ UNREADABLE → failed) where
+  one : TellOneText call
+  one = elim there [ inl told ↦ told.0 | inr sure ↦ sure.one ]
+
+  settled_or : (AreSure call file asked → ran.status ≢ UNREADABLE)
+      → OrNoMemory ran.status (IsSettled call ran.status)
   settled_or read = elim (cases_eq ran.status NO_MEMORY) [
     | inl wanting ↦ inl wanting
     | inr other ↦ inr (record {
       decided = record { put = put; memory = other };
-      read = read;
-      one = sure.one;
+      read = elim there [ inl told ↦ λ e. told.1 (rises e) | inr sure ↦ read sure ];
+      one = one;
     })
   ]
 
@@ -70,7 +76,7 @@ module _ (call : Call) (ran : Ran) (out errs : Stream) (file : List ℕ) (asked 
   run_settled : IsRan call ran out errs → IsRun call.words file asked
       → OrNoMemory ran.status (IsSettled call ran.status)
   run_settled is given =
-      settled_or (run_call_read call file asked sure given (is.cause put).cause)
+      settled_or (λ sure. run_call_read call file asked sure given (is.cause put).cause)
 
   run_whole : IsRan call ran out errs → IsRun call.words file asked → (n : ℕ)
       (can : CanFinish call file asked n)
@@ -83,7 +89,7 @@ module _ (call : Call) (ran : Ran) (out errs : Stream) (file : List ℕ) (asked 
   list_settled : IsListed call ran out errs → IsList call.words file asked
       → OrNoMemory ran.status (IsSettled call ran.status)
   list_settled is given =
-      settled_or (list_call_read call file asked sure given (is.cause put).cause)
+      settled_or (λ sure. list_call_read call file asked sure given (is.cause put).cause)
 
   list_whole : IsListed call ran out errs → IsList call.words file asked
       → (can : CanList call file asked)
@@ -96,7 +102,7 @@ module _ (call : Call) (ran : Ran) (out errs : Stream) (file : List ℕ) (asked 
   mean_settled : IsMeant call ran out errs → IsMean call.words file asked
       → OrNoMemory ran.status (IsSettled call ran.status)
   mean_settled is given =
-      settled_or (mean_call_read call file asked sure given (is.cause put).cause)
+      settled_or (λ sure. mean_call_read call file asked sure given (is.cause put).cause)
 
   mean_whole : IsMeant call ran out errs → IsMean call.words file asked
       → (can : CanMean call file asked)
@@ -108,7 +114,7 @@ module _ (call : Call) (ran : Ran) (out errs : Stream) (file : List ℕ) (asked 
   exec_settled : IsExecuted call ran out errs → IsExec call.words file asked
       → OrNoMemory ran.status (IsSettled call ran.status)
   exec_settled is given =
-      settled_or (exec_call_read call file asked sure given (is.cause put).cause)
+      settled_or (λ sure. exec_call_read call file asked sure given (is.cause put).cause)
 
   module _ (can : CanExecute call file asked) (given : IsExec call.words file asked) where
     abbrev the_run : Run
@@ -127,7 +133,7 @@ module _ (call : Call) (ran : Ran) (out errs : Stream) (file : List ℕ) (asked 
         by (Some name) mine other =
             same_order _ order can.order read
             (subst (λ t. reading (processors can.code) t ≡ Ok can.order)
-            (sym other.1 ∙ sure.one name other.0.text mine.0.text other.0.told mine.0.told
+            (sym other.1 ∙ one name other.0.text mine.0.text other.0.told mine.0.told
             ∙ mine.1) can.read)
 
     -- what holds of a run of the code in the answer holds of this one
@@ -184,12 +190,12 @@ module _ (call : Call) (ran : Ran) (out errs : Stream) (file : List ℕ) (asked 
   time_settled : IsTimed call ran out errs → IsTime call.words file asked
       → OrNoMemory ran.status (IsSettled call ran.status)
   time_settled is given =
-      settled_or (time_call_read call file asked sure given (is.cause put).cause)
+      settled_or (λ sure. time_call_read call file asked sure given (is.cause put).cause)
 
   check_settled : IsValidated call ran out errs → IsCheck call.words file asked
       → OrNoMemory ran.status (IsSettled call ran.status)
   check_settled is given =
-      settled_or (check_call_read call file asked sure given (is.cause put).cause)
+      settled_or (λ sure. check_call_read call file asked sure given (is.cause put).cause)
 
 -- ---- any call
 -- what is said of the commands of files
@@ -201,34 +207,35 @@ pub record AreSaid (call : Call) (ran : Ran) (out errs : Stream) : Type 0 where
   pub time : AsksTime call.words → IsTimed call ran out errs
   pub check : AsksCheck call.words → IsValidated call ran out errs
 
-module _ (call : Call) (ran : Ran) (out errs : Stream) (said : AreSaid call ran out errs)
-    (put : ran.status ≢ PUT_FAILED) where
+module _ (call : Call) (ran : Ran) (out errs : Stream) (failed : Type 0)
+    (said : AreSaid call ran out errs) (put : ran.status ≢ PUT_FAILED)
+    (rises : ran.status ≡ UNREADABLE → failed) where
   settles : (file : List ℕ) (asked : Asked) → NamesFile call.words file asked
-      → AreSure call file asked → OrNoMemory ran.status (IsSettled call ran.status)
-  settles file asked (inl g) sure =
-      run_settled call ran out errs file asked sure put (said.run (file, asked, g)) g
-  settles file asked (inr (inl g)) sure =
-      list_settled call ran out errs file asked sure put (said.list (file, asked, g)) g
-  settles file asked (inr (inr (inl g))) sure =
-      mean_settled call ran out errs file asked sure put (said.mean (file, asked, g)) g
-  settles file asked (inr (inr (inr (inl g)))) sure =
-      exec_settled call ran out errs file asked sure put (said.exec (file, asked, g)) g
-  settles file asked (inr (inr (inr (inr (inl g))))) sure =
-      time_settled call ran out errs file asked sure put (said.time (file, asked, g)) g
-  settles file asked (inr (inr (inr (inr (inr g))))) sure =
-      check_settled call ran out errs file asked sure put (said.check (file, asked, g)) g
+      → AreThere call failed file asked → OrNoMemory ran.status (IsSettled call ran.status)
+  settles file asked (inl g) there =
+      run_settled call ran out errs file asked there put rises (said.run (file, asked, g)) g
+  settles file asked (inr (inl g)) there =
+      list_settled call ran out errs file asked there put rises (said.list (file, asked, g)) g
+  settles file asked (inr (inr (inl g))) there =
+      mean_settled call ran out errs file asked there put rises (said.mean (file, asked, g)) g
+  settles file asked (inr (inr (inr (inl g)))) there =
+      exec_settled call ran out errs file asked there put rises (said.exec (file, asked, g)) g
+  settles file asked (inr (inr (inr (inr (inl g))))) there =
+      time_settled call ran out errs file asked there put rises (said.time (file, asked, g)) g
+  settles file asked (inr (inr (inr (inr (inr g))))) there =
+      check_settled call ran out errs file asked there put rises (said.check (file, asked, g)) g
 
-  whole : IsWhole call ran out.before out.after
+  whole : IsWhole call ran failed out.before out.after
   whole = record {
     settled = settles;
-    run = λ file asked given sure n can. run_whole call ran out errs file asked sure put
+    run = λ file asked given there n can. run_whole call ran out errs file asked there put rises
         (said.run (file, asked, given)) given n can;
-    list = λ file asked given sure can. list_whole call ran out errs file asked sure put
+    list = λ file asked given there can. list_whole call ran out errs file asked there put rises
         (said.list (file, asked, given)) given can;
-    mean = λ file asked given sure can. mean_whole call ran out errs file asked sure put
+    mean = λ file asked given there can. mean_whole call ran out errs file asked there put rises
         (said.mean (file, asked, given)) given can;
-    exec = λ file asked given sure can. exec_whole call ran out errs file asked sure put can given
-        (said.exec (file, asked, given));
+    exec = λ file asked given there can. exec_whole call ran out errs file asked there put rises
+        can given (said.exec (file, asked, given));
     gen = λ n asked given. elim (cases_eq ran.status NO_MEMORY) [
       | inl wanting ↦ inl wanting
       | inr other ↦ inr (record { put = put; memory = other })
@@ -236,17 +243,17 @@ module _ (call : Call) (ran : Ran) (out errs : Stream) (said : AreSaid call ran 
   }
 
 -- of what came of a command
-pub whole_of : AreOne → (call : Call) (ran : Ran) (out errs : Stream) (c : Command)
-    → IsRead call.words c → IsDone c call ran out errs → ran.status ≢ PUT_FAILED
-    → IsWhole call ran out.before out.after
-whole_of one call ran out errs c is done put = whole call ran out errs (record {
+pub whole_of : AreOne → (call : Call) (ran : Ran) (out errs : Stream) (failed : Type 0)
+    (c : Command) → IsRead call.words c → IsDone c call ran out errs → ran.status ≢ PUT_FAILED
+    → (ran.status ≡ UNREADABLE → failed) → IsWhole call ran failed out.before out.after
+whole_of one call ran out errs failed c is done put rises = whole call ran out errs failed (record {
   run = λ asks. of_run one call.words call ran out errs c is asks done;
   list = λ asks. of_list one call.words call ran out errs c is asks done;
   mean = λ asks. of_mean one call.words call ran out errs c is asks done;
   exec = λ asks. of_exec one call.words call ran out errs c is asks done;
   time = λ asks. of_time one call.words call ran out errs c is asks done;
   check = λ asks. of_check one call.words call ran out errs c is asks done;
-}) put
+}) put rises
 
 -- words that are no command name no file
 pub none_named : {words : List (List ℕ)} → IsNoCommand words → (file : List ℕ) (asked : Asked)
@@ -258,9 +265,9 @@ none_named none file asked (inr (inr (inr (inl g)))) = none.no_exec file asked g
 none_named none file asked (inr (inr (inr (inr (inl g))))) = none.no_time file asked g
 none_named none file asked (inr (inr (inr (inr (inr g))))) = none.no_check file asked g
 
-pub none_whole : (call : Call) (ran : Ran) (before after : List ℕ → Type 0)
-    → IsNoCommand call.words → IsWhole call ran before after
-none_whole call ran before after none = record {
+pub none_whole : (call : Call) (ran : Ran) (failed : Type 0) (before after : List ℕ → Type 0)
+    → IsNoCommand call.words → IsWhole call ran failed before after
+none_whole call ran failed before after none = record {
   settled = λ file asked names. absurd (none_named none file asked names);
   run = λ file asked given. absurd (none.no_run file asked given);
   list = λ file asked given. absurd (none.no_list file asked given);

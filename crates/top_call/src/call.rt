@@ -1,5 +1,6 @@
 //! The call that the program makes.
 ghost use Rattle.std.specs.Prelude.{◌≡◌, ◌≢◌, map, string_bytes};
+ghost use Rattle.zpl_io.specs.Faults.{Rose};
 ghost use Rattle.zpl_io.specs.Files.{SameTexts};
 ghost use Rattle.call_claims.specs.Answer.{CountsFetches, CountsPuts};
 ghost use Rattle.call_claims.specs.Call.{call_of};
@@ -117,12 +118,13 @@ pub fn zplgrid<F: Files, O: Sink, E: Sink>(
     // The status of words comes just where they are none.
     ensures usage { result.status ≡ USAGE → IsNoCommand (map string_bytes words.now) }
 
-    // Calls that have all that they need, of files that are there for sure, and no put of which
-    // failed: the answer is the one that is named, or memory was wanting.
+    // Calls that have all that they need, of files that are there, and no put of which failed: the
+    // answer is the one that is named, or memory was wanting.
     ensures whole { let call = call_of (map string_bytes words.now) (F.tells files.old)
         (F.may_fail files.old) (F.may_fail_later files.old) in
         ¬ O.has_failed out.new → ¬ E.has_failed errs.new →
-        IsWhole call result (O.tells out.old) (O.tells out.new) }
+        IsWhole call result (Rose (F.faults files.old) (F.faults files.new))
+        (O.tells out.old) (O.tells out.new) }
 
     // Files and counts after the call: the texts are the same, and a count of faults rises only
     // with its status. Behind a put that failed nothing is put.

@@ -89,9 +89,9 @@ returns-in-Some-clause-whole g c = λ out_kept errs_kept.
     let words = map string_bytes c.args.words.now in
     let is = c.in-Some.ensures {u = tt} in
     whole_of c.commands_are_one.ensures (call_of words (g.F.Files.tells c.args.files.now)
-    (g.F.Files.may_fail c.args.files.now) (g.F.Files.may_fail_later c.args.files.now)) _ _ _
+    (g.F.Files.may_fail c.args.files.now) (g.F.Files.may_fail_later c.args.files.now)) _ _ _ _
     c.in-Some.command is (c.perform.ensures.done words is)
-    (none_failed c.perform.ensures.stops out_kept errs_kept)
+    (none_failed c.perform.ensures.stops out_kept errs_kept) c.perform.ensures.fetches.rises
 
 pub returns-in-None-clause-run : goal.returns-in-None-clause-run
 returns-in-None-clause-run g c = λ asks.
@@ -148,7 +148,7 @@ returns-in-None-clause-unknown g c = λ none.
 pub returns-in-None-clause-whole : goal.returns-in-None-clause-whole
 returns-in-None-clause-whole g c = λ out_kept errs_kept.
     none_whole (call_of (map string_bytes c.args.words.now) (g.F.Files.tells c.args.files.now)
-    (g.F.Files.may_fail c.args.files.now) (g.F.Files.may_fail_later c.args.files.now)) _ _ _
+    (g.F.Files.may_fail c.args.files.now) (g.F.Files.may_fail_later c.args.files.now)) _ _ _ _
     (c.in-None.ensures {u = tt})
 
 pub returns-in-None-clause-fetches : goal.returns-in-None-clause-fetches
