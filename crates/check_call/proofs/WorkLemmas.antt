@@ -7,7 +7,7 @@ use Rattle.node_form.specs.declared.tables.Tables.{Tables}
 use Rattle.call_claims.specs.Call.{Call}
 use Rattle.call_claims.specs.Command.{Asked, IsCheck}
 use Rattle.call_claims.specs.Decided.{IsDecided}
-use Rattle.call_claims.specs.Execution.{HasNoCounts, HasNoRun}
+use Rattle.call_claims.specs.Execution.{HasCode, HasNoCounts, HasNoRun}
 use Rattle.call_claims.specs.Stream.{Stream}
 use Rattle.call_claims.specs.declared.status.TheConstants.{DONE, PUT_FAILED, UNREADABLE}
 use Rattle.check_claims.specs.of_exec_claims.Answer.{IsListedIn}
@@ -168,6 +168,12 @@ module _ (call : Call) (file : List ℕ) (asked : Asked) (work : Work) (before a
   cut_for (read code made none is (cut put checked)) same = tells code is checked
   cut_for (read code made none is (failed why takes)) same =
       absurd (failed_not_put code work.answer why same)
+
+  -- then there is code
+  pub coded_for : IsWorkOn call file work before after → work.answer ≡ answer.PutFailed
+      → HasCode (execution_in work)
+  coded_for (unread none reads nothing) same = absurd (nothing.put same)
+  coded_for (read code made none is checked) same = record { code = code; made = made }
 
   -- one of errs did
   pub none_for : IsWorkOn call file work before after → (status : ℕ) (errs : Stream)

@@ -21,7 +21,7 @@ use Rattle.grid_call.specs.of_exec_claims.Cause.Cause.{exec}
 use Rattle.grid_call.specs.of_exec_claims.Cause.ListingCause.{bad_line, bad_table, listed}
 use Rattle.grid_call.specs.of_exec_claims.Cause.TextCause.{too_long, unreadable, work as of_text}
 use Rattle.grid_call.specs.of_call_answers.Answers.{status_of, told_of}
-use Rattle.grid_call.specs.of_call_answers.Fetched.{IsNoText, IsWholeText}
+use Rattle.grid_call.specs.of_call_answers.Fetched.{IsNoText}
 use Rattle.grid_call.specs.of_call_answers.Work.{execution_in, no_counts, ran_of}
 use Rattle.grid_call.specs.Work.{IsCodeWork}
 use Rattle.grid_call.specs.Work.IsCodeWork.{unordered, ran}
