@@ -19,29 +19,30 @@ use Rattle.call_claims.specs.Decided.{IsDecided}
 use Rattle.call_claims.specs.Stream.{Stream}
 use Rattle.call_claims.specs.declared.status.TheConstants.{TURN_LIMIT}
 use Rattle.call_claims.proofs.OneLemmas.{of_given}
-use Rattle.grid_call.specs.Ended.{answer_in}
-use Rattle.grid_call.specs.Work.{IsOrderOf, IsRunOn}
-use Rattle.grid_call.specs.of_call_answers.Answers.{IsUnrun, status_of, told_of}
-use Rattle.grid_call.specs.of_call_answers.Refusals.{build_status}
-use Rattle.grid_call.specs.of_call_answers.Told.{IsAnswerOf}
-use Rattle.grid_call.specs.of_call_answers.Work.{execution_in}
-use Rattle.grid_call.specs.of_call_answers.declared.refusals.BuildFault.{BuildFault}
-use Rattle.grid_call.specs.of_call_answers.declared.refusals.BuildFault.TheVariants as build
-use Rattle.grid_call.specs.of_call_answers.declared.work.Work.{Work}
-use Rattle.grid_call.specs.of_exec_claims.Answer.{IsListedIn}
-use Rattle.grid_call.specs.of_exec_claims.Cause.{Cause, PassesCheck, run_of}
-use Rattle.grid_call.specs.of_exec_claims.Cause.Cause.{no_memory}
-use Rattle.grid_call.specs.of_call_answers.declared.answers.Answer.{Answer}
-use Rattle.grid_call.specs.of_call_answers.declared.answers.Answer.TheVariants as answer
-use Rattle.grid_call.specs.of_grid_sim.Counting.{AddTurns, AreCounted}
-use Rattle.grid_call.specs.of_grid_sim.Run.{EndsRun, IsRun, run_in, run_to}
-use Rattle.grid_call.specs.of_grid_sim.Simulation.{Simulation, counts_of, start_simulation}
-use Rattle.grid_call.specs.of_grid_sim.declared.counts.Counts.{Counts}
-use Rattle.grid_call.specs.of_grid_sim.declared.faults.SimFault.{SimFault}
-use Rattle.grid_call.specs.of_grid_sim.declared.faults.SimFault.TheVariants as fault
-use Rattle.grid_call.proofs.RunLemmas.{TurnsCount}
-use Rattle.grid_call.proofs.WorkLemmas.{AreFew, order_back, text_few}
-use Rattle.exec_call.specs.Work.{IsListed, IsSavedCode, IsSavedListed, IsSavedRun, IsTextTold, SavesCode, SavesGrid}
+use Rattle.listing_code.specs.of_grid_call.Ended.{answer_in}
+use Rattle.listing_code.specs.of_grid_call.Work.{IsOrderOf, IsRunOn}
+use Rattle.listing_code.specs.of_call_answers.Answers.{IsUnrun, status_of, told_of}
+use Rattle.listing_code.specs.of_call_answers.Refusals.{build_status}
+use Rattle.listing_code.specs.of_call_answers.Told.{IsAnswerOf}
+use Rattle.listing_code.specs.of_call_answers.Work.{execution_in}
+use Rattle.listing_code.specs.of_call_answers.declared.refusals.BuildFault.{BuildFault}
+use Rattle.listing_code.specs.of_call_answers.declared.refusals.BuildFault.TheVariants as build
+use Rattle.listing_code.specs.of_call_answers.declared.work.Work.{Work}
+use Rattle.listing_code.specs.of_exec_claims.Answer.{IsListedIn}
+use Rattle.listing_code.specs.of_exec_claims.Cause.{Cause, PassesCheck, run_of}
+use Rattle.listing_code.specs.of_exec_claims.Cause.Cause.{no_memory}
+use Rattle.listing_code.specs.of_call_answers.declared.answers.Answer.{Answer}
+use Rattle.listing_code.specs.of_call_answers.declared.answers.Answer.TheVariants as answer
+use Rattle.listing_code.specs.of_grid_sim.Counting.{AddTurns, AreCounted}
+use Rattle.listing_code.specs.of_grid_sim.Run.{EndsRun, IsRun, run_in, run_to}
+use Rattle.listing_code.specs.of_grid_sim.Simulation.{Simulation, counts_of, start_simulation}
+use Rattle.listing_code.specs.of_grid_sim.declared.counts.Counts.{Counts}
+use Rattle.listing_code.specs.of_grid_sim.declared.faults.SimFault.{SimFault}
+use Rattle.listing_code.specs.of_grid_sim.declared.faults.SimFault.TheVariants as fault
+use Rattle.listing_code.proofs.of_grid_call.RunLemmas.{TurnsCount}
+use Rattle.listing_code.proofs.of_grid_call.WorkLemmas.{AreFew, order_back, text_few}
+use Rattle.listing_code.specs.Code.{IsListed}
+use Rattle.exec_call.specs.Work.{IsSavedCode, IsSavedListed, IsSavedRun, IsTextTold, SavesCode, SavesGrid}
 use Rattle.exec_call.specs.Work.{SavesListed, is_limit, limited}
 use Rattle.exec_call.specs.declared.telling.Telling.{Telling}
 use Rattle.exec_call.proofs.ToldLemmas.{IsToldSo, answer_told, text_told}

@@ -1,72 +1,36 @@
 -- What comes of the work of a call, up to what is told of it.
 --
---   ReadsNone       no code was read, and why
---   IsUnlisted      why a text is no listing
---   IsListed        code that a listing tells
---   IsFailed        why the check of code fails
 --   IsListedWork    what came of the work on listed code
 --   IsWorkOn        what came of the work of a call
 --   IsSavedRun, IsSavedCode, IsSavedListed   where a grid is saved, of a run, of code, and of a file
 --   IsTextTold      what was told in the place of an answer
 use Rattle.std.specs.Prelude.{◌≡◌, ◌≢◌, ℕ, Bool, true, false, IsTrue, List, MatchOption, Some}
-use Rattle.std.specs.Prelude.{None, Result, Ok, Err, ⊤}
+use Rattle.std.specs.Prelude.{None, Result, Ok, Err}
 use Rattle.zpl_nums.specs.declared.ends.End.{End}
 use Rattle.zpl_io.specs.Faults.{Rose}
 use Rattle.zpl_io.specs.Sink.{Takes, TakesFront}
 use Rattle.node_form.specs.declared.tables.Tables.{Tables}
-use Rattle.grid_call.specs.of_exec_claims.of_node_check.Sound.{IsFaulty}
-use Rattle.grid_call.specs.of_exec_claims.of_node_check.declared.faults.CheckFault.TheVariants.{TooLarge, Unsound}
-use Rattle.listing_lines.specs.Listing.{IsBadLine}
-use Rattle.node_text.specs.Listing.{IsBadTable, IsListing}
 use Rattle.call_claims.specs.Call.{Call}
-use Rattle.call_claims.specs.Decided.{IsDecided}
-use Rattle.call_claims.specs.Execution.{Execution, HasNoRun}
 use Rattle.call_claims.specs.Command.{Asked}
 use Rattle.call_claims.specs.Stream.{Stream}
 use Rattle.call_claims.specs.declared.status.TheConstants.{PUT_FAILED, TURN_LIMIT}
 use Rattle.grid_runs.specs.Run.{Run, GoesOnTo}
 use Rattle.resume_claims.specs.Saving.{IsSavedAt, SavesRun}
-use Rattle.grid_call.specs.of_exec_claims.Answer.{IsListedIn}
-use Rattle.grid_call.specs.of_exec_claims.Cause.{ListedCause, PassesCheck, run_of}
-use Rattle.grid_call.specs.of_call_answers.Answers.{status_of, told_of}
-use Rattle.grid_call.specs.Work.{HasNoTurns, IsCodeWork, IsOrderOf}
-use Rattle.grid_call.specs.of_call_answers.Work.{execution_in}
-use Rattle.grid_call.specs.of_grid_sim.declared.faults.SimFault.{SimFault}
-use Rattle.grid_call.specs.of_grid_sim.declared.faults.SimFault.TheVariants as fault
+use Rattle.listing_code.specs.of_exec_claims.Answer.{IsListedIn}
+use Rattle.listing_code.specs.of_exec_claims.Cause.{PassesCheck, run_of}
+use Rattle.listing_code.specs.of_call_answers.Answers.{status_of}
+use Rattle.listing_code.specs.of_grid_call.Work.{HasNoTurns, IsCodeWork, IsOrderOf}
+use Rattle.listing_code.specs.of_call_answers.Work.{execution_in}
+use Rattle.listing_code.specs.of_grid_sim.declared.faults.SimFault.{SimFault}
+use Rattle.listing_code.specs.of_grid_sim.declared.faults.SimFault.TheVariants as fault
+use Rattle.listing_code.specs.Code.{IsFailed, ReadsNone}
 use Rattle.exec_call.specs.declared.telling.Telling.{Telling}
-use Rattle.grid_call.specs.of_call_answers.declared.answers.Stop.TheVariants as stop
-use Rattle.grid_call.specs.of_call_answers.declared.answers.Answer.{Answer}
-use Rattle.grid_call.specs.of_call_answers.declared.answers.Answer.TheVariants as answer
-use Rattle.grid_call.specs.of_call_answers.declared.work.Work.{Work}
+use Rattle.listing_code.specs.of_call_answers.declared.answers.Stop.TheVariants as stop
+use Rattle.listing_code.specs.of_call_answers.declared.answers.Answer.{Answer}
+use Rattle.listing_code.specs.of_call_answers.declared.answers.Answer.TheVariants as answer
+use Rattle.listing_code.specs.of_call_answers.declared.work.Work.{Work}
 
--- ---- the listing
--- No code was read, and that has its cause, in which there is no work on code.
-abbrev pub NoWork : Tables → ℕ → List ℕ → Type 0
-NoWork code status told = ⊥
-
-abbrev pub ReadsNone : Call → List ℕ → Answer → Type 0
-ReadsNone call file a = IsDecided (status_of a) → (execution : Execution) → HasNoRun execution
-    → ListedCause call file execution NoWork (status_of a) (told_of a)
-
--- the text is no listing, and why
-abbrev pub IsUnlisted : List ℕ → Answer → Type 0
-IsUnlisted text (answer.BadLine line) = IsBadLine text line
-IsUnlisted text (answer.BadTable line) = IsBadTable text line
-IsUnlisted text answer.NoMemory = ⊤
-IsUnlisted text a = ⊥
-
--- some text is the listing of the code
-abbrev pub IsListed : Tables → Type 0
-IsListed code = (text : List ℕ) × IsListing text code
-
--- ---- the check of its code
--- it fails, and why
-abbrev pub IsFailed : Tables → Answer → Type 0
-IsFailed code (answer.Unsound at) = IsFaulty code (Unsound at)
-IsFailed code answer.CheckLimit = IsFaulty code TooLarge
-IsFailed code answer.NoMemory = ⊤
-IsFailed code a = ⊥
-
+-- ---- the work on listed code
 -- The words ask that the code be sound, and the check of it fails; or it passes, and this came of
 -- the work on it.
 pub data IsListedWork (call : Call) (code : Tables) (asked : Asked) (work : Work)

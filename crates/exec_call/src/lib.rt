@@ -8,14 +8,11 @@
 
 mod call;
 mod checks;
-mod fetches;
 mod saves;
 mod telling;
 
 pub use call::exec;
-pub use checks::check_code;
-pub use fetches::fetch_code;
-pub use grid_call;
-pub use grid_call::{call_answers, grid_sim, row_turn};
+pub use listing_code;
+pub use listing_code::{call_answers, grid_call, grid_sim, row_turn};
 pub use resume_claims;
 pub use telling::{Telling, tell};

@@ -13,4 +13,5 @@ mod runs;
 mod texts;
 
 pub use call::resume;
+pub use exec_call;
 pub use laws::parts_are_one_run;

@@ -5,11 +5,11 @@ use Rattle.call_claims.specs.Command.{Asked, IsExec}
 use Rattle.call_claims.specs.Execution.{Execution, execution_of}
 use Rattle.call_claims.specs.Stream.{Stream}
 use Rattle.call_claims.specs.declared.ran.Ran.{Ran}
-use Rattle.time_call.specs.of_exec_call.Call.{IsExecuted}
+use Rattle.resume_call.specs.of_exec_call.Call.{IsExecuted}
 use Rattle.check_call.specs.of_check_claims.of_exec_claims.Cause.{Cause}
 use Rattle.check_call.specs.of_check_claims.of_exec_claims.declared.status.TheConstants.{STUCK}
-use Rattle.time_call.specs.of_exec_call.of_resume_claims.Saving.{Tells}
-use Rattle.time_call.specs.of_exec_call.of_resume_claims.Saving.Tells.{told, saved}
+use Rattle.resume_call.specs.of_exec_call.of_resume_claims.Saving.{Tells}
+use Rattle.resume_call.specs.of_exec_call.of_resume_claims.Saving.Tells.{told, saved}
 use Rattle.top_call.specs.Call.{AsksChecked}
 
 abbrev pub NeverLaw : Call → Type 0

@@ -31,11 +31,11 @@ use Rattle.check_call.specs.of_check_claims.of_exec_claims.Cause.TextCause.{unre
 use Rattle.time_call.specs.of_time_claims.Cause.{Cause as TimeCall, TimeCause}
 use Rattle.time_call.specs.of_time_claims.Cause.Cause.{no_memory as time_wanting, time}
 use Rattle.time_call.specs.of_time_claims.Cause.TimeCause.{not_run, ran, too_many}
-use Rattle.time_call.specs.of_exec_call.of_resume_claims.Cause.{Cause as ResumeCall, GridCause, GridFileCause, ResumeCause}
-use Rattle.time_call.specs.of_exec_call.of_resume_claims.Cause.Cause.{no_memory as resume_wanting, resume}
-use Rattle.time_call.specs.of_exec_call.of_resume_claims.Cause.GridCause.{bad_item as wrong_item, ran as went_on}
-use Rattle.time_call.specs.of_exec_call.of_resume_claims.Cause.ResumeCause.{unreadable as no_save, too_long as long_save, work as in_save}
-use Rattle.time_call.specs.of_exec_call.of_resume_claims.Cause.SavedCause.{refused as no_grid, saved as of_grid}
+use Rattle.resume_call.specs.of_exec_call.of_resume_claims.Cause.{Cause as ResumeCall, GridCause, GridFileCause, ResumeCause}
+use Rattle.resume_call.specs.of_exec_call.of_resume_claims.Cause.Cause.{no_memory as resume_wanting, resume}
+use Rattle.resume_call.specs.of_exec_call.of_resume_claims.Cause.GridCause.{bad_item as wrong_item, ran as went_on}
+use Rattle.resume_call.specs.of_exec_call.of_resume_claims.Cause.ResumeCause.{unreadable as no_save, too_long as long_save, work as in_save}
+use Rattle.resume_call.specs.of_exec_call.of_resume_claims.Cause.SavedCause.{refused as no_grid, saved as of_grid}
 use Rattle.gen_call.specs.of_list_claims.Cause.{Cause as ListCall, IsListed, ProgramCause}
 use Rattle.gen_call.specs.of_list_claims.Cause.Cause.{no_memory as list_wanting, list}
 use Rattle.gen_call.specs.of_list_claims.Cause.CodeCause.{faulty, made}

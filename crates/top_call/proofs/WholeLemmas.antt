@@ -23,7 +23,7 @@ use Rattle.mean_call.specs.of_call_answers.Stops.{CallStopsAtFault}
 use Rattle.mean_call.specs.of_mean_claims.Whole.{CanMean}
 use Rattle.mean_call.proofs.of_exec_claims.OneCause.{same_order}
 use Rattle.time_call.specs.Call.{IsTimed}
-use Rattle.time_call.specs.of_exec_call.Call.{IsExecuted}
+use Rattle.resume_call.specs.of_exec_call.Call.{IsExecuted}
 use Rattle.check_call.specs.Call.{IsValidated}
 use Rattle.check_call.specs.of_check_claims.of_exec_claims.Answer.{HasCounts, IsReadFor, Runs, TakesPrinted}
 use Rattle.check_call.specs.of_check_claims.of_exec_claims.Cause.{run_of}
@@ -33,7 +33,7 @@ use Rattle.gen_call.specs.of_zpl_compile.Compile.{compiled}
 use Rattle.gen_call.specs.of_list_claims.Whole.{CanList, HasListed}
 use Rattle.gen_call.specs.of_run_claims.Whole.{CanFinish, HasFinished, meant_by}
 use Rattle.resume_call.specs.Call.{HasGoneOn, IsResumed}
-use Rattle.time_call.specs.of_exec_call.of_resume_claims.Whole.{CanResume}
+use Rattle.resume_call.specs.of_exec_call.of_resume_claims.Whole.{CanResume}
 use Rattle.resume_call.proofs.of_resume_claims.SavingLemmas.{tells_cause}
 use Rattle.top_call.specs.Call.{AsksCheck, AsksExec, AsksList, AsksMean, AsksResume, AsksRun, AsksTime}
 use Rattle.top_call.specs.Call.{IsListed, IsRan}

@@ -7,7 +7,7 @@ use Rattle.call_words.specs.Reading.{asked_in, IsRead}
 use Rattle.call_words.specs.declared.commands.Command.{Command}
 use Rattle.call_words.specs.declared.commands.Command.TheVariants as command
 use Rattle.check_call.specs.Call.{IsValidated}
-use Rattle.time_call.specs.of_exec_call.Call.{IsExecuted}
+use Rattle.resume_call.specs.of_exec_call.Call.{IsExecuted}
 use Rattle.gen_call.specs.Call.{IsGenerated}
 use Rattle.mean_call.specs.Call.{IsMeant}
 use Rattle.time_call.specs.Call.{IsTimed}

@@ -5,7 +5,7 @@ use Rattle.call_claims.specs.declared.ran.Ran.{Ran}
 use Rattle.call_words.specs.declared.commands.Command.{Command}
 use Rattle.call_words.specs.declared.commands.Command.TheVariants as command
 use Rattle.check_call.specs.Call.{IsValidated}
-use Rattle.time_call.specs.of_exec_call.Call.{IsExecuted}
+use Rattle.resume_call.specs.of_exec_call.Call.{IsExecuted}
 use Rattle.gen_call.specs.Call.{IsGenerated}
 use Rattle.mean_call.specs.Call.{IsMeant}
 use Rattle.resume_call.specs.Call.{IsResumed}

@@ -23,7 +23,7 @@ use Rattle.gen_call.specs.of_zpl_compile.Compile.{compiled}
 use Rattle.gen_call.specs.of_list_claims.Whole.{CanList, HasListed}
 use Rattle.gen_call.specs.of_run_claims.Whole.{CanFinish, HasFinished, meant_by}
 use Rattle.resume_call.specs.Call.{HasGoneOn}
-use Rattle.time_call.specs.of_exec_call.of_resume_claims.Whole.{CanResume}
+use Rattle.resume_call.specs.of_exec_call.of_resume_claims.Whole.{CanResume}
 use Rattle.check_call.specs.of_check_claims.of_exec_claims.Answer.{HasCounts}
 use Rattle.check_call.specs.of_check_claims.of_exec_claims.Cause.{run_of}
 use Rattle.check_call.specs.of_check_claims.of_exec_claims.Whole.{CanExecute, HasExecuted}

@@ -8,7 +8,7 @@ ghost use Rattle.call_claims.specs.Stream.{stream_of};
 ghost use Rattle.call_claims.specs.declared.status.TheConstants.{USAGE};
 ghost use Rattle.mean_call.specs.of_call_answers.Stops.{CallStopsAtFault};
 ghost use Rattle.check_call.specs.Call.{IsValidated};
-ghost use Rattle.time_call.specs.of_exec_call.Call.{IsExecuted};
+ghost use Rattle.resume_call.specs.of_exec_call.Call.{IsExecuted};
 ghost use Rattle.check_call.specs.of_check_claims.of_exec_claims.declared.status.TheConstants.{STUCK};
 ghost use Rattle.gen_call.specs.Call.{IsGenerated};
 ghost use Rattle.mean_call.specs.Call.{IsMeant};

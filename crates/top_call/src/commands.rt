@@ -18,7 +18,7 @@ use gen_call::generate;
 use mean_call::mean;
 use resume_call::resume;
 use std::alloc::Global;
-use time_call::exec_call::exec;
+use resume_call::exec_call::exec;
 use time_call::time;
 use zpl_io::{Files, Sink};
 

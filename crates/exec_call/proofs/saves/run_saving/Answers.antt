@@ -3,11 +3,11 @@ use Rattle.grid_meaning.specs.Local.{processors}
 use Rattle.call_claims.specs.Call.{call_of}
 use Rattle.call_claims.specs.Command.{limit_of}
 use Rattle.call_words.specs.Reading.{asked_in}
-use Rattle.grid_call.specs.Work.{IsRunOn}
-use Rattle.grid_call.specs.Work.IsCodeWork.{ran}
-use Rattle.grid_call.specs.of_exec_claims.Cause.{run_of}
-use Rattle.grid_call.proofs.of_call_answers.FetchLemmas.{not_fetched}
-use Rattle.grid_call.proofs.WorkLemmas.{run_fetches_none}
+use Rattle.listing_code.specs.of_grid_call.Work.{IsRunOn}
+use Rattle.listing_code.specs.of_grid_call.Work.IsCodeWork.{ran}
+use Rattle.listing_code.specs.of_exec_claims.Cause.{run_of}
+use Rattle.listing_code.proofs.of_call_answers.FetchLemmas.{not_fetched}
+use Rattle.listing_code.proofs.of_grid_call.WorkLemmas.{run_fetches_none}
 use Rattle.exec_call.proofs.SaveLemmas.{answer_unrun, saved_code, turns_few, unrun_other, unsaved_code}
 use Rattle.exec_call.proofs.saves.run_saving.Goals as goal
 

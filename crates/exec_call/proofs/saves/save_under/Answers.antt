@@ -2,10 +2,11 @@ use Rattle.std.proofs.Common.{false, sym, subst}
 use Rattle.grid_meaning.specs.Local.{processors}
 use Rattle.grid_meaning.specs.Order.{IsOrder}
 use Rattle.call_words.specs.Reading.{asked_in}
-use Rattle.grid_call.specs.Work.{IsRunOn}
-use Rattle.grid_call.specs.of_exec_claims.Cause.{run_of}
-use Rattle.grid_call.specs.of_grid_sim.Simulation.{Simulation}
-use Rattle.exec_call.specs.Work.{IsListed, IsSavedRun}
+use Rattle.listing_code.specs.of_grid_call.Work.{IsRunOn}
+use Rattle.listing_code.specs.of_exec_claims.Cause.{run_of}
+use Rattle.listing_code.specs.of_grid_sim.Simulation.{Simulation}
+use Rattle.listing_code.specs.Code.{IsListed}
+use Rattle.exec_call.specs.Work.{IsSavedRun}
 use Rattle.exec_call.proofs.saves.save_under.Goals as goal
 
 pub save_run-requires-clause-listed : goal.save_run-requires-clause-listed

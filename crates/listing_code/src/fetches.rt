@@ -8,7 +8,7 @@ ghost use Rattle.grid_call.specs.of_exec_claims.Answer.{IsListedIn};
 ghost use Rattle.grid_call.specs.of_exec_claims.declared.limits.TheConstants.{MOST_LISTING};
 ghost use Rattle.grid_call.specs.of_call_answers.Answers.{IsUnrun};
 ghost use Rattle.grid_call.specs.of_call_answers.Fetched.{FailsToFetch};
-ghost use Rattle.exec_call.specs.Work.{IsUnlisted, ReadsNone};
+ghost use Rattle.listing_code.specs.Code.{IsUnlisted, ReadsNone};
 
 use grid_call::call_answers::{Answer, text_of_file};
 use grid_call::exec_claims::MOST_LISTING;
