@@ -2,7 +2,7 @@
 --
 --   Asked, AskFor          what the words behind the file ask for
 --   IsWorded, IsCommandOf  words of one command, by its name and by what it takes
---   IsList, IsMean, IsRun, IsExec, IsTime, IsCheck, IsGen
+--   IsList, IsMean, IsRun, IsExec, IsTime, IsCheck, IsResume, IsGen
 --   IsNoCommand            words that are none of these
 --   Asks                   what holds of the file of a command and of what is asked for
 use Rattle.std.specs.Prelude.{◌≡◌, ℕ, Bool, true, false, IsTrue, List, [], ◌∷◌, ◌++◌, codes, Option, Some, None}
@@ -187,11 +187,18 @@ pub record RunTakes (asked : Asked) : Type 0 where
 abbrev pub IsRun : List (List ℕ) → List ℕ → Asked → Type 0
 IsRun = IsCommandOf (codes "run") RunTakes
 
--- ---- exec FILE [order=FILE] [turns=N] [report] [links=C] [checked]
--- Checked code is run over links that hold any number of messages. No call saves grids yet.
+-- ---- exec FILE [order=FILE] [turns=N] [report] [links=C] [checked] [save]
+-- A grid is saved of a run without a report, over links that hold any number of messages, of code
+-- that isn't checked.
+pub record SavesAlone (asked : Asked) : Type 0 where
+  pub no_report : asked.report ≡ false
+  pub no_links : asked.links ≡ None
+  pub no_checked : asked.checked ≡ false
+
+-- Checked code is run over such links too.
 pub record GoTogether (asked : Asked) : Type 0 where
   pub unbounded : IsTrue asked.checked → asked.links ≡ None
-  pub no_save : asked.save ≡ false
+  pub alone : IsTrue asked.save → SavesAlone asked
 
 pub record ExecTakes (asked : Asked) : Type 0 where
   pub together : GoTogether asked
@@ -234,7 +241,7 @@ abbrev pub IsCheck : List (List ℕ) → List ℕ → Asked → Type 0
 IsCheck = IsCommandOf (codes "check") CheckTakes
 
 -- ---- resume FILE [order=FILE] [turns=N] [report]
--- Links hold any number of messages. No call reads saved grids yet: words so worded are no command.
+-- Links hold any number of messages.
 pub record ResumeTakes (asked : Asked) : Type 0 where
   pub no_checked : asked.checked ≡ false
   pub no_save : asked.save ≡ false
@@ -273,6 +280,7 @@ pub record IsNoCommand (words : List (List ℕ)) : Type 0 where
   pub no_exec : IsNoCommandOf (codes "exec") ExecTakes words
   pub no_time : IsNoCommandOf (codes "time") TimeTakes words
   pub no_check : IsNoCommandOf (codes "check") CheckTakes words
+  pub no_resume : IsNoCommandOf (codes "resume") ResumeTakes words
   pub no_gen : (n : ℕ) (asked : Asked) → ¬ IsGen words n asked
 
 -- ---- a call of a command

@@ -11,12 +11,12 @@ use Rattle.call_words.specs.declared.commands.Verb.{Verb}
 use Rattle.call_words.specs.declared.commands.Verb.TheVariants as verb
 
 -- ---- names
--- the command that a name is, found by its first letter
+-- the command that a name is, found by its first letter, and of `run` and `resume` by the second
 abbrev named : List ℕ → Option Verb
 named name =
     let first = get_or name 0 0 in
     if first == 108 then Some verb.List else if first == 109 then Some verb.Mean
-    else if first == 114 then Some verb.Run
+    else if first == 114 then (if get_or name 1 0 == 117 then Some verb.Run else Some verb.Resume)
     else if first == 101 then Some verb.Exec else if first == 116 then Some verb.Time
     else if first == 99 then Some verb.Check else if first == 103 then Some verb.Gen else None
 
@@ -27,6 +27,7 @@ found verb.Run = refl
 found verb.Exec = refl
 found verb.Time = refl
 found verb.Check = refl
+found verb.Resume = refl
 found verb.Gen = refl
 
 one_name : (v w : Verb) → name_of v ≡ name_of w → v ≡ w
@@ -48,6 +49,7 @@ no_command words none = record {
   no_exec = λ file asked is. none verb.Exec file asked is.worded tt is.takes;
   no_time = λ file asked is. none verb.Time file asked is.worded tt is.takes;
   no_check = λ file asked is. none verb.Check file asked is.worded tt is.takes;
+  no_resume = λ file asked is. none verb.Resume file asked is.worded tt is.takes;
   no_gen = λ n asked is. none verb.Gen is.text asked is.worded (n, is.seed) is.takes;
 }
 
@@ -114,6 +116,9 @@ takes_it verb.Time of more c are takes is =
     (record { worded = record { more = more; split = refl; are = are }; takes = takes })
 takes_it verb.Check of more c are takes is =
     subst (IsRead (name_of verb.Check ∷ of.file.now ∷ more)) (sym is)
+    (record { worded = record { more = more; split = refl; are = are }; takes = takes })
+takes_it verb.Resume of more c are takes is =
+    subst (IsRead (name_of verb.Resume ∷ of.file.now ∷ more)) (sym is)
     (record { worded = record { more = more; split = refl; are = are }; takes = takes })
 takes_it verb.Gen of more c are takes is =
     subst (IsRead (name_of verb.Gen ∷ of.file.now ∷ more)) (sym is.2) (record {

@@ -3,9 +3,9 @@ use Rattle.std.specs.Prelude.{◌≡◌, ℕ, List, ◌++◌, codes, map, string
 use Rattle.std.specs.Option.{option_map}
 use Rattle.call_claims.specs.of_zpl_binding.Settings.{Setting}
 use Rattle.call_claims.specs.Command as claims
-use Rattle.call_claims.specs.Command.{IsCheck, IsExec, IsGen, IsList, IsMean, IsRun, IsTime}
+use Rattle.call_claims.specs.Command.{IsCheck, IsExec, IsGen, IsList, IsMean, IsResume, IsRun, IsTime}
 use Rattle.call_claims.specs.Command.{CheckTakes, ExecTakes, GenTakes, ListTakes, MeanTakes}
-use Rattle.call_claims.specs.Command.{RunTakes, TimeTakes}
+use Rattle.call_claims.specs.Command.{ResumeTakes, RunTakes, TimeTakes}
 use Rattle.call_claims.specs.Setting.{settings_among}
 use Rattle.call_claims.specs.Words as words
 use Rattle.call_words.specs.declared.asked.Asked.{Asked}
@@ -62,6 +62,7 @@ name_of verb.Run = codes "run"
 name_of verb.Exec = codes "exec"
 name_of verb.Time = codes "time"
 name_of verb.Check = codes "check"
+name_of verb.Resume = codes "resume"
 name_of verb.Gen = codes "gen"
 
 abbrev pub Takes : Verb → claims.Asked → Type 0
@@ -71,6 +72,7 @@ Takes verb.Run asked = RunTakes asked
 Takes verb.Exec asked = ExecTakes asked
 Takes verb.Time asked = TimeTakes asked
 Takes verb.Check asked = CheckTakes asked
+Takes verb.Resume asked = ResumeTakes asked
 Takes verb.Gen asked = GenTakes asked
 
 -- what the second word of such a command is: the name of a file, whatever it holds; or a number
@@ -86,6 +88,7 @@ IsCommandIn verb.Run of c = c ≡ command.Run of
 IsCommandIn verb.Exec of c = c ≡ command.Exec of
 IsCommandIn verb.Time of c = c ≡ command.Time of
 IsCommandIn verb.Check of c = c ≡ command.Check of
+IsCommandIn verb.Resume of c = c ≡ command.Resume of
 IsCommandIn verb.Gen of c = (n : ℕ) × words.IsSeed of.file.now n
     × (c ≡ command.Gen (record { seed = n; asked = of.asked }))
 
@@ -97,4 +100,5 @@ IsRead words (command.Run of) = IsRun words of.file.now (asked_in of.asked)
 IsRead words (command.Exec of) = IsExec words of.file.now (asked_in of.asked)
 IsRead words (command.Time of) = IsTime words of.file.now (asked_in of.asked)
 IsRead words (command.Check of) = IsCheck words of.file.now (asked_in of.asked)
+IsRead words (command.Resume of) = IsResume words of.file.now (asked_in of.asked)
 IsRead words (command.Gen of) = IsGen words of.seed (asked_in of.asked)

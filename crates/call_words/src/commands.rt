@@ -39,12 +39,15 @@ pub enum Command<'a> {
     /// `run FILE`, then `grid=AxBxC`, `opt=LETTERS`, `order=FILE`, `turns=N`, `report`, `links=C`
     /// and settings.
     Run(FileCommand<'a>),
-    /// `exec FILE`, then `order=FILE`, `turns=N`, `report`, and `links=C` or `checked`.
+    /// `exec FILE`, then `order=FILE`, `turns=N`, `report`, `links=C`, `checked` and `save`:
+    /// `checked` not with `links=C`, and `save` with none of `report`, `links=C` and `checked`.
     Exec(FileCommand<'a>),
     /// `time FILE`, then `order=FILE`, `turns=N` and `latency=L`.
     Time(FileCommand<'a>),
     /// `check FILE`.
     Check(FileCommand<'a>),
+    /// `resume FILE`, then `order=FILE`, `turns=N` and `report`.
+    Resume(FileCommand<'a>),
     /// `gen N`, then `opt=LETTERS` and `turns=N`.
     Gen(GenCommand<'a>),
 }
@@ -58,6 +61,7 @@ enum Verb {
     Exec,
     Time,
     Check,
+    Resume,
     Gen,
 }
 
@@ -124,6 +128,9 @@ fn verb_of(word: &[u8]) -> Option<Verb>
     if word == b"check".as_slice() {
         return Some(Verb::Check);
     }
+    if word == b"resume".as_slice() {
+        return Some(Verb::Resume);
+    }
     if word == b"gen".as_slice() {
         return Some(Verb::Gen);
     }
@@ -175,6 +182,7 @@ fn takes(verb: Verb, asked: Asked<'_>) -> bool
             && asked.order.is_none()
             && !asked.report
             && is_plain(asked),
+        Verb::Resume => is_plain(asked),
         Verb::Gen => {
             asked.order.is_none()
                 && !asked.report
@@ -188,12 +196,13 @@ fn takes(verb: Verb, asked: Asked<'_>) -> bool
     }
 }
 
-/// Whether `checked` stands without `links=C`, and nothing is to be saved.
+/// Whether `checked` stands without `links=C`, and `save` without these and `report`.
 fn go_together(asked: Asked<'_>) -> bool
     ensures { MatchBool result
         (GoTogether (asked_in asked.entry)) (¬ GoTogether (asked_in asked.entry)) }
 {
-    (!asked.checked || asked.links.is_none()) && !asked.save
+    (!asked.checked || asked.links.is_none())
+        && (!asked.save || !asked.report && asked.links.is_none() && !asked.checked)
 }
 
 /// Whether no more is asked for than an order, turns and a report.
@@ -222,6 +231,7 @@ fn command_with<'a>(verb: Verb, of: FileCommand<'a>) -> Option<Command<'a>>
         Verb::Exec => Some(Command::Exec(of)),
         Verb::Time => Some(Command::Time(of)),
         Verb::Check => Some(Command::Check(of)),
+        Verb::Resume => Some(Command::Resume(of)),
         Verb::Gen => match seed_of(of.file.as_bytes()) {
             Some(seed) => Some(Command::Gen(GenCommand {
                 seed,

@@ -7,7 +7,7 @@ use Rattle.node_form.specs.declared.tables.Tables.{Tables}
 use Rattle.call_claims.specs.Call.{Call}
 use Rattle.call_claims.specs.Command.{Asked, IsCheck}
 use Rattle.call_claims.specs.Decided.{IsDecided}
-use Rattle.call_claims.specs.Execution.{HasNoCounts, HasNoRun}
+use Rattle.call_claims.specs.Execution.{HasCode, HasNoCounts, HasNoRun}
 use Rattle.call_claims.specs.Stream.{Stream}
 use Rattle.call_claims.specs.declared.status.TheConstants.{DONE, PUT_FAILED, UNREADABLE}
 use Rattle.check_claims.specs.of_exec_claims.Answer.{IsListedIn}
@@ -20,17 +20,17 @@ use Rattle.check_claims.specs.Answer.{sound_text}
 use Rattle.check_claims.specs.Cause.{Cause, CheckCause, CheckFileCause}
 use Rattle.check_claims.specs.Cause.Cause.{check}
 use Rattle.check_claims.specs.Cause.CheckCause.{fails, sound}
-use Rattle.exec_call.specs.Work.{IsFailed, NoWork, ReadsNone}
-use Rattle.exec_call.specs.of_call_answers.Answers.{status_of, told_of}
-use Rattle.exec_call.specs.of_call_answers.Told.{IsAnswerOf}
-use Rattle.exec_call.specs.of_call_answers.Work.{execution_in, no_counts, ran_of}
-use Rattle.exec_call.specs.of_call_answers.declared.answers.Answer.{Answer}
-use Rattle.exec_call.specs.of_call_answers.declared.answers.Answer.TheVariants as answer
-use Rattle.exec_call.specs.of_call_answers.declared.answers.Stop.TheVariants as stop
-use Rattle.exec_call.specs.of_call_answers.declared.work.Work.{Work}
-use Rattle.exec_call.specs.of_grid_call.Work.{HasNoTurns}
-use Rattle.exec_call.proofs.WorkLemmas.{failed_caused, failed_done, failed_fetches, failed_not_put, with_work}
-use Rattle.exec_call.proofs.of_call_answers.CallLemmas.{not_done, told_done, work_other}
+use Rattle.listing_code.specs.Code.{IsFailed, NoWork, ReadsNone}
+use Rattle.listing_code.specs.of_call_answers.Answers.{status_of, told_of}
+use Rattle.listing_code.specs.of_call_answers.Told.{IsAnswerOf}
+use Rattle.listing_code.specs.of_call_answers.Work.{execution_in, no_counts, ran_of}
+use Rattle.listing_code.specs.of_call_answers.declared.answers.Answer.{Answer}
+use Rattle.listing_code.specs.of_call_answers.declared.answers.Answer.TheVariants as answer
+use Rattle.listing_code.specs.of_call_answers.declared.answers.Stop.TheVariants as stop
+use Rattle.listing_code.specs.of_call_answers.declared.work.Work.{Work}
+use Rattle.listing_code.specs.of_grid_call.Work.{HasNoTurns}
+use Rattle.listing_code.proofs.CodeLemmas.{failed_caused, failed_done, failed_fetches, failed_not_put, with_work}
+use Rattle.listing_code.proofs.of_call_answers.CallLemmas.{not_done, told_done, work_other}
 use Rattle.check_call.specs.Work.{IsCheckWork, IsPutAs, IsWorkOn}
 use Rattle.check_call.specs.Work.IsCheckWork.{cut, failed, told}
 use Rattle.check_call.specs.Work.IsPutAs.{part, wanting, whole}
@@ -168,6 +168,12 @@ module _ (call : Call) (file : List ℕ) (asked : Asked) (work : Work) (before a
   cut_for (read code made none is (cut put checked)) same = tells code is checked
   cut_for (read code made none is (failed why takes)) same =
       absurd (failed_not_put code work.answer why same)
+
+  -- then there is code
+  pub coded_for : IsWorkOn call file work before after → work.answer ≡ answer.PutFailed
+      → HasCode (execution_in work)
+  coded_for (unread none reads nothing) same = absurd (nothing.put same)
+  coded_for (read code made none is checked) same = record { code = code; made = made }
 
   -- one of errs did
   pub none_for : IsWorkOn call file work before after → (status : ℕ) (errs : Stream)

@@ -5,7 +5,7 @@ use Rattle.zpl_io.specs.Sink.{Takes}
 use Rattle.call_claims.specs.declared.ran.Ran.{Ran}
 use Rattle.call_claims.specs.Answer.{IsAnswered, IsHalfAnswered}
 use Rattle.call_claims.specs.Call.{Call}
-use Rattle.call_claims.specs.Execution.{execution_of, HasNoCounts}
+use Rattle.call_claims.specs.Execution.{execution_of, HasCode, HasNoCounts}
 use Rattle.call_claims.specs.Stream.{Stream}
 use Rattle.call_claims.specs.declared.status.TheConstants.{PUT_FAILED}
 use Rattle.check_claims.specs.Answer.{IsReadFor, TakesOutput, TakesSoundFront}
@@ -25,9 +25,10 @@ pub record IsValidated (call : Call) (ran : Ran) (out errs : Stream) : Type 0 wh
   -- When each status comes.
   pub exact : ran.status ≢ PUT_FAILED → IsExact call ran.status
   -- A put failed: one of out, which took a front of that line, and errs took nothing; or one of
-  -- errs. Of sound code nothing is told there, so that out took nothing then.
+  -- errs. Of sound code nothing is told there, so that out took nothing then. The code that was
+  -- checked is in the answer.
   pub put_failed : ran.status ≡ PUT_FAILED
-      → (TakesSoundFront call out.before out.after
+      → (TakesSoundFront call out.before out.after × HasCode (execution_of ran)
       × Rose out.faults out.faults_after × errs.same)
       ⊎ (Takes out.before [] out.after
       × Rose errs.faults errs.faults_after

@@ -9,8 +9,8 @@ ghost use Rattle.call_claims.specs.Command.{IsCheck};
 ghost use Rattle.call_claims.specs.Stream.{stream_of};
 ghost use Rattle.call_claims.specs.declared.status.TheConstants.{UNREADABLE, USAGE};
 ghost use Rattle.call_words.specs.Reading.{asked_in};
-ghost use Rattle.exec_call.specs.of_call_answers.Answers.{status_of};
-ghost use Rattle.exec_call.specs.of_call_answers.Stops.{CallStopsAtFault};
+ghost use Rattle.listing_code.specs.of_call_answers.Answers.{status_of};
+ghost use Rattle.listing_code.specs.of_call_answers.Stops.{CallStopsAtFault};
 ghost use Rattle.check_call.specs.Call.{IsValidated};
 ghost use Rattle.check_call.specs.Work.{IsWorkOn};
 
@@ -18,8 +18,8 @@ use crate::puts::put_check;
 use call_claims::Ran;
 use call_words::FileCommand;
 use check_claims::check_statuses_are_exact;
-use exec_call::call_answers::{Answer, Work, answered};
-use exec_call::fetch_code;
+use listing_code::call_answers::{Answer, Work, answered};
+use listing_code::fetch_code;
 use std::alloc::Global;
 use zpl_io::{Files, Sink};
 

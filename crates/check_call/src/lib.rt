@@ -9,4 +9,3 @@ mod puts;
 
 pub use call::check;
 pub use check_claims;
-pub use exec_call;

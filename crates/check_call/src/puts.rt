@@ -6,8 +6,8 @@ ghost use Rattle.zpl_io.specs.Sink.{StopsAtFault};
 ghost use Rattle.check_claims.specs.Answer.{sound_text};
 ghost use Rattle.check_call.specs.Work.{IsCheckWork, IsPutAs};
 
-use exec_call::call_answers::{Answer, Stop};
-use exec_call::check_code;
+use listing_code::call_answers::{Answer, Stop};
+use listing_code::check_code;
 use itoa::Buffer;
 use node_form::NodeProgram;
 use std::alloc::{AllocError, Global};

@@ -15,14 +15,15 @@ use Rattle.call_claims.specs.declared.status.TheConstants.{DONE, TOO_LONG, TRAPP
 use Rattle.call_claims.specs.declared.status.TheConstants.{TURN_LIMIT, PUT_FAILED}
 use Rattle.call_claims.specs.Command.{Asked, IsExec}
 use Rattle.call_claims.specs.Stream.{Stream}
-use Rattle.grid_call.specs.of_exec_claims.Answer.{IsReadFor, Runs, TakesPrinted}
-use Rattle.grid_call.specs.of_exec_claims.Cause.{Cause, Execs}
-use Rattle.grid_call.specs.of_exec_claims.Decided.{ExecsBadOrder, ExecsChecked, ExecsNoListing}
-use Rattle.grid_call.specs.of_exec_claims.Decided.{ExecsTooLong, IsTooLarge, IsUnsound}
-use Rattle.grid_call.specs.of_exec_claims.Whole.{CanExecute, HasExecuted}
-use Rattle.grid_call.specs.of_exec_claims.Decided.{IsDoneAt, IsStuckOrIdleAt, IsTrapAt, RunsTo}
-use Rattle.grid_call.specs.of_exec_claims.declared.status.TheConstants.{CHECK_LIMIT, LISTING_REFUSED}
-use Rattle.grid_call.specs.of_exec_claims.declared.status.TheConstants.{ORDER_REFUSED, STUCK, UNSOUND}
+use Rattle.listing_code.specs.of_exec_claims.Answer.{IsReadFor, Runs, TakesPrinted}
+use Rattle.listing_code.specs.of_exec_claims.Cause.{Execs}
+use Rattle.listing_code.specs.of_exec_claims.Decided.{ExecsBadOrder, ExecsChecked, ExecsNoListing}
+use Rattle.listing_code.specs.of_exec_claims.Decided.{ExecsTooLong, IsTooLarge, IsUnsound}
+use Rattle.listing_code.specs.of_exec_claims.Whole.{CanExecute, HasExecuted}
+use Rattle.listing_code.specs.of_exec_claims.Decided.{IsDoneAt, IsStuckOrIdleAt, IsTrapAt, RunsTo}
+use Rattle.listing_code.specs.of_exec_claims.declared.status.TheConstants.{CHECK_LIMIT, LISTING_REFUSED}
+use Rattle.listing_code.specs.of_exec_claims.declared.status.TheConstants.{ORDER_REFUSED, STUCK, UNSOUND}
+use Rattle.resume_claims.specs.Saving.{Tells}
 
 -- ---- a put that failed
 -- The code was run, and the stream took what is printed in the given turns and a front of what the
@@ -47,9 +48,9 @@ pub record IsExecuted (call : Call) (ran : Ran) (out errs : Stream) : Type 0 whe
   pub output : ran.status ≢ PUT_FAILED
       → TakesPrinted call ran out.before out.after ran.code
   -- Each status but that of a failed put has its cause, and errs took its text, with the report
-  -- behind it.
+  -- behind it, or the saved grid in the place of both.
   pub cause : ran.status ≢ PUT_FAILED
-      → IsAnswered (Cause call (execution_of ran)) ran.status errs.before errs.after
+      → IsAnswered (Tells call (execution_of ran)) ran.status errs.before errs.after
   -- When statuses come, where no put or fetch failed and memory wasn't wanting.
   pub too_long : IsSettled call ran.status
       → (ran.status ≡ TOO_LONG) ↔ ExecsTooLong call
@@ -81,4 +82,4 @@ pub record IsExecuted (call : Call) (ran : Ran) (out errs : Stream) : Type 0 whe
       × Rose out.faults out.faults_after × errs.same)
       ⊎ (TakesPrinted call ran out.before out.after ran.code
       × Rose errs.faults errs.faults_after
-      × IsHalfAnswered (Cause call (execution_of ran)) errs.before errs.after)
+      × IsHalfAnswered (Tells call (execution_of ran)) errs.before errs.after)

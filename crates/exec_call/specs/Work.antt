@@ -1,52 +1,36 @@
 -- What comes of the work of a call, up to what is told of it.
 --
---   ReadsNone       no code was read, and why
---   IsUnlisted      why a text is no listing
---   IsFailed        why the check of code fails
 --   IsListedWork    what came of the work on listed code
 --   IsWorkOn        what came of the work of a call
-use Rattle.std.specs.Prelude.{◌≡◌, ℕ, IsTrue, List, Some, None, ⊤}
+--   IsSavedRun, IsSavedCode, IsSavedListed   where a grid is saved, of a run, of code, and of a file
+--   IsTextTold      what was told in the place of an answer
+use Rattle.std.specs.Prelude.{◌≡◌, ◌≢◌, ℕ, Bool, true, false, IsTrue, List, MatchOption, Some}
+use Rattle.std.specs.Prelude.{None, Result, Ok, Err}
+use Rattle.zpl_nums.specs.declared.ends.End.{End}
+use Rattle.zpl_io.specs.Faults.{Rose}
+use Rattle.zpl_io.specs.Sink.{Takes, TakesFront}
 use Rattle.node_form.specs.declared.tables.Tables.{Tables}
-use Rattle.grid_call.specs.of_exec_claims.of_node_check.Sound.{IsFaulty}
-use Rattle.grid_call.specs.of_exec_claims.of_node_check.declared.faults.CheckFault.TheVariants.{TooLarge, Unsound}
-use Rattle.listing_lines.specs.Listing.{IsBadLine}
-use Rattle.node_text.specs.Listing.{IsBadTable}
 use Rattle.call_claims.specs.Call.{Call}
-use Rattle.call_claims.specs.Decided.{IsDecided}
-use Rattle.call_claims.specs.Execution.{Execution, HasNoRun}
 use Rattle.call_claims.specs.Command.{Asked}
-use Rattle.grid_call.specs.of_exec_claims.Answer.{IsListedIn}
-use Rattle.grid_call.specs.of_exec_claims.Cause.{CheckFails, ListedCause, PassesCheck}
-use Rattle.grid_call.specs.of_call_answers.Answers.{status_of, told_of}
-use Rattle.grid_call.specs.Work.{HasNoTurns, IsCodeWork}
-use Rattle.grid_call.specs.of_call_answers.declared.answers.Answer.{Answer}
-use Rattle.grid_call.specs.of_call_answers.declared.answers.Answer.TheVariants as answer
-use Rattle.grid_call.specs.of_call_answers.declared.work.Work.{Work}
+use Rattle.call_claims.specs.Stream.{Stream}
+use Rattle.call_claims.specs.declared.status.TheConstants.{PUT_FAILED, TURN_LIMIT}
+use Rattle.grid_runs.specs.Run.{Run, GoesOnTo}
+use Rattle.resume_claims.specs.Saving.{IsSavedAt, SavesRun}
+use Rattle.listing_code.specs.of_exec_claims.Answer.{IsListedIn}
+use Rattle.listing_code.specs.of_exec_claims.Cause.{PassesCheck, run_of}
+use Rattle.listing_code.specs.of_call_answers.Answers.{status_of}
+use Rattle.listing_code.specs.of_grid_call.Work.{HasNoTurns, IsCodeWork, IsOrderOf}
+use Rattle.listing_code.specs.of_call_answers.Work.{execution_in}
+use Rattle.listing_code.specs.of_grid_sim.declared.faults.SimFault.{SimFault}
+use Rattle.listing_code.specs.of_grid_sim.declared.faults.SimFault.TheVariants as fault
+use Rattle.listing_code.specs.Code.{IsFailed, ReadsNone}
+use Rattle.exec_call.specs.declared.telling.Telling.{Telling}
+use Rattle.listing_code.specs.of_call_answers.declared.answers.Stop.TheVariants as stop
+use Rattle.listing_code.specs.of_call_answers.declared.answers.Answer.{Answer}
+use Rattle.listing_code.specs.of_call_answers.declared.answers.Answer.TheVariants as answer
+use Rattle.listing_code.specs.of_call_answers.declared.work.Work.{Work}
 
--- ---- the listing
--- No code was read, and that has its cause, in which there is no work on code.
-abbrev pub NoWork : Tables → ℕ → List ℕ → Type 0
-NoWork code status told = ⊥
-
-abbrev pub ReadsNone : Call → List ℕ → Answer → Type 0
-ReadsNone call file a = IsDecided (status_of a) → (execution : Execution) → HasNoRun execution
-    → ListedCause call file execution NoWork (status_of a) (told_of a)
-
--- the text is no listing, and why
-abbrev pub IsUnlisted : List ℕ → Answer → Type 0
-IsUnlisted text (answer.BadLine line) = IsBadLine text line
-IsUnlisted text (answer.BadTable line) = IsBadTable text line
-IsUnlisted text answer.NoMemory = ⊤
-IsUnlisted text a = ⊥
-
--- ---- the check of its code
--- it fails, and why
-abbrev pub IsFailed : Tables → Answer → Type 0
-IsFailed code (answer.Unsound at) = IsFaulty code (Unsound at)
-IsFailed code answer.CheckLimit = IsFaulty code TooLarge
-IsFailed code answer.NoMemory = ⊤
-IsFailed code a = ⊥
-
+-- ---- the work on listed code
 -- The words ask that the code be sound, and the check of it fails; or it passes, and this came of
 -- the work on it.
 pub data IsListedWork (call : Call) (code : Tables) (asked : Asked) (work : Work)
@@ -65,3 +49,58 @@ pub data IsWorkOn (call : Call) (file : List ℕ) (asked : Asked) (work : Work)
   read : (code : Tables) → work.code ≡ Some code → IsListedIn call file code
       → IsListedWork call code asked work before after
       → IsWorkOn call file asked work before after
+
+-- ---- saved grids
+-- all turns were given, and nothing is reported
+abbrev pub limited : Answer
+limited = answer.Stopped stop.TurnLimit None
+
+-- so it is of a run that had all its turns
+abbrev pub is_limit : Result End SimFault → Bool
+is_limit (Ok ending) = false
+is_limit (Err fault.TurnLimit) = true
+is_limit (Err fault.SinkFailed) = false
+is_limit (Err (fault.Stuck p kind)) = false
+is_limit (Err fault.NoMemory) = false
+
+-- a run had all its turns, and the bytes are its saved grid; or it didn't, or memory was wanting
+pub record SavesGrid (run : Run) (a : Answer) (turns : ℕ) (bytes : List ℕ) : Type 0 where
+  pub limit : a ≡ limited
+  pub saved : IsSavedAt bytes run turns
+
+abbrev pub IsSavedRun : Run → Telling → Type 0
+IsSavedRun run telling =
+    MatchOption telling.text (status_of telling.work.answer ≢ TURN_LIMIT)
+    (λ text. SavesGrid run telling.work.answer telling.work.counts.turns text.items)
+
+-- the code was run under the order that the words ask for, and the bytes are its saved grid
+pub record SavesCode (call : Call) (code : Tables) (asked : Asked) (a : Answer) (turns : ℕ)
+    (bytes : List ℕ) : Type 0 where
+  pub order : List ℕ
+  pub is : IsOrderOf call code asked.order order
+  pub goes_on : GoesOnTo (run_of code asked order) turns
+  pub saves : SavesGrid (run_of code asked order) a turns bytes
+
+abbrev pub IsSavedCode : Call → Tables → Asked → Telling → Type 0
+IsSavedCode call code asked telling =
+    MatchOption telling.text (asked.save ≡ true → status_of telling.work.answer ≢ TURN_LIMIT)
+    (λ text. (asked.save ≡ true)
+    × SavesCode call code asked telling.work.answer telling.work.counts.turns text.items)
+
+-- so of the listed code
+pub record SavesListed (call : Call) (file : List ℕ) (asked : Asked) (work : Work) (bytes : List ℕ)
+    : Type 0 where
+  pub limit : work.answer ≡ limited
+  pub saves : SavesRun call file asked (execution_in work) bytes
+
+abbrev pub IsSavedListed : Call → List ℕ → Asked → Telling → Type 0
+IsSavedListed call file asked telling =
+    MatchOption telling.text (asked.save ≡ true → status_of telling.work.answer ≢ TURN_LIMIT)
+    (λ text. SavesListed call file asked telling.work text.items)
+
+-- ---- what was told in the place of an answer
+-- the bytes, with their status; or a put failed in them
+pub record IsTextTold (wanted : ℕ) (bytes : List ℕ) (status : ℕ) (errs : Stream) : Type 0 where
+  pub done : status ≢ PUT_FAILED → (status ≡ wanted) × Takes errs.before bytes errs.after
+  pub failed : status ≡ PUT_FAILED
+      → TakesFront errs.before bytes errs.after × Rose errs.faults errs.faults_after

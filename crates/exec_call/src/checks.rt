@@ -1,28 +1,14 @@
-//! The check of listed code.
-ghost use Rattle.std.specs.Prelude.{◌≡◌, ℕ, IfErr, IfOk, IsTrue, OnOk};
-ghost use Rattle.grid_call.specs.of_exec_claims.of_node_check.Sound.{IsChecked};
-ghost use Rattle.exec_call.specs.Work.{IsFailed};
+//! The check of listed code, where it is asked for.
+ghost use Rattle.std.specs.Prelude.{ℕ, IfErr, IsTrue, OnOk};
+ghost use Rattle.listing_code.specs.of_exec_claims.of_node_check.Sound.{IsChecked};
+ghost use Rattle.listing_code.specs.Code.{IsFailed};
 
-use grid_call::call_answers::Answer;
-use grid_call::exec_claims::node_check::{CheckFault, validate};
+use listing_code::call_answers::Answer;
+use listing_code::check_code;
 use node_form::NodeProgram;
 use std::alloc::Global;
 
-/// Checks that code is sound, and tells how many messages links have to hold, or answers why the
-/// check fails.
-pub fn check_code<'a>(alloc: Global, code: &NodeProgram) -> Result<u32, Answer<'a>>
-    ensures sound { IfOk result (IsChecked code.now) }
-    ensures fails { IfErr result (IsFailed code.now) }
-{
-    match validate(alloc, code) {
-        Ok(checked) => Ok(checked.links_needed()),
-        Err(CheckFault::Unsound { at }) => Err(Answer::Unsound(at)),
-        Err(CheckFault::TooLarge) => Err(Answer::CheckLimit),
-        Err(CheckFault::NoMemory) => Err(Answer::NoMemory),
-    }
-}
-
-/// The same where it is wanted, and nothing elsewhere.
+/// Checks code where that is wanted, and nothing elsewhere.
 pub(crate) fn check_where_asked<'a>(
     alloc: Global,
     wanted: bool,

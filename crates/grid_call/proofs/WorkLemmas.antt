@@ -98,7 +98,7 @@ unfetched_unrun Tells May limit file answer.NoMemory is = tt
 module _ (words : List (List ℕ)) (tells other : List ℕ → List ℕ → Type 0)
     (fails fail late later : List ℕ → Type 0) (same : SameTexts tells other)
     (kept : (file : List ℕ) → later file → late file) where
-  abbrev source_back : (file : List ℕ) → Source (call_of words other fail later) file
+  abbrev pub source_back : (file : List ℕ) → Source (call_of words other fail later) file
       → Source (call_of words tells fails late) file
   source_back file s =
       record { text = s.text; told = (same file s.text).1 s.told; short = s.short }
@@ -197,7 +197,7 @@ run_counted status call code asked work before after (ran order is run) = inr (r
 
 -- ---- orders
 -- the text of an order isn't too long
-text_few : (call : Call) (named : Option (List ℕ)) (text : List ℕ)
+pub text_few : (call : Call) (named : Option (List ℕ)) (text : List ℕ)
     → IsOrderText call named text → length text ≤ 16777216
 text_few call None text is = subst (λ t. length t ≤ 16777216) (sym is) (omega arith)
 text_few call (Some file) text is = subst (λ t. length t ≤ 16777216) is.1 is.0.short

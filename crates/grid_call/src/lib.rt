@@ -13,3 +13,4 @@ pub use call::{run_code, run_round};
 pub use call_answers;
 pub use call_answers::{exec_claims, grid_sim, row_turn};
 pub use orders::fetch_order;
+pub use runs::{answer_of, report_for};

@@ -96,7 +96,7 @@ fn run_sim<'a, O: Sink>(
 }
 
 /// The answer of a run that ended so.
-fn answer_of<'a>(ended: Result<End, SimFault>, report: Option<Counts>) -> Answer<'a>
+pub fn answer_of<'a>(ended: Result<End, SimFault>, report: Option<Counts>) -> Answer<'a>
     requires { ended ≢ Ok More }
     ensures { result ≡ answer_in ended report }
 {
@@ -112,7 +112,7 @@ fn answer_of<'a>(ended: Result<End, SimFault>, report: Option<Counts>) -> Answer
 }
 
 /// The counts, where a report is wanted.
-fn report_for(wanted: bool, counts: Counts) -> Option<Counts>
+pub fn report_for(wanted: bool, counts: Counts) -> Option<Counts>
     ensures { result ≡ counts_for wanted counts }
 {
     if wanted { Some(counts) } else { None }

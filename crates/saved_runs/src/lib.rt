@@ -6,4 +6,5 @@
 
 mod laws;
 
+pub use grid_save;
 pub use laws::runs_stay_onward;

@@ -11,4 +11,3 @@ mod runs;
 mod tables;
 
 pub use call::time;
-pub use exec_call;

@@ -8,7 +8,7 @@ ghost use Rattle.grid_timetable.specs.Trace.{IsSomeTable};
 ghost use Rattle.time_claims.specs.Answer.{IsTimeText};
 ghost use Rattle.time_call.specs.Work.{IsPutAs};
 
-use exec_call::call_answers::{Answer, Stop};
+use listing_code::call_answers::{Answer, Stop};
 use grid_timetable::Table;
 use std::alloc::{AllocError, Global};
 use time_text::time_text;

@@ -2,12 +2,13 @@
 use Rattle.std.proofs.Common.{◌≡◌, ◌≢◌, ℕ, Bool, List, Option, Some, None, codes, refl, inl, inr, arith}
 use Rattle.node_form.specs.declared.tables.Tables.{Tables}
 use Rattle.zpl_claims.specs.Build.{Build}
+use Rattle.zpl_claims.specs.of_grid_meaning.Grid.{Grid}
 use Rattle.time_call.specs.of_grid_runs.Run.{Run}
 use Rattle.call_claims.specs.Call.{Call}
 use Rattle.call_claims.specs.Cause.FileCause.{unreadable, too_long, work}
 use Rattle.call_claims.specs.Command.{Asked, CheckTakes, ExecTakes, IsCheck}
-use Rattle.call_claims.specs.Command.{IsExec, IsList, IsMean, IsRun, IsTime, ListTakes, MeanTakes}
-use Rattle.call_claims.specs.Command.{RunTakes, TimeTakes, build_of}
+use Rattle.call_claims.specs.Command.{IsExec, IsList, IsMean, IsResume, IsRun, IsTime, ListTakes}
+use Rattle.call_claims.specs.Command.{MeanTakes, ResumeTakes, RunTakes, TimeTakes, build_of}
 use Rattle.call_claims.specs.Execution.{Execution}
 use Rattle.call_claims.specs.declared.status.TheConstants.{UNREADABLE}
 use Rattle.call_claims.proofs.OneLemmas.{of_given}
@@ -30,6 +31,11 @@ use Rattle.check_call.specs.of_check_claims.of_exec_claims.Cause.TextCause.{unre
 use Rattle.time_call.specs.of_time_claims.Cause.{Cause as TimeCall, TimeCause}
 use Rattle.time_call.specs.of_time_claims.Cause.Cause.{no_memory as time_wanting, time}
 use Rattle.time_call.specs.of_time_claims.Cause.TimeCause.{not_run, ran, too_many}
+use Rattle.resume_call.specs.of_exec_call.of_resume_claims.Cause.{Cause as ResumeCall, GridCause, GridFileCause, ResumeCause}
+use Rattle.resume_call.specs.of_exec_call.of_resume_claims.Cause.Cause.{no_memory as resume_wanting, resume}
+use Rattle.resume_call.specs.of_exec_call.of_resume_claims.Cause.GridCause.{bad_item as wrong_item, ran as went_on}
+use Rattle.resume_call.specs.of_exec_call.of_resume_claims.Cause.ResumeCause.{unreadable as no_save, too_long as long_save, work as in_save}
+use Rattle.resume_call.specs.of_exec_call.of_resume_claims.Cause.SavedCause.{refused as no_grid, saved as of_grid}
 use Rattle.gen_call.specs.of_list_claims.Cause.{Cause as ListCall, IsListed, ProgramCause}
 use Rattle.gen_call.specs.of_list_claims.Cause.Cause.{no_memory as list_wanting, list}
 use Rattle.gen_call.specs.of_list_claims.Cause.CodeCause.{faulty, made}
@@ -56,6 +62,11 @@ order_read (run_under order e goes c) = run_read c
 check_read : {code : Tables} {n : ℕ} {told : List ℕ} → CheckFails code n told → n ≢ UNREADABLE
 check_read (unsound at f) = λ h. omega arith
 check_read (too_large f) = λ h. omega arith
+
+grid_read : {code : Tables} {grid : Grid} {asked : Asked} {turns n : ℕ} {text told : List ℕ}
+    → GridCause code grid asked turns text n told → n ≢ UNREADABLE
+grid_read (wrong_item at e z) = λ h. omega arith
+grid_read (went_on order e on) = run_read on.holds.cause
 
 module _ (call : Call) (file : List ℕ) (asked : Asked) (sure : AreSure call file asked) where
   order_file_read : (code : Tables) (turns : ℕ) (named : Option (List ℕ)) → asked.order ≡ named
@@ -116,6 +127,24 @@ module _ (call : Call) (file : List ℕ) (asked : Asked) (sure : AreSure call fi
   time_read ex (ran h) = run_read h.holds.0
   time_read ex (too_many h) = λ e. omega arith
 
+  -- ---- saved grids
+  grid_file_read : (code : Tables) (grid : Grid) (turns : ℕ) (named : Option (List ℕ))
+      → asked.order ≡ named → (n : ℕ) (told : List ℕ)
+      → GridFileCause call code grid asked turns named n told → n ≢ UNREADABLE
+  grid_file_read code grid turns None is n told c = grid_read c
+  grid_file_read code grid turns (Some order) is n told (not_read may ends) =
+      absurd (sure.order_comes order is may)
+  grid_file_read code grid turns (Some order) is n told (long_text long ends) = λ h. omega arith
+  grid_file_read code grid turns (Some order) is n told (in_text source w) = grid_read w
+
+  save_read : (ex : Execution) {n : ℕ} {told : List ℕ} → ResumeCause call file asked ex n told
+      → n ≢ UNREADABLE
+  save_read ex (no_save may none) = absurd (sure.file_comes may)
+  save_read ex (long_save long none) = λ h. omega arith
+  save_read ex (in_save source (no_grid why is none)) = λ h. omega arith
+  save_read ex (in_save source (of_grid code grid is made c)) =
+      grid_file_read code grid ex.turns asked.order refl _ _ c
+
   -- ---- calls
   pub run_call_read : {ex : Execution} {n : ℕ} {told : List ℕ} → IsRun call.words file asked
       → RunCall call ex n told → n ≢ UNREADABLE
@@ -155,3 +184,9 @@ module _ (call : Call) (file : List ℕ) (asked : Asked) (sure : AreSure call fi
   check_call_read given check_wanting = λ h. omega arith
   check_call_read {ex = ex} given (check is) =
       checked_read ex (of_given (codes "check") CheckTakes call.words file asked given is)
+
+  pub resume_call_read : {ex : Execution} {n : ℕ} {told : List ℕ} → IsResume call.words file asked
+      → ResumeCall call ex n told → n ≢ UNREADABLE
+  resume_call_read given resume_wanting = λ h. omega arith
+  resume_call_read {ex = ex} given (resume is) =
+      save_read ex (of_given (codes "resume") ResumeTakes call.words file asked given is)

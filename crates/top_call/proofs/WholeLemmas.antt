@@ -9,7 +9,7 @@ use Rattle.time_call.specs.of_grid_runs.Run.{Run, grid_at, turns_in}
 use Rattle.listing_rows.specs.Listing.{listing_of}
 use Rattle.call_claims.specs.Call.{Call}
 use Rattle.call_claims.specs.Command.{Asked, ExecTakes, IsCheck, IsExec, IsList, IsMean, IsNoCommand}
-use Rattle.call_claims.specs.Command.{IsRun, IsTime, build_of}
+use Rattle.call_claims.specs.Command.{IsResume, IsRun, IsTime, build_of}
 use Rattle.call_claims.specs.Decided.{IsSettled}
 use Rattle.call_claims.specs.Execution.{execution_of, HasNoCounts}
 use Rattle.call_claims.specs.Stream.{Stream}
@@ -23,7 +23,7 @@ use Rattle.mean_call.specs.of_call_answers.Stops.{CallStopsAtFault}
 use Rattle.mean_call.specs.of_mean_claims.Whole.{CanMean}
 use Rattle.mean_call.proofs.of_exec_claims.OneCause.{same_order}
 use Rattle.time_call.specs.Call.{IsTimed}
-use Rattle.time_call.specs.of_exec_call.Call.{IsExecuted}
+use Rattle.resume_call.specs.of_exec_call.Call.{IsExecuted}
 use Rattle.check_call.specs.Call.{IsValidated}
 use Rattle.check_call.specs.of_check_claims.of_exec_claims.Answer.{HasCounts, IsReadFor, Runs, TakesPrinted}
 use Rattle.check_call.specs.of_check_claims.of_exec_claims.Cause.{run_of}
@@ -32,14 +32,17 @@ use Rattle.check_call.specs.of_check_claims.of_exec_claims.Whole.{CanExecute, Ha
 use Rattle.gen_call.specs.of_zpl_compile.Compile.{compiled}
 use Rattle.gen_call.specs.of_list_claims.Whole.{CanList, HasListed}
 use Rattle.gen_call.specs.of_run_claims.Whole.{CanFinish, HasFinished, meant_by}
-use Rattle.top_call.specs.Call.{AsksCheck, AsksExec, AsksList, AsksMean, AsksRun, AsksTime}
+use Rattle.resume_call.specs.Call.{HasGoneOn, IsResumed}
+use Rattle.resume_call.specs.of_exec_call.of_resume_claims.Whole.{CanResume}
+use Rattle.resume_call.proofs.of_resume_claims.SavingLemmas.{tells_cause}
+use Rattle.top_call.specs.Call.{AsksCheck, AsksExec, AsksList, AsksMean, AsksResume, AsksRun, AsksTime}
 use Rattle.top_call.specs.Call.{IsListed, IsRan}
 use Rattle.top_call.specs.Done.{IsDone}
 use Rattle.top_call.specs.Whole.{AreSure, AreThere, HasPrinted, IsWhole, NamesFile, OrNoMemory}
 use Rattle.top_call.specs.Whole.{TellOneText}
 use Rattle.top_call.proofs.FetchLemmas.{check_call_read, exec_call_read, list_call_read}
-use Rattle.top_call.proofs.FetchLemmas.{mean_call_read, run_call_read, time_call_read}
-use Rattle.top_call.proofs.WordLemmas.{AreOne, of_check, of_exec, of_list, of_mean, of_run, of_time}
+use Rattle.top_call.proofs.FetchLemmas.{mean_call_read, resume_call_read, run_call_read, time_call_read}
+use Rattle.top_call.proofs.WordLemmas.{AreOne, of_check, of_exec, of_list, of_mean, of_resume, of_run, of_time}
 
 -- ---- sinks
 -- where no put of either sink was the last one and failed, none failed
@@ -114,7 +117,8 @@ module _ (call : Call) (ran : Ran) (out errs : Stream) {failed : Type 0} (file :
   exec_settled : IsExecuted call ran out errs → IsExec call.words file asked
       → OrNoMemory ran.status (IsSettled call ran.status)
   exec_settled is given =
-      settled_or (λ sure. exec_call_read call file asked sure given (is.cause put).cause)
+      settled_or (λ sure. exec_call_read call file asked sure given
+      (tells_cause call (execution_of ran) (is.cause put).cause).1)
 
   module _ (can : CanExecute call file asked) (given : IsExec call.words file asked) where
     abbrev the_run : Run
@@ -197,6 +201,19 @@ module _ (call : Call) (ran : Ran) (out errs : Stream) {failed : Type 0} (file :
   check_settled is given =
       settled_or (λ sure. check_call_read call file asked sure given (is.cause put).cause)
 
+  -- ---- resume
+  resume_settled : IsResumed call ran out errs → IsResume call.words file asked
+      → OrNoMemory ran.status (IsSettled call ran.status)
+  resume_settled is given =
+      settled_or (λ sure. resume_call_read call file asked sure given (is.cause put).cause)
+
+  resume_whole : IsResumed call ran out errs → IsResume call.words file asked
+      → (can : CanResume call file asked)
+      → OrNoMemory ran.status ((told : List ℕ) × HasGoneOn can ran told out.before out.after)
+  resume_whole is given can =
+      or_so (resume_settled is given) (λ settled.
+      let f = is.finished settled file asked given can in (f.0, f.2))
+
 -- ---- any call
 -- what is said of the commands of files
 pub record AreSaid (call : Call) (ran : Ran) (out errs : Stream) : Type 0 where
@@ -206,6 +223,7 @@ pub record AreSaid (call : Call) (ran : Ran) (out errs : Stream) : Type 0 where
   pub exec : AsksExec call.words → IsExecuted call ran out errs
   pub time : AsksTime call.words → IsTimed call ran out errs
   pub check : AsksCheck call.words → IsValidated call ran out errs
+  pub resume : AsksResume call.words → IsResumed call ran out errs
 
 module _ (call : Call) (ran : Ran) (out errs : Stream) (failed : Type 0)
     (said : AreSaid call ran out errs) (put : ran.status ≢ PUT_FAILED)
@@ -222,8 +240,10 @@ module _ (call : Call) (ran : Ran) (out errs : Stream) (failed : Type 0)
       exec_settled call ran out errs file asked there put rises (said.exec (file, asked, g)) g
   settles file asked (inr (inr (inr (inr (inl g))))) there =
       time_settled call ran out errs file asked there put rises (said.time (file, asked, g)) g
-  settles file asked (inr (inr (inr (inr (inr g))))) there =
+  settles file asked (inr (inr (inr (inr (inr (inl g)))))) there =
       check_settled call ran out errs file asked there put rises (said.check (file, asked, g)) g
+  settles file asked (inr (inr (inr (inr (inr (inr g)))))) there =
+      resume_settled call ran out errs file asked there put rises (said.resume (file, asked, g)) g
 
   whole : IsWhole call ran failed out.before out.after
   whole = record {
@@ -236,6 +256,8 @@ module _ (call : Call) (ran : Ran) (out errs : Stream) (failed : Type 0)
         (said.mean (file, asked, given)) given can;
     exec = λ file asked given there can. exec_whole call ran out errs file asked there put rises
         can given (said.exec (file, asked, given));
+    resume = λ file asked given there can. resume_whole call ran out errs file asked there put rises
+        (said.resume (file, asked, given)) given can;
     gen = λ n asked given. elim (cases_eq ran.status NO_MEMORY) [
       | inl wanting ↦ inl wanting
       | inr other ↦ inr (record { put = put; memory = other })
@@ -253,6 +275,7 @@ whole_of one call ran out errs failed c is done put rises = whole call ran out e
   exec = λ asks. of_exec one call.words call ran out errs c is asks done;
   time = λ asks. of_time one call.words call ran out errs c is asks done;
   check = λ asks. of_check one call.words call ran out errs c is asks done;
+  resume = λ asks. of_resume one call.words call ran out errs c is asks done;
 }) put rises
 
 -- words that are no command name no file
@@ -263,7 +286,8 @@ none_named none file asked (inr (inl g)) = none.no_list file asked g
 none_named none file asked (inr (inr (inl g))) = none.no_mean file asked g
 none_named none file asked (inr (inr (inr (inl g)))) = none.no_exec file asked g
 none_named none file asked (inr (inr (inr (inr (inl g))))) = none.no_time file asked g
-none_named none file asked (inr (inr (inr (inr (inr g))))) = none.no_check file asked g
+none_named none file asked (inr (inr (inr (inr (inr (inl g)))))) = none.no_check file asked g
+none_named none file asked (inr (inr (inr (inr (inr (inr g)))))) = none.no_resume file asked g
 
 pub none_whole : (call : Call) (ran : Ran) (failed : Type 0) (before after : List ℕ → Type 0)
     → IsNoCommand call.words → IsWhole call ran failed before after
@@ -273,5 +297,6 @@ none_whole call ran failed before after none = record {
   list = λ file asked given. absurd (none.no_list file asked given);
   mean = λ file asked given. absurd (none.no_mean file asked given);
   exec = λ file asked given. absurd (none.no_exec file asked given);
+  resume = λ file asked given. absurd (none.no_resume file asked given);
   gen = λ n asked given. absurd (none.no_gen n asked given);
 }

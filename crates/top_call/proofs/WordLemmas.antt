@@ -7,11 +7,12 @@ use Rattle.call_words.specs.Reading.{asked_in, IsRead}
 use Rattle.call_words.specs.declared.commands.Command.{Command}
 use Rattle.call_words.specs.declared.commands.Command.TheVariants as command
 use Rattle.check_call.specs.Call.{IsValidated}
-use Rattle.time_call.specs.of_exec_call.Call.{IsExecuted}
+use Rattle.resume_call.specs.of_exec_call.Call.{IsExecuted}
 use Rattle.gen_call.specs.Call.{IsGenerated}
 use Rattle.mean_call.specs.Call.{IsMeant}
 use Rattle.time_call.specs.Call.{IsTimed}
-use Rattle.top_call.specs.Call.{AsksCheck, AsksExec, AsksGen, AsksList, AsksMean, AsksRun, AsksTime}
+use Rattle.resume_call.specs.Call.{IsResumed}
+use Rattle.top_call.specs.Call.{AsksCheck, AsksExec, AsksGen, AsksList, AsksMean, AsksResume, AsksRun, AsksTime}
 use Rattle.top_call.specs.Call.{IsListed, IsRan}
 use Rattle.top_call.specs.Done.{IsDone}
 use Rattle.call_claims.specs.Command.{Asked, IsNoCommand, IsWorded}
@@ -30,6 +31,7 @@ name_in (command.Run of) = codes "run"
 name_in (command.Exec of) = codes "exec"
 name_in (command.Time of) = codes "time"
 name_in (command.Check of) = codes "check"
+name_in (command.Resume of) = codes "resume"
 name_in (command.Gen of) = codes "gen"
 
 -- the first two letters of a name, as a number
@@ -50,6 +52,7 @@ module _ (one : AreOne) (words : List (List ℕ)) where
   read_named (command.Exec of) is = record { second = _; asked = _; worded = is.worded }
   read_named (command.Time of) is = record { second = _; asked = _; worded = is.worded }
   read_named (command.Check of) is = record { second = _; asked = _; worded = is.worded }
+  read_named (command.Resume of) is = record { second = _; asked = _; worded = is.worded }
   read_named (command.Gen of) is = record { second = _; asked = _; worded = is.worded }
 
   -- they are no command of another name: names differ by their first two letters
@@ -79,6 +82,9 @@ module _ (one : AreOne) (words : List (List ℕ)) where
   of_list call ran out errs (command.Check of) is asks done =
       absurd (other_named (codes "list") (record { second = _; asked = _; worded = asks.2.worded })
       (command.Check of) is (λ e. omega (arith, e)))
+  of_list call ran out errs (command.Resume of) is asks done =
+      absurd (other_named (codes "list") (record { second = _; asked = _; worded = asks.2.worded })
+      (command.Resume of) is (λ e. omega (arith, e)))
   of_list call ran out errs (command.Gen of) is asks done =
       absurd (other_named (codes "list") (record { second = _; asked = _; worded = asks.2.worded })
       (command.Gen of) is (λ e. omega (arith, e)))
@@ -101,6 +107,9 @@ module _ (one : AreOne) (words : List (List ℕ)) where
   of_mean call ran out errs (command.Check of) is asks done =
       absurd (other_named (codes "mean") (record { second = _; asked = _; worded = asks.2.worded })
       (command.Check of) is (λ e. omega (arith, e)))
+  of_mean call ran out errs (command.Resume of) is asks done =
+      absurd (other_named (codes "mean") (record { second = _; asked = _; worded = asks.2.worded })
+      (command.Resume of) is (λ e. omega (arith, e)))
   of_mean call ran out errs (command.Gen of) is asks done =
       absurd (other_named (codes "mean") (record { second = _; asked = _; worded = asks.2.worded })
       (command.Gen of) is (λ e. omega (arith, e)))
@@ -123,6 +132,9 @@ module _ (one : AreOne) (words : List (List ℕ)) where
   of_run call ran out errs (command.Check of) is asks done =
       absurd (other_named (codes "run") (record { second = _; asked = _; worded = asks.2.worded })
       (command.Check of) is (λ e. omega (arith, e)))
+  of_run call ran out errs (command.Resume of) is asks done =
+      absurd (other_named (codes "run") (record { second = _; asked = _; worded = asks.2.worded })
+      (command.Resume of) is (λ e. omega (arith, e)))
   of_run call ran out errs (command.Gen of) is asks done =
       absurd (other_named (codes "run") (record { second = _; asked = _; worded = asks.2.worded })
       (command.Gen of) is (λ e. omega (arith, e)))
@@ -145,6 +157,9 @@ module _ (one : AreOne) (words : List (List ℕ)) where
   of_exec call ran out errs (command.Check of) is asks done =
       absurd (other_named (codes "exec") (record { second = _; asked = _; worded = asks.2.worded })
       (command.Check of) is (λ e. omega (arith, e)))
+  of_exec call ran out errs (command.Resume of) is asks done =
+      absurd (other_named (codes "exec") (record { second = _; asked = _; worded = asks.2.worded })
+      (command.Resume of) is (λ e. omega (arith, e)))
   of_exec call ran out errs (command.Gen of) is asks done =
       absurd (other_named (codes "exec") (record { second = _; asked = _; worded = asks.2.worded })
       (command.Gen of) is (λ e. omega (arith, e)))
@@ -167,6 +182,9 @@ module _ (one : AreOne) (words : List (List ℕ)) where
   of_time call ran out errs (command.Check of) is asks done =
       absurd (other_named (codes "time") (record { second = _; asked = _; worded = asks.2.worded })
       (command.Check of) is (λ e. omega (arith, e)))
+  of_time call ran out errs (command.Resume of) is asks done =
+      absurd (other_named (codes "time") (record { second = _; asked = _; worded = asks.2.worded })
+      (command.Resume of) is (λ e. omega (arith, e)))
   of_time call ran out errs (command.Gen of) is asks done =
       absurd (other_named (codes "time") (record { second = _; asked = _; worded = asks.2.worded })
       (command.Gen of) is (λ e. omega (arith, e)))
@@ -189,8 +207,36 @@ module _ (one : AreOne) (words : List (List ℕ)) where
       absurd (other_named (codes "check") (record { second = _; asked = _; worded = asks.2.worded })
       (command.Time of) is (λ e. omega (arith, e)))
   of_check call ran out errs (command.Check of) is asks done = done
+  of_check call ran out errs (command.Resume of) is asks done =
+      absurd (other_named (codes "check") (record { second = _; asked = _; worded = asks.2.worded })
+      (command.Resume of) is (λ e. omega (arith, e)))
   of_check call ran out errs (command.Gen of) is asks done =
       absurd (other_named (codes "check") (record { second = _; asked = _; worded = asks.2.worded })
+      (command.Gen of) is (λ e. omega (arith, e)))
+
+  pub of_resume : (call : Call) (ran : Ran) (out errs : Stream) (c : Command) → IsRead words c
+      → AsksResume words → IsDone c call ran out errs → IsResumed call ran out errs
+  of_resume call ran out errs (command.List of) is asks done =
+      absurd (other_named (codes "resume") (record { second = _; asked = _; worded = asks.2.worded })
+      (command.List of) is (λ e. omega (arith, e)))
+  of_resume call ran out errs (command.Mean of) is asks done =
+      absurd (other_named (codes "resume") (record { second = _; asked = _; worded = asks.2.worded })
+      (command.Mean of) is (λ e. omega (arith, e)))
+  of_resume call ran out errs (command.Run of) is asks done =
+      absurd (other_named (codes "resume") (record { second = _; asked = _; worded = asks.2.worded })
+      (command.Run of) is (λ e. omega (arith, e)))
+  of_resume call ran out errs (command.Exec of) is asks done =
+      absurd (other_named (codes "resume") (record { second = _; asked = _; worded = asks.2.worded })
+      (command.Exec of) is (λ e. omega (arith, e)))
+  of_resume call ran out errs (command.Time of) is asks done =
+      absurd (other_named (codes "resume") (record { second = _; asked = _; worded = asks.2.worded })
+      (command.Time of) is (λ e. omega (arith, e)))
+  of_resume call ran out errs (command.Check of) is asks done =
+      absurd (other_named (codes "resume") (record { second = _; asked = _; worded = asks.2.worded })
+      (command.Check of) is (λ e. omega (arith, e)))
+  of_resume call ran out errs (command.Resume of) is asks done = done
+  of_resume call ran out errs (command.Gen of) is asks done =
+      absurd (other_named (codes "resume") (record { second = _; asked = _; worded = asks.2.worded })
       (command.Gen of) is (λ e. omega (arith, e)))
 
   pub of_gen : (call : Call) (ran : Ran) (out errs : Stream) (c : Command) → IsRead words c
@@ -213,6 +259,9 @@ module _ (one : AreOne) (words : List (List ℕ)) where
   of_gen call ran out errs (command.Check of) is asks done =
       absurd (other_named (codes "gen") (record { second = _; asked = _; worded = asks.2.worded })
       (command.Check of) is (λ e. omega (arith, e)))
+  of_gen call ran out errs (command.Resume of) is asks done =
+      absurd (other_named (codes "gen") (record { second = _; asked = _; worded = asks.2.worded })
+      (command.Resume of) is (λ e. omega (arith, e)))
   of_gen call ran out errs (command.Gen of) is asks done = done
 
   -- words that are a command aren't none
@@ -223,4 +272,5 @@ module _ (one : AreOne) (words : List (List ℕ)) where
   is_some (command.Exec of) is none = none.no_exec of.file.now (asked_in of.asked) is
   is_some (command.Time of) is none = none.no_time of.file.now (asked_in of.asked) is
   is_some (command.Check of) is none = none.no_check of.file.now (asked_in of.asked) is
+  is_some (command.Resume of) is none = none.no_resume of.file.now (asked_in of.asked) is
   is_some (command.Gen of) is none = none.no_gen of.seed (asked_in of.asked) is

@@ -1,7 +1,7 @@
 -- What is said of a call of `run` and of `list`, and of words that are no command; and which words
 -- are which command. Of `exec` it is said by `IsExecuted` of `exec_call`, of `mean` by `IsMeant` of
 -- `mean_call`, of `time` by `IsTimed` of `time_call`, of `check` by `IsValidated` of `check_call`, of
--- `gen` by `IsGenerated` of `gen_call`.
+-- `resume` by `IsResumed` of `resume_call`, of `gen` by `IsGenerated` of `gen_call`.
 use Rattle.std.specs.Prelude.{◌≡◌, ◌≢◌, ◌⊎◌, ℕ, IsTrue, List, [], IfSome, MatchOption, None}
 use Rattle.zpl_io.specs.Faults.{Rose}
 use Rattle.zpl_io.specs.Sink.{Takes, TakesFront}
@@ -9,8 +9,8 @@ use Rattle.call_claims.specs.declared.ran.Ran.{Ran}
 use Rattle.call_claims.specs.Answer.{IsAnswered, IsHalfAnswered}
 use Rattle.call_claims.specs.Call.{Call}
 use Rattle.gen_call.specs.of_list_claims.Cause.{Cause, Lists}
-use Rattle.call_claims.specs.Command.{Asked, IsCheck, IsExec, IsGen, IsList, IsMean, IsRun, IsTime}
-use Rattle.call_claims.specs.Command.{build_of}
+use Rattle.call_claims.specs.Command.{Asked, IsCheck, IsExec, IsGen, IsList, IsMean, IsResume}
+use Rattle.call_claims.specs.Command.{IsRun, IsTime, build_of}
 use Rattle.call_claims.specs.Decided.{IsSettled}
 use Rattle.gen_call.specs.of_list_claims.Decided.{IsExact}
 use Rattle.gen_call.specs.of_list_claims.Whole.{CanList, HasListed}
@@ -50,6 +50,9 @@ AsksTime words = (file : List ℕ) × (asked : Asked) × IsTime words file asked
 
 abbrev pub AsksCheck : List (List ℕ) → Type 0
 AsksCheck words = (file : List ℕ) × (asked : Asked) × IsCheck words file asked
+
+abbrev pub AsksResume : List (List ℕ) → Type 0
+AsksResume words = (file : List ℕ) × (asked : Asked) × IsResume words file asked
 
 abbrev pub AsksGen : List (List ℕ) → Type 0
 AsksGen words = (n : ℕ) × (asked : Asked) × IsGen words n asked

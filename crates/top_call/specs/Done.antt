@@ -5,9 +5,10 @@ use Rattle.call_claims.specs.declared.ran.Ran.{Ran}
 use Rattle.call_words.specs.declared.commands.Command.{Command}
 use Rattle.call_words.specs.declared.commands.Command.TheVariants as command
 use Rattle.check_call.specs.Call.{IsValidated}
-use Rattle.time_call.specs.of_exec_call.Call.{IsExecuted}
+use Rattle.resume_call.specs.of_exec_call.Call.{IsExecuted}
 use Rattle.gen_call.specs.Call.{IsGenerated}
 use Rattle.mean_call.specs.Call.{IsMeant}
+use Rattle.resume_call.specs.Call.{IsResumed}
 use Rattle.time_call.specs.Call.{IsTimed}
 use Rattle.top_call.specs.Call.{IsListed, IsRan}
 
@@ -18,4 +19,5 @@ IsDone (command.Run of) call ran out errs = IsRan call ran out errs
 IsDone (command.Exec of) call ran out errs = IsExecuted call ran out errs
 IsDone (command.Time of) call ran out errs = IsTimed call ran out errs
 IsDone (command.Check of) call ran out errs = IsValidated call ran out errs
+IsDone (command.Resume of) call ran out errs = IsResumed call ran out errs
 IsDone (command.Gen of) call ran out errs = IsGenerated call.words ran out errs

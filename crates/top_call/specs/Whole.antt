@@ -13,8 +13,8 @@ use Rattle.zpl_io.specs.Sink.{Takes}
 use Rattle.call_claims.specs.declared.ran.Ran.{Ran}
 use Rattle.call_claims.specs.declared.status.TheConstants.{NO_MEMORY}
 use Rattle.call_claims.specs.Call.{Call}
-use Rattle.call_claims.specs.Command.{Asked, IsCheck, IsExec, IsGen, IsList, IsMean, IsRun}
-use Rattle.call_claims.specs.Command.{IsTime, build_of}
+use Rattle.call_claims.specs.Command.{Asked, IsCheck, IsExec, IsGen, IsList, IsMean, IsResume}
+use Rattle.call_claims.specs.Command.{IsRun, IsTime, build_of}
 use Rattle.call_claims.specs.Decided.{IsDecided, IsSettled}
 use Rattle.call_claims.specs.Execution.{execution_of}
 use Rattle.time_call.specs.of_grid_runs.Run.{grid_at}
@@ -24,6 +24,8 @@ use Rattle.mean_call.specs.of_mean_claims.Whole.{CanMean}
 use Rattle.gen_call.specs.of_zpl_compile.Compile.{compiled}
 use Rattle.gen_call.specs.of_list_claims.Whole.{CanList, HasListed}
 use Rattle.gen_call.specs.of_run_claims.Whole.{CanFinish, HasFinished, meant_by}
+use Rattle.resume_call.specs.Call.{HasGoneOn}
+use Rattle.resume_call.specs.of_exec_call.of_resume_claims.Whole.{CanResume}
 use Rattle.check_call.specs.of_check_claims.of_exec_claims.Answer.{HasCounts}
 use Rattle.check_call.specs.of_check_claims.of_exec_claims.Cause.{run_of}
 use Rattle.check_call.specs.of_check_claims.of_exec_claims.Whole.{CanExecute, HasExecuted}
@@ -35,7 +37,8 @@ NamesFile words file asked = IsRun words file asked
     ⊎ (IsMean words file asked
     ⊎ (IsExec words file asked
     ⊎ (IsTime words file asked
-    ⊎ IsCheck words file asked))))
+    ⊎ (IsCheck words file asked
+    ⊎ IsResume words file asked)))))
 
 -- ---- files
 -- they tell at most one text under each name
@@ -98,6 +101,11 @@ pub record IsWhole (call : Call) (ran : Ran) (failed : Type 0) (before after : L
   pub exec : (file : List ℕ) (asked : Asked) → IsExec call.words file asked
       → AreThere call failed file asked → (can : CanExecute call file asked)
       → OrNoMemory ran.status (HasPrinted can ran before after)
+  -- `resume` of a saved grid, under an order of its processors: out took what its run prints from
+  -- there on, and the status is that of what came of it.
+  pub resume : (file : List ℕ) (asked : Asked) → IsResume call.words file asked
+      → AreThere call failed file asked → (can : CanResume call file asked)
+      → OrNoMemory ran.status ((told : List ℕ) × HasGoneOn can ran told before after)
   -- `gen`: no put failed, so that each status comes just where its own cause is.
   pub gen : (n : ℕ) (asked : Asked) → IsGen call.words n asked
       → OrNoMemory ran.status (IsDecided ran.status)

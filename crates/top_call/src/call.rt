@@ -1,5 +1,5 @@
 //! The call that the program makes.
-ghost use Rattle.std.specs.Prelude.{◌≡◌, ◌≢◌, map, string_bytes};
+ghost use Rattle.std.specs.Prelude.{◌≡◌, ◌≢◌, ℕ, List, map, string_bytes};
 ghost use Rattle.zpl_io.specs.Faults.{Rose};
 ghost use Rattle.zpl_io.specs.Files.{SameTexts};
 ghost use Rattle.call_claims.specs.Answer.{CountsFetches, CountsPuts};
@@ -9,14 +9,16 @@ ghost use Rattle.call_claims.specs.Stream.{stream_of};
 ghost use Rattle.call_claims.specs.declared.status.TheConstants.{USAGE};
 ghost use Rattle.mean_call.specs.of_call_answers.Stops.{CallStopsAtFault};
 ghost use Rattle.check_call.specs.Call.{IsValidated};
-ghost use Rattle.time_call.specs.of_exec_call.Call.{IsExecuted};
+ghost use Rattle.resume_call.specs.of_exec_call.Call.{IsExecuted};
 ghost use Rattle.check_call.specs.of_check_claims.of_exec_claims.declared.status.TheConstants.{STUCK};
 ghost use Rattle.gen_call.specs.Call.{IsGenerated};
 ghost use Rattle.mean_call.specs.Call.{IsMeant};
 ghost use Rattle.time_call.specs.Call.{IsTimed};
-ghost use Rattle.top_call.specs.Call.{AsksCheck, AsksChecked};
-ghost use Rattle.top_call.specs.Call.{AsksExec, AsksGen, AsksList, AsksMean, AsksRun};
-ghost use Rattle.top_call.specs.Call.{AsksTime};
+ghost use Rattle.resume_call.specs.Call.{IsResumed};
+ghost use Rattle.resume_call.specs.Parts.{CompletesRun};
+ghost use Rattle.call_claims.specs.declared.ran.Ran.{Ran as Answered};
+ghost use Rattle.top_call.specs.Call.{AsksCheck, AsksChecked, AsksExec, AsksGen, AsksList};
+ghost use Rattle.top_call.specs.Call.{AsksMean, AsksResume, AsksRun, AsksTime};
 ghost use Rattle.top_call.specs.Call.{IsListed, IsRan, IsUnknown};
 ghost use Rattle.top_call.specs.Whole.{IsWhole};
 
@@ -25,12 +27,13 @@ use call_claims::{Ran, commands_are_one};
 use call_words::command_of;
 use check_call::check_claims::checked_calls_are_never_stuck;
 use mean_call::call_answers::{Answer, Work, answered};
+use resume_call::parts_are_one_run;
 use std::alloc::Global;
 use zpl_io::{Files, Sink};
 
 /// Does what the words ask for: what the program prints, its listing, the time of its run, that its
 /// code is sound, or the lines of runs of a drawn program go to `out`, and what is told of the
-/// answer to `errs`.
+/// answer, or a saved grid, to `errs`.
 ///
 /// The status has its cause. After a failed put nothing more is put on either sink.
 pub fn zplgrid<F: Files, O: Sink, E: Sink>(
@@ -99,6 +102,30 @@ pub fn zplgrid<F: Files, O: Sink, E: Sink>(
         (stream_of (E.tells errs.old) (E.tells errs.new) (E.faults errs.old) (E.faults errs.new)
         (errs.new ≡ errs.old)) }
 
+    // `resume`: what grid is read, how its run goes on, and why the status is what it is.
+    ensures resume { let call = call_of (map string_bytes words.now) (F.tells files.old)
+        (F.may_fail files.old) (F.may_fail_later files.old) in
+        AsksResume call.words → IsResumed call result
+        (stream_of (O.tells out.old) (O.tells out.new) (O.faults out.old) (O.faults out.new)
+        (out.new ≡ out.old))
+        (stream_of (E.tells errs.old) (E.tells errs.new) (E.faults errs.old) (E.faults errs.new)
+        (errs.new ≡ errs.old)) }
+
+    // `resume` of what an earlier call of `exec` told: both come to what one run comes to.
+    ensures parts { (earlier : F) (asking : List (List ℕ)) (ran : Answered) (put put_then : O)
+        (told told_then : E) → CompletesRun (call_of asking (F.tells earlier)
+        (F.may_fail earlier) (F.may_fail_later earlier)) ran
+        (stream_of (O.tells put) (O.tells put_then) (O.faults put) (O.faults put_then)
+        (put_then ≡ put))
+        (stream_of (E.tells told) (E.tells told_then) (E.faults told) (E.faults told_then)
+        (told_then ≡ told))
+        (call_of (map string_bytes words.now) (F.tells files.old) (F.may_fail files.old)
+        (F.may_fail_later files.old)) result
+        (stream_of (O.tells out.old) (O.tells out.new) (O.faults out.old) (O.faults out.new)
+        (out.new ≡ out.old))
+        (stream_of (E.tells errs.old) (E.tells errs.new) (E.faults errs.old) (E.faults errs.new)
+        (errs.new ≡ errs.old)) }
+
     // `gen`: what program is drawn and run on which grids, what it printed there, and why the
     // status is what it is.
     ensures generated { AsksGen (map string_bytes words.now) →
@@ -137,6 +164,7 @@ pub fn zplgrid<F: Files, O: Sink, E: Sink>(
 {
     commands_are_one();
     checked_calls_are_never_stuck::<F>();
+    parts_are_one_run::<F, O, E>();
     match command_of(words) {
         Some(command) => perform(alloc, command, files, out, errs),
         None => answered(alloc, Work::without_turns(None, Answer::Usage), errs),

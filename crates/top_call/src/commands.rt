@@ -16,8 +16,9 @@ use call_words::Command;
 use check_call::check;
 use gen_call::generate;
 use mean_call::mean;
+use resume_call::resume;
 use std::alloc::Global;
-use time_call::exec_call::exec;
+use resume_call::exec_call::exec;
 use time_call::time;
 use zpl_io::{Files, Sink};
 
@@ -58,6 +59,7 @@ pub fn perform<F: Files, O: Sink, E: Sink>(
         Command::Exec(of) => exec(alloc, of, files, out, errs),
         Command::Time(of) => time(alloc, of, files, out, errs),
         Command::Check(of) => check(alloc, of, files, out, errs),
+        Command::Resume(of) => resume(alloc, of, files, out, errs),
         Command::Gen(of) => generate(alloc, of, out, errs),
     }
 }

@@ -16,4 +16,4 @@ mod stages;
 mod turns;
 
 pub use call::trace;
-pub use exec_call::call_answers;
+pub use listing_code::call_answers;

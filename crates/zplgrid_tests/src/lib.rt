@@ -24,6 +24,8 @@ mod orders;
 #[cfg(test)]
 mod rows;
 #[cfg(test)]
+mod saves;
+#[cfg(test)]
 mod settings;
 #[cfg(test)]
 mod sizes;

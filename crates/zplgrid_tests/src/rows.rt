@@ -10,6 +10,9 @@ pub const USAGE: &str = "usage: zplgrid run|mean|list|exec|gen WORD [words]\n";
 /// A number that no call of a file or a sink has.
 pub const NEVER: u64 = 1_000_000;
 
+/// How many bytes each sink takes.
+const ROOM: u64 = 65_536;
+
 /// The words of a call, the texts of the files `a` and `o`, and the numbers of a fetch, a put of
 /// out and a put of errs that fail.
 #[derive(Clone, Copy)]
@@ -58,8 +61,8 @@ pub fn answer_to(alloc: Global, call: Call<'_>) -> Result<Answer, AllocError> {
     let mut files = MemFiles::new(alloc);
     files.add(alloc, "a", call.text)?;
     files.add(alloc, "o", call.order.as_bytes())?;
-    let mut out = MemSink::new(alloc, 400)?;
-    let mut errs = MemSink::new(alloc, 100)?;
+    let mut out = MemSink::new(alloc, ROOM)?;
+    let mut errs = MemSink::new(alloc, ROOM)?;
     let [fetch, put, told] = call.fails;
     files.fail_at(alloc, fetch)?;
     out.fail_at(alloc, put)?;

@@ -2,16 +2,16 @@ use Rattle.std.proofs.Common.{◌≡◌, inl, inr, sym, subst, arith}
 use Rattle.call_claims.specs.Call.{call_of}
 use Rattle.call_claims.specs.Stream.{stream_of}
 use Rattle.call_words.specs.Reading.{asked_in}
-use Rattle.exec_call.specs.of_call_answers.Answers.{told_of}
-use Rattle.exec_call.specs.of_call_answers.Work.{execution_in}
-use Rattle.exec_call.proofs.of_call_answers.CallLemmas.{answered, call_stops, failed_put, fetches_counted}
-use Rattle.exec_call.proofs.of_call_answers.CallLemmas.{puts_counted, status_caused}
-use Rattle.exec_call.proofs.of_call_answers.CallLemmas.FailedPut.{in_work, in_telling}
+use Rattle.listing_code.specs.of_call_answers.Answers.{told_of}
+use Rattle.listing_code.specs.of_call_answers.Work.{execution_in}
+use Rattle.listing_code.proofs.of_call_answers.CallLemmas.{answered, call_stops, failed_put, fetches_counted}
+use Rattle.listing_code.proofs.of_call_answers.CallLemmas.{puts_counted, status_caused}
+use Rattle.listing_code.proofs.of_call_answers.CallLemmas.FailedPut.{in_work, in_telling}
 use Rattle.check_claims.specs.Cause.{Cause}
 use Rattle.check_claims.specs.Cause.Cause.{no_memory}
 use Rattle.check_claims.proofs.KnownLemmas.{cause_known}
 use Rattle.check_call.specs.Call.{IsValidated}
-use Rattle.check_call.proofs.WorkLemmas.{caused, cut_for, none_counted, none_for, output_for, read_for}
+use Rattle.check_call.proofs.WorkLemmas.{caused, coded_for, cut_for, none_counted, none_for, output_for, read_for}
 use Rattle.check_call.proofs.call.check.Goals as goal
 
 pub returns-clause-validated : goal.returns-clause-validated
@@ -46,6 +46,7 @@ returns-clause-validated g c = λ words given.
           elim (failed_put work.result.answer status _ told caused_by no_memory has_cause nine) [
             | in_work cut_off same ↦ inl (
               cut_for call file asked work.result before after given is cut_off,
+              coded_for call file asked work.result before after given is cut_off,
               work.ensures.puts.rises cut_off,
               same,
             )

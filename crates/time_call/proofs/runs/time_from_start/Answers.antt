@@ -1,6 +1,6 @@
 use Rattle.std.proofs.Common.{subst, sym}
 use Rattle.grid_meaning.specs.Local.{processors}
-use Rattle.exec_call.specs.of_grid_sim.Run.{run_in}
+use Rattle.listing_code.specs.of_grid_sim.Run.{run_in}
 use Rattle.grid_timetable.specs.History.{no_moves}
 use Rattle.grid_timetable.specs.Table.{IsTableOf}
 use Rattle.call_claims.specs.Command.{latency_of}

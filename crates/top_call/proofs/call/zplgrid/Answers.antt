@@ -7,7 +7,7 @@ use Rattle.top_call.specs.Call.{IsUnknown}
 use Rattle.top_call.proofs.CheckedLemmas.{goes_on}
 use Rattle.top_call.proofs.UnknownLemmas.{none_fetched, tells_usage, usage_read}
 use Rattle.top_call.proofs.WholeLemmas.{none_failed, none_whole, whole_of}
-use Rattle.top_call.proofs.WordLemmas.{is_some, of_check, of_exec, of_gen, of_list, of_mean, of_run, of_time}
+use Rattle.top_call.proofs.WordLemmas.{is_some, of_check, of_exec, of_gen, of_list, of_mean, of_resume, of_run, of_time}
 use Rattle.top_call.proofs.call.zplgrid.Goals as goal
 
 pub perform-requires : goal.perform-requires
@@ -67,6 +67,21 @@ returns-in-Some-clause-check g c = λ asks.
     of_check c.commands_are_one.ensures words _ _ _ _ c.in-Some.command is asks
     (c.perform.ensures.done words is)
 
+pub returns-in-Some-clause-resume : goal.returns-in-Some-clause-resume
+returns-in-Some-clause-resume g c = λ asks.
+    let words = map string_bytes c.args.words.now in
+    let is = c.in-Some.ensures {u = tt} in
+    of_resume c.commands_are_one.ensures words _ _ _ _ c.in-Some.command is asks
+    (c.perform.ensures.done words is)
+
+pub returns-in-Some-clause-parts : goal.returns-in-Some-clause-parts
+returns-in-Some-clause-parts g c = λ earlier asking ran put put_then told told_then asks.
+    let law = c.parts_are_one_run.ensures earlier asking ran put put_then told told_then asks in (
+      law.0,
+      law.1 c.args.files.now (map string_bytes c.args.words.now) c.perform.result c.args.out.now
+          c.perform.new.out c.args.errs.now c.perform.new.errs,
+    )
+
 pub returns-in-Some-clause-generated : goal.returns-in-Some-clause-generated
 returns-in-Some-clause-generated g c = λ asks.
     let words = map string_bytes c.args.words.now in
@@ -120,6 +135,18 @@ returns-in-None-clause-time g c = λ asks.
 pub returns-in-None-clause-check : goal.returns-in-None-clause-check
 returns-in-None-clause-check g c = λ asks.
     absurd ((c.in-None.ensures {u = tt}).no_check asks.0 asks.1 asks.2)
+
+pub returns-in-None-clause-resume : goal.returns-in-None-clause-resume
+returns-in-None-clause-resume g c = λ asks.
+    absurd ((c.in-None.ensures {u = tt}).no_resume asks.0 asks.1 asks.2)
+
+pub returns-in-None-clause-parts : goal.returns-in-None-clause-parts
+returns-in-None-clause-parts g c = λ earlier asking ran put put_then told told_then asks.
+    let law = c.parts_are_one_run.ensures earlier asking ran put put_then told told_then asks in (
+      law.0,
+      law.1 c.args.files.now (map string_bytes c.args.words.now) c.answered.result c.args.out.now
+          c.args.out.now c.args.errs.now c.answered.new.errs,
+    )
 
 pub returns-in-None-clause-generated : goal.returns-in-None-clause-generated
 returns-in-None-clause-generated g c = λ asks.

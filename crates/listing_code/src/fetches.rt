@@ -6,8 +6,9 @@ ghost use Rattle.node_text.specs.Listing.{IsListing};
 ghost use Rattle.call_claims.specs.Call.{call_of};
 ghost use Rattle.grid_call.specs.of_exec_claims.Answer.{IsListedIn};
 ghost use Rattle.grid_call.specs.of_exec_claims.declared.limits.TheConstants.{MOST_LISTING};
+ghost use Rattle.grid_call.specs.of_call_answers.Answers.{IsUnrun};
 ghost use Rattle.grid_call.specs.of_call_answers.Fetched.{FailsToFetch};
-ghost use Rattle.exec_call.specs.Work.{IsUnlisted, ReadsNone};
+ghost use Rattle.listing_code.specs.Code.{IsUnlisted, ReadsNone};
 
 use grid_call::call_answers::{Answer, text_of_file};
 use grid_call::exec_claims::MOST_LISTING;
@@ -29,6 +30,7 @@ pub fn fetch_code<'a, F: Files>(
         (ReadsNone (call_of words (F.tells files.old) (F.may_fail files.old)
         (F.may_fail_later files.old)) file.now) }
     ensures put { IfErr result (λ answer. answer ≢ Answer.PutFailed) }
+    ensures unrun { IfErr result IsUnrun }
     ensures texts { SameTexts (F.tells files.old) (F.tells files.new) }
     ensures later { (name : List ℕ) → F.may_fail_later files.new name →
         F.may_fail_later files.old name }
@@ -46,6 +48,7 @@ fn code_of<'a>(alloc: Global, text: &[u8]) -> Result<NodeProgram, Answer<'a>>
     requires { length text.now ≤ MOST_LISTING }
     ensures ok { IfOk result (IsListing text.now) }
     ensures err { IfErr result (IsUnlisted text.now) }
+    ensures unrun { IfErr result IsUnrun }
 {
     match read_listing(alloc, text) {
         Ok(code) => Ok(code),

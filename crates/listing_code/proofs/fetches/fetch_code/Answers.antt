@@ -4,8 +4,8 @@ use Rattle.grid_call.proofs.of_call_answers.FetchLemmas.{on_err, on_ok}
 use Rattle.grid_call.specs.of_call_answers.Fetched.{IsWholeText}
 use Rattle.grid_call.specs.of_exec_claims.declared.limits.TheConstants.{MOST_LISTING}
 use Rattle.grid_call.proofs.WorkLemmas.{source_of}
-use Rattle.exec_call.proofs.WorkLemmas.{unfetched, unlisted_of}
-use Rattle.exec_call.proofs.fetches.fetch_code.Goals as goal
+use Rattle.listing_code.proofs.CodeLemmas.{unfetched, unlisted_of}
+use Rattle.listing_code.proofs.fetches.fetch_code.Goals as goal
 
 pub code_of-requires : goal.code_of-requires
 code_of-requires g c =

@@ -1,0 +1,1 @@
+pub use Rattle.grid_save.specs as of_grid_save
