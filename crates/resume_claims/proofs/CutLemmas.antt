@@ -58,6 +58,12 @@ module _ (count : ℕ) where
       ∙ ap (λ t. given order count k ++ t ∷ [])
       (number-front (given order count n) ys k below ∙ given-at order n k (omega (arith, within)))
 
+  pub given-number-front : (order ys : List ℕ) (n k : ℕ) → k < n
+      → turn_number (given order count n ++ ys) count k ≡ turn_number order count k
+  given-number-front order ys n k below =
+      number-front (given order count n) ys k (omega (arith, below, length-given order count n))
+      ∙ given-at order n k below
+
   pub given-number : (order ys : List ℕ) (k j : ℕ) → turn_number (given order count k ++ ys) count (k + j) ≡ turn_number ys count j
   given-number order ys k j =
       ap (λ n. turn_number (given order count k ++ ys) count (n + j)) (sym (length-given order count k))

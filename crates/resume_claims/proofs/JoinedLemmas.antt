@@ -12,7 +12,7 @@ use Rattle.grid_meaning.specs.Action.{StuckKind}
 use Rattle.grid_meaning.specs.Grid.{EndsAs, Grid, IsIdle, after_from, next_turn, processors}
 use Rattle.grid_meaning.specs.Order.{given, turn_number}
 use Rattle.grid_meaning.proofs.GridLemmas.{length-given}
-use Rattle.grid_runs.specs.Run.{GoesOnTo, HasNext, IsFirstRunning, IsIdleAt, IsLimitedAt, IsStopped, IsStuckAt, Run, Stops, grid_at}
+use Rattle.grid_runs.specs.Run.{GoesOnTo, HasNext, IsFirstRunning, IsIdleAt, IsLimitedAt, IsStopped, IsStuckAt, IsStuckNext, Run, Stops, grid_at, next_processor}
 use Rattle.grid_runs.proofs.TurnLemmas.{turns_at}
 use Rattle.saved_runs.specs.of_grid_save.Saved.{IsSaved}
 use Rattle.exec_claims.specs.of_call_claims.Command.{Asked}
@@ -23,7 +23,7 @@ use Rattle.exec_claims.specs.Texts.{idle_name, kind_name, report_text, stuck_tex
 use Rattle.resume_claims.specs.Cause.{OnwardCause, onward_run, report_from}
 use Rattle.resume_claims.specs.Onward.{AreOne, EndAsOne, GoesOnFrom, after_both, both, in_front, joined}
 use Rattle.resume_claims.specs.Saving.{saved_at}
-use Rattle.resume_claims.proofs.CutLemmas.{given-both, given-front, given-number}
+use Rattle.resume_claims.proofs.CutLemmas.{given-both, given-front, given-number, given-number-front}
 use Rattle.resume_claims.proofs.OnwardLemmas.{IsOneGrid, grid_on}
 
 -- what was printed before decides nothing
@@ -78,17 +78,44 @@ module _ (run : Run) (k : ℕ) (order : List ℕ) (limit : ℕ) where
       stopped_behind run.code run.capacity printed (grid_at onward j)
       (subst (IsStopped run.code run.capacity) (joined_grid j) stops)
 
+  -- whose turn is next, and that it is stuck
+  stuck_front : (i : ℕ) → i < k → IsStuckNext one i → IsStuckNext run i
+  stuck_front i less stuck =
+      let number : next_processor one i ≡ next_processor run i =
+      given-number-front (processors run.code) run.order order k i less in (
+        stuck.0,
+        subst (λ g. next_turn run.code run.capacity g (next_processor run i) ≡ Stuck stuck.0)
+            (front_grid i (omega (arith, less)))
+            (subst (λ p. next_turn run.code run.capacity (grid_at one i) p ≡ Stuck stuck.0) number stuck.1),
+      )
+
+  stuck_behind : (j : ℕ) → IsStuckNext one (k + j) → IsStuckNext onward j
+  stuck_behind j stuck =
+      let number : next_processor one (k + j) ≡ next_processor onward j =
+      given-number (processors run.code) run.order order k j in (
+        stuck.0,
+        subst (λ g. next_turn run.code run.capacity g (next_processor onward j) ≡ Stuck stuck.0)
+            (joined_grid j)
+            (subst (λ p. next_turn run.code run.capacity (grid_at one (k + j)) p ≡ Stuck stuck.0) number stuck.1),
+      )
+
   joined_goes_on : (j : ℕ) → GoesOnTo run k → GoesOnTo onward j → GoesOnTo one (k + j)
   joined_goes_on j first more i below = by (ltb i k) refl
     where
-      by : (test : Bool) → ltb i k ≡ test → Stops one i → ⊥
-      by true e stops =
-          let less = ltb-true i k e in
-          first i less (subst (IsStopped run.code run.capacity) (front_grid i (omega (arith, less))) stops)
-      by false e stops =
+      by : (test : Bool) → ltb i k ≡ test → (Stops one i → ⊥) × (IsStuckNext one i → ⊥)
+      by true e =
+          let less = ltb-true i k e in (
+            λ stops. (first i less).0
+                (subst (IsStopped run.code run.capacity) (front_grid i (omega (arith, less))) stops),
+            λ stuck. (first i less).1 (stuck_front i less stuck),
+          )
+      by false e =
           let behind : k ≤ i = grind (arith, nat_tests, e) in
           let is : i ≡ k + (i - k) = omega (arith, behind) in
-          more (i - k) (omega (arith, below, behind)) (stops_on (i - k) (subst (Stops one) is stops))
+          let on = more (i - k) (omega (arith, below, behind)) in (
+            λ stops. on.0 (stops_on (i - k) (subst (Stops one) is stops)),
+            λ stuck. on.1 (stuck_behind (i - k) (subst (IsStuckNext one) is stuck)),
+          )
 
   -- how it ends
   ends : (j : ℕ) (ending : End) → EndsAs (grid_at onward j) ending → EndsAs (grid_at one (k + j)) ending
