@@ -80,23 +80,23 @@ module _ (run : Run) (k : ℕ) (order : List ℕ) (limit : ℕ) where
 
   -- whose turn is next, and that it is stuck
   stuck_front : (i : ℕ) → i < k → IsStuckNext one i → IsStuckNext run i
-  stuck_front i less stuck =
+  stuck_front i less halt =
       let number : next_processor one i ≡ next_processor run i =
       given-number-front (processors run.code) run.order order k i less in (
-        stuck.0,
-        subst (λ g. next_turn run.code run.capacity g (next_processor run i) ≡ Stuck stuck.0)
+        halt.0,
+        subst (λ g. next_turn run.code run.capacity g (next_processor run i) ≡ Stuck halt.0)
             (front_grid i (omega (arith, less)))
-            (subst (λ p. next_turn run.code run.capacity (grid_at one i) p ≡ Stuck stuck.0) number stuck.1),
+            (subst (λ p. next_turn run.code run.capacity (grid_at one i) p ≡ Stuck halt.0) number halt.1),
       )
 
   stuck_behind : (j : ℕ) → IsStuckNext one (k + j) → IsStuckNext onward j
-  stuck_behind j stuck =
+  stuck_behind j halt =
       let number : next_processor one (k + j) ≡ next_processor onward j =
       given-number (processors run.code) run.order order k j in (
-        stuck.0,
-        subst (λ g. next_turn run.code run.capacity g (next_processor onward j) ≡ Stuck stuck.0)
+        halt.0,
+        subst (λ g. next_turn run.code run.capacity g (next_processor onward j) ≡ Stuck halt.0)
             (joined_grid j)
-            (subst (λ p. next_turn run.code run.capacity (grid_at one (k + j)) p ≡ Stuck stuck.0) number stuck.1),
+            (subst (λ p. next_turn run.code run.capacity (grid_at one (k + j)) p ≡ Stuck halt.0) number halt.1),
       )
 
   joined_goes_on : (j : ℕ) → GoesOnTo run k → GoesOnTo onward j → GoesOnTo one (k + j)
@@ -107,14 +107,14 @@ module _ (run : Run) (k : ℕ) (order : List ℕ) (limit : ℕ) where
           let less = ltb-true i k e in (
             λ stops. (first i less).0
                 (subst (IsStopped run.code run.capacity) (front_grid i (omega (arith, less))) stops),
-            λ stuck. (first i less).1 (stuck_front i less stuck),
+            λ halt. (first i less).1 (stuck_front i less halt),
           )
       by false e =
           let behind : k ≤ i = grind (arith, nat_tests, e) in
           let is : i ≡ k + (i - k) = omega (arith, behind) in
           let on = more (i - k) (omega (arith, below, behind)) in (
             λ stops. on.0 (stops_on (i - k) (subst (Stops one) is stops)),
-            λ stuck. on.1 (stuck_behind (i - k) (subst (IsStuckNext one) is stuck)),
+            λ halt. on.1 (stuck_behind (i - k) (subst (IsStuckNext one) is halt)),
           )
 
   -- how it ends
