@@ -23,11 +23,11 @@ ghost use Rattle.exec_call.specs.Work.{IsSavedCode, IsSavedRun, is_limit, limite
 
 use crate::telling::Telling;
 use call_words::Asked;
-use listing_code::call_answers::{Answer, Stop, Work};
-use listing_code::grid_sim::{Sim, SimFault};
-use listing_code::grid_call::{answer_of, fetch_order};
 use grid_order::{Order, orders_have_their_bounds};
 use grid_runs::{endings_are_final, turns_count};
+use listing_code::call_answers::{Answer, Stop, Work};
+use listing_code::grid_call::{answer_of, fetch_order};
+use listing_code::grid_sim::{Sim, SimFault};
 use node_form::NodeProgram;
 use resume_claims::grid_save::write_save;
 use resume_claims::saved_runs::runs_stay_onward;

@@ -24,12 +24,12 @@ ghost use Rattle.time_call.specs.Work.{IsCodeWork, IsEndTold, IsTimedOn, cut_in}
 
 use crate::tables::put_table;
 use call_words::Asked;
-use listing_code::call_answers::{Answer, Stop, Work};
-use listing_code::grid_call::fetch_order;
-use listing_code::grid_sim::{Sim, SimFault};
 use grid_order::{Order, orders_have_their_bounds};
 use grid_runs::{endings_are_final, turns_count};
 use grid_timetable::Table;
+use listing_code::call_answers::{Answer, Stop, Work};
+use listing_code::grid_call::fetch_order;
+use listing_code::grid_sim::{Sim, SimFault};
 use node_form::NodeProgram;
 use std::alloc::Global;
 use time_claims::grid_time::{TimeFault, run_timed};

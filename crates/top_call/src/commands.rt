@@ -16,9 +16,9 @@ use call_words::Command;
 use check_call::check;
 use gen_call::generate;
 use mean_call::mean;
+use resume_call::exec_call::exec;
 use resume_call::resume;
 use std::alloc::Global;
-use resume_call::exec_call::exec;
 use time_call::time;
 use zpl_io::{Files, Sink};
 

@@ -6,8 +6,8 @@ ghost use Rattle.trace_call.specs.Line.{line_with, word_of};
 ghost use Rattle.trace_call.specs.Telling.{event_text};
 
 use crate::events::Event;
-use listing_code::grid_sim::StuckKind;
 use itoa::Buffer;
+use listing_code::grid_sim::StuckKind;
 use std::alloc::AllocError;
 
 /// Appends the number in decimal digits, with no leading zero.

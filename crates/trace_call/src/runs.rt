@@ -10,9 +10,9 @@ ghost use Rattle.trace_call.specs.Trace.{IsTracedRun};
 
 use crate::puts::{put_last, put_many};
 use crate::turns::give_turn;
-use listing_code::grid_sim::{Rounds, Sim, SimFault, next_turn};
 use grid_layout::Layout;
 use grid_order::Order;
+use listing_code::grid_sim::{Rounds, Sim, SimFault, next_turn};
 use std::alloc::Global;
 use zpl_io::{Sink, puts_join};
 use zpl_nums::End;

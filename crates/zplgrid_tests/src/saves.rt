@@ -264,6 +264,224 @@ fn texts_of_no_grid(rt: HostRuntime) -> Result<(), Fail> {
     Ok(())
 }
 
+/// The lines of a grid in a loop: a processor goes on in a `while` at its second index, and the other
+/// has done all its indices.
+const STATES: [&str; 39] = [
+    "zplsave 1",
+    "counts 9 2 3",
+    "zplnode 1",
+    "grid 2",
+    "scalars 1",
+    "slots 1",
+    "cells 1",
+    "array 0..3:1,1",
+    "array -",
+    "expr n0",
+    "expr c0 n3 <",
+    "expr c0 n1 +",
+    "group",
+    "cell 0 0 - 1",
+    "while 1 - 2",
+    "cell 0 2 - 3",
+    "od",
+    "put 0 0 - 4",
+    "exchange",
+    "item 0 0 -1",
+    "code",
+    "fix 0 0..3:1:0",
+    "loop 0 0",
+    "start 0",
+    "finish 0",
+    "fold 0 sum",
+    "end",
+    "proc 0 at 1 made 0 index 1 member 1 flag -1 end -",
+    "scalars 0",
+    "slot 0..3:1:0",
+    "cells 2",
+    "store 0..2 : 0 0 0",
+    "store 1..0 :",
+    "proc 1 at 1 made 0 index 2 member 0 flag -1 end -",
+    "scalars 0",
+    "slot 0..3:1:0",
+    "cells 3",
+    "store 1..3 : 0 0 0",
+    "store 1..0 :",
+];
+
+/// The number of a line, what stands in its place, and the line that is named.
+const WRONG_STATES: [(usize, &str, &str); 50] = [
+    (28, "proc 0 at 1 made 0 index 1 member 1 flag 5 end -", "28"),
+    (
+        28,
+        "proc 0 at 1 made 0 index 1 member 1 flag -2 end -",
+        "28",
+    ),
+    (
+        28,
+        "proc 0 at 1 made 0 index 1 member 2 flag -1 end -",
+        "28",
+    ),
+    (
+        28,
+        "proc 0 at 1 made 0 index 2 member 1 flag -1 end -",
+        "28",
+    ),
+    (
+        28,
+        "proc 0 at 1 made 0 index 3 member 0 flag -1 end -",
+        "28",
+    ),
+    (
+        28,
+        "proc 0 at 1 made 1 index 1 member 1 flag -1 end -",
+        "28",
+    ),
+    (
+        28,
+        "proc 0 at 1 made -1 index 1 member 1 flag -1 end -",
+        "28",
+    ),
+    (
+        28,
+        "proc 0 at 1 made 0 index -1 member 0 flag -1 end -",
+        "28",
+    ),
+    (
+        28,
+        "proc 0 at 7 made 0 index 0 member 0 flag -1 end -",
+        "28",
+    ),
+    (
+        28,
+        "proc 0 at -1 made 0 index 0 member 0 flag -1 end -",
+        "28",
+    ),
+    (
+        28,
+        "proc 0 at 6 made 1 index 0 member 0 flag -1 end -",
+        "28",
+    ),
+    (
+        28,
+        "proc 0 at 2 made 2 index 0 member 0 flag -1 end -",
+        "28",
+    ),
+    (
+        28,
+        "proc 0 at 0 made 1 index 0 member 0 flag -1 end -",
+        "28",
+    ),
+    (
+        28,
+        "proc 0 at 2 made 0 index 1 member 0 flag -1 end -",
+        "28",
+    ),
+    (
+        28,
+        "proc 0 at 2 made 0 index 0 member 1 flag -1 end -",
+        "28",
+    ),
+    (
+        28,
+        "proc 0 at 1 made 0 index 1 member 0 flag -1 end done",
+        "28",
+    ),
+    (
+        28,
+        "proc 0 at 1 made 1 index 0 member 0 flag -1 end done",
+        "28",
+    ),
+    (
+        28,
+        "proc 0 at 5 made 0 index 0 member 0 flag -1 end trap:0:1",
+        "28",
+    ),
+    (
+        28,
+        "proc 0 at 5 made 0 index 0 member 0 flag -1 end trap:5:1",
+        "28",
+    ),
+    (
+        28,
+        "proc 0 at 5 made 0 index 0 member 0 flag -1 end trap:1:4294967296",
+        "28",
+    ),
+    (
+        28,
+        "proc 0 at 5 made 0 index 0 member 0 flag -1 end trap:1:-1",
+        "28",
+    ),
+    (
+        28,
+        "proc 1 at 1 made 0 index 1 member 1 flag -1 end -",
+        "28",
+    ),
+    (29, "scalars", "29"),
+    (29, "scalars 0 0", "29"),
+    (29, "cells 2", "29"),
+    (30, "slot 0..3:1:0 0..3:1:0", "30"),
+    (30, "slot 0..3:0:0", "30"),
+    (30, "slot 0..4294967296:1:0", "30"),
+    (31, "cells", "31"),
+    (32, "store 0..3 : 0 0 0 0", "32"),
+    (32, "store 0..1 : 0 0", "32"),
+    (32, "store 0..2 : 0 0", "32"),
+    (32, "store * : 0", "32"),
+    (33, "store 2..3 : 0 0", "33"),
+    (33, "store 1..2 : 0 0", "33"),
+    (33, "store * : 0", "33"),
+    (33, "store 0..1 : 0", "33"),
+    (33, "kept 1 0", "33"),
+    (34, "kept 1 0", "34"),
+    (33, "store 1..0 :\nkept 1 0", "34"),
+    (33, "store 1..0 :\nmsg 0 3 0", "34"),
+    (33, "store 1..0 :\nmsg 1 3 0\nmsg 0 3 0", "35"),
+    (39, "msg 0 0 0", "39"),
+    (39, "store 1..0 :\nkept 0 7", "40"),
+    (39, "store 1..0 :\nmsg 1 0 0", "40"),
+    (39, "store 1..0 :\nmsg 2 0 0", "40"),
+    (39, "store 1..0 :\nmsg -1 0 0", "40"),
+    (39, "store 1..0 :\nmsg 0 -1 0", "40"),
+    (39, "store 1..0 :\nmsg 0 0 0\nscalars 0", "41"),
+    (
+        39,
+        "store 1..0 :\nproc 2 at 0 made 0 index 0 member 0 flag -1 end -",
+        "40",
+    ),
+];
+
+/// The text of these lines with one in the place of that with this number.
+fn states_with(alloc: Global, number: usize, line: &str) -> Result<Vec<u8>, AllocError> {
+    let mut text = Vec::new(alloc);
+    for i in 0..STATES.len() {
+        let shown = if i + 1 == number { line } else { STATES[i] };
+        text.extend_from_slice(shown.as_bytes())?;
+        text.extend_from_slice(b"\n")?;
+    }
+    Ok(text)
+}
+
+/// Each rule of states is looked at, and the line that breaks it named.
+#[test]
+fn states_of_no_processor(rt: HostRuntime) -> Result<(), Fail> {
+    let alloc = rt.alloc();
+    let whole = states_with(alloc, 0, "")?;
+    let found = answer_with(alloc, &["resume", "a"], whole.as_slice())?;
+    assert!(rt; found.status == 0);
+    for (number, line, named) in WRONG_STATES.iter() {
+        let text = states_with(alloc, *number, line)?;
+        let mut told = Vec::from_slice(alloc, b"save refused: BadState, line ")?;
+        told.extend_from_slice(named.as_bytes())?;
+        told.extend_from_slice(b"\n")?;
+        let found = answer_with(alloc, &["resume", "a"], text.as_slice())?;
+        assert!(rt;
+            found.status == 16 && found.errs.as_slice() == told.as_slice(),
+            "{line}"
+        );
+    }
+    Ok(())
+}
+
 const JACOBI: &str =
     "program jacobi;\nconfig var n : integer = 8;\n           delta : integer = 100;\n\
     region R = [1..n, 1..n];\ndirection north = [-1, 0]; south = [1, 0];\n\
