@@ -1,3 +1,4 @@
+mod Examples
 pub mod CodeLemmas
 pub mod CauseLemmas
 pub mod RunLemmas
