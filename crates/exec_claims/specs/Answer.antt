@@ -20,7 +20,7 @@ pub record IsListedIn (call : Call) (file : List ℕ) (code : Tables) : Type 0 w
   pub listing : IsListing source.text code
 
 -- The counts are those of the grid under this run, after the given turns, before which it is
--- neither over nor idle.
+-- neither over nor idle, and none of which is stuck.
 pub record HasCounts (run : Run) (ran : Ran) : Type 0 where
   pub goes_on : GoesOnTo run ran.turns
   pub within : ran.turns ≤ turns_in run

@@ -26,9 +26,9 @@ pub record CanExecute (call : Call) (file : List ℕ) (asked : Asked) : Type 0 w
   pub order : List ℕ
   pub read : reading (processors code) order_text ≡ Ok order
 
--- The listed code was run under the order for so many turns, before which it was neither over nor idle,
--- and the status and what is told are those of what came of the run then: it is over, or all turns were
--- given, or a processor is stuck, or none can move.
+-- The listed code was run under the order for so many turns, before which it was neither over nor
+-- idle, and none of which was stuck; and the status and what is told are those of what came of the
+-- run then: it is over, or all turns were given, or a processor is stuck, or none can move.
 pub record HasExecuted {call : Call} {file : List ℕ} {asked : Asked}
     (can : CanExecute call file asked) (execution : Execution) (status : ℕ) (told : List ℕ) : Type 0
   where

@@ -50,7 +50,7 @@ pub record IsResumed (call : Call) (ran : Ran) (out errs : Stream) : Type 0 wher
   -- The code is that of the saved grid, once that was read, and the counts go on from those that
   -- were saved. No turn was given, or the run went on under the order that the words ask for, over
   -- links of any number of messages, and the counts are those of the grid after the given turns,
-  -- before which it is neither over nor idle.
+  -- before which it is neither over nor idle, and none of which is stuck.
   pub code : MatchOption ran.code (HasNoCounts ran) (IsReadFor call ran)
   -- Out took what these turns print.
   pub output : ran.status ≢ PUT_FAILED

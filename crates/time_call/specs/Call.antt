@@ -15,7 +15,8 @@ use Rattle.time_claims.specs.Decided.{IsExact}
 pub record IsTimed (call : Call) (ran : Ran) (out errs : Stream) : Type 0 where
   -- The code is the listed one, once that was read. It wasn't run, or it was under the order that
   -- the words ask for, over links of any number of messages, and the counts are those of the grid
-  -- after the given turns, before which it is neither over nor idle.
+  -- after the given turns, before which it is neither over nor idle, and none of which is
+  -- stuck.
   pub code : MatchOption ran.code (HasNoCounts ran) (IsReadFor call ran)
   -- Where the run is over, out took the text of its moves, of the ticks that they take at least,
   -- and of a chain as long; and else nothing.

@@ -50,7 +50,7 @@ pub record TakesByStatus (run : Run) (ran : Ran) (before after : List ℕ → Ty
 pub record IsTraced (call : Call) (ran : Ran) (out errs : Stream) : Type 0 where
   -- The code is the listed one, once that was read. It wasn't run, or it was under the order that
   -- the words ask for, and the counts are those of the grid after the given turns, before which it
-  -- is neither over nor idle.
+  -- is neither over nor idle, and none of which is stuck.
   pub code : MatchOption ran.code (HasNoCounts ran) (IsReadFor call ran)
   -- Out took the lines of these turns, and that of the next one where it is stuck.
   pub output : ran.status ≢ PUT_FAILED
