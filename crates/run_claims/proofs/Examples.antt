@@ -1,7 +1,7 @@
 -- Programs whose meaning ends, and for whose code the turns that a call gives are enough where its
 -- words tell no number: `HasTurns` is met. They are those of `examples/sum.zpl`, for one processor,
 -- and of `examples/jacobi.zpl`, for four and a plate of three by three.
-use Rattle.std.proofs.Common.{◌≡◌, ◌≢◌, ◌≤◌, ℕ, true, false, List, [], ◌∷◌, Some, None, pos, codes, refl, sym, ◌∙◌, subst, arith}
+use Rattle.std.proofs.Common.{◌≡◌, ◌≤◌, ℕ, true, false, List, [], ◌∷◌, Some, None, pos, codes, refl, sym, ◌∙◌, subst, arith}
 use Rattle.std.specs.Fmt.{digits}
 use Rattle.std.specs.Int.{int_wrap}
 use Rattle.zpl_nums.specs.declared.ends.End.TheVariants.{Done, More}
