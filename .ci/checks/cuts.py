@@ -1,11 +1,12 @@
 #!/usr/bin/env python3
 """A run that is cut goes on from its saved grid as if it hadn't been: what both parts print, one behind the other, the status and the counts are those of
-the run that wasn't cut.
+the run that is given the turns of both: those before the cut, and then turns round the processors from the first on.
 
 Run it at the top of the repository, where the program is built: .ci/checks/cuts.py. The code of `examples/jacobi.zpl` on 2 by 2 processors is cut after each of its
 first 600 turns, and the listings of examples/listings and the codes of the other examples after each of a few.
 """
 import glob
+import math
 import os
 import subprocess
 import sys
@@ -22,15 +23,30 @@ def told(place, *words):
     return ran.returncode, ran.stdout, ran.stderr
 
 
-def in_parts(place, turns, most):
-    """What a run prints and tells that is cut after so many turns, `most` being the turns of the whole; nothing where it is over before."""
+def processors_of(place):
+    """How many processors the listing in the place is for."""
+    with open(f"{place}/code.lst", encoding="ascii") as listing:
+        factors = next(line for line in listing if line.startswith("grid ")).split()[1:]
+    return math.prod(int(it) for it in factors)
+
+
+def in_parts(place, turns):
+    """What a run tells that is cut after so many turns; nothing where it is over before."""
     status, first, saved = told(place, "exec", "code.lst", f"turns={turns}", "save")
     if status != LIMIT:
         return None
     with open(f"{place}/code.save", "wb") as file:
         file.write(saved)
-    status, rest, errs = told(place, "resume", "code.save", f"turns={most}", "report")
+    status, rest, errs = told(place, "resume", "code.save", "report")
     return status, first + rest, errs
+
+
+def in_one(place, turns):
+    """What the run tells that is given these turns as an order."""
+    count = processors_of(place)
+    with open(f"{place}/code.order", "w", encoding="ascii") as order:
+        order.write(" ".join(str(turn % count) for turn in range(turns)))
+    return told(place, "exec", "code.lst", "order=code.order", "report")
 
 
 def cuts_of(place, path):
@@ -51,13 +67,12 @@ def main():
     cut, wrong = 0, []
     with tempfile.TemporaryDirectory() as place:
         for path in sorted(glob.glob("examples/*.zpl") + glob.glob("examples/listings/*.lst")):
-            cuts = cuts_of(place, path)
-            whole = told(place, "exec", "code.lst", "report") if cuts else None
-            for turns in cuts:
-                found = in_parts(place, turns, 1 << 40)
+            for turns in cuts_of(place, path):
+                found = in_parts(place, turns)
                 if found is None:
                     break
                 cut += 1
+                whole = in_one(place, turns)
                 if found != whole:
                     wrong.append(f"{path}: cut after {turns} turns it tells {found}, else {whole}")
     for it in wrong:

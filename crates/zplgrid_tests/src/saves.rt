@@ -308,153 +308,153 @@ const STATES: [&str; 39] = [
     "store 1..0 :",
 ];
 
-/// The number of a line, what stands in its place, and the line that is named.
+/// How many lines stand in front of one, what stands in its place, and the line that is named.
 const WRONG_STATES: [(usize, &str, &str); 50] = [
-    (28, "proc 0 at 1 made 0 index 1 member 1 flag 5 end -", "28"),
+    (27, "proc 0 at 1 made 0 index 1 member 1 flag 5 end -", "28"),
     (
-        28,
+        27,
         "proc 0 at 1 made 0 index 1 member 1 flag -2 end -",
         "28",
     ),
     (
-        28,
+        27,
         "proc 0 at 1 made 0 index 1 member 2 flag -1 end -",
         "28",
     ),
     (
-        28,
+        27,
         "proc 0 at 1 made 0 index 2 member 1 flag -1 end -",
         "28",
     ),
     (
-        28,
+        27,
         "proc 0 at 1 made 0 index 3 member 0 flag -1 end -",
         "28",
     ),
     (
-        28,
+        27,
         "proc 0 at 1 made 1 index 1 member 1 flag -1 end -",
         "28",
     ),
     (
-        28,
+        27,
         "proc 0 at 1 made -1 index 1 member 1 flag -1 end -",
         "28",
     ),
     (
-        28,
+        27,
         "proc 0 at 1 made 0 index -1 member 0 flag -1 end -",
         "28",
     ),
     (
-        28,
+        27,
         "proc 0 at 7 made 0 index 0 member 0 flag -1 end -",
         "28",
     ),
     (
-        28,
+        27,
         "proc 0 at -1 made 0 index 0 member 0 flag -1 end -",
         "28",
     ),
     (
-        28,
+        27,
         "proc 0 at 6 made 1 index 0 member 0 flag -1 end -",
         "28",
     ),
     (
-        28,
+        27,
         "proc 0 at 2 made 2 index 0 member 0 flag -1 end -",
         "28",
     ),
     (
-        28,
+        27,
         "proc 0 at 0 made 1 index 0 member 0 flag -1 end -",
         "28",
     ),
     (
-        28,
+        27,
         "proc 0 at 2 made 0 index 1 member 0 flag -1 end -",
         "28",
     ),
     (
-        28,
+        27,
         "proc 0 at 2 made 0 index 0 member 1 flag -1 end -",
         "28",
     ),
     (
-        28,
+        27,
         "proc 0 at 1 made 0 index 1 member 0 flag -1 end done",
         "28",
     ),
     (
-        28,
+        27,
         "proc 0 at 1 made 1 index 0 member 0 flag -1 end done",
         "28",
     ),
     (
-        28,
+        27,
         "proc 0 at 5 made 0 index 0 member 0 flag -1 end trap:0:1",
         "28",
     ),
     (
-        28,
+        27,
         "proc 0 at 5 made 0 index 0 member 0 flag -1 end trap:5:1",
         "28",
     ),
     (
-        28,
+        27,
         "proc 0 at 5 made 0 index 0 member 0 flag -1 end trap:1:4294967296",
         "28",
     ),
     (
-        28,
+        27,
         "proc 0 at 5 made 0 index 0 member 0 flag -1 end trap:1:-1",
         "28",
     ),
     (
-        28,
+        27,
         "proc 1 at 1 made 0 index 1 member 1 flag -1 end -",
         "28",
     ),
-    (29, "scalars", "29"),
-    (29, "scalars 0 0", "29"),
-    (29, "cells 2", "29"),
-    (30, "slot 0..3:1:0 0..3:1:0", "30"),
-    (30, "slot 0..3:0:0", "30"),
-    (30, "slot 0..4294967296:1:0", "30"),
-    (31, "cells", "31"),
-    (32, "store 0..3 : 0 0 0 0", "32"),
-    (32, "store 0..1 : 0 0", "32"),
-    (32, "store 0..2 : 0 0", "32"),
-    (32, "store * : 0", "32"),
-    (33, "store 2..3 : 0 0", "33"),
-    (33, "store 1..2 : 0 0", "33"),
-    (33, "store * : 0", "33"),
-    (33, "store 0..1 : 0", "33"),
-    (33, "kept 1 0", "33"),
-    (34, "kept 1 0", "34"),
-    (33, "store 1..0 :\nkept 1 0", "34"),
-    (33, "store 1..0 :\nmsg 0 3 0", "34"),
-    (33, "store 1..0 :\nmsg 1 3 0\nmsg 0 3 0", "35"),
-    (39, "msg 0 0 0", "39"),
-    (39, "store 1..0 :\nkept 0 7", "40"),
-    (39, "store 1..0 :\nmsg 1 0 0", "40"),
-    (39, "store 1..0 :\nmsg 2 0 0", "40"),
-    (39, "store 1..0 :\nmsg -1 0 0", "40"),
-    (39, "store 1..0 :\nmsg 0 -1 0", "40"),
-    (39, "store 1..0 :\nmsg 0 0 0\nscalars 0", "41"),
+    (28, "scalars", "29"),
+    (28, "scalars 0 0", "29"),
+    (28, "cells 2", "29"),
+    (29, "slot 0..3:1:0 0..3:1:0", "30"),
+    (29, "slot 0..3:0:0", "30"),
+    (29, "slot 0..4294967296:1:0", "30"),
+    (30, "cells", "31"),
+    (31, "store 0..3 : 0 0 0 0", "32"),
+    (31, "store 0..1 : 0 0", "32"),
+    (31, "store 0..2 : 0 0", "32"),
+    (31, "store * : 0", "32"),
+    (32, "store 2..3 : 0 0", "33"),
+    (32, "store 1..2 : 0 0", "33"),
+    (32, "store * : 0", "33"),
+    (32, "store 0..1 : 0", "33"),
+    (32, "kept 1 0", "33"),
+    (33, "kept 1 0", "34"),
+    (32, "store 1..0 :\nkept 1 0", "34"),
+    (32, "store 1..0 :\nmsg 0 3 0", "34"),
+    (32, "store 1..0 :\nmsg 1 3 0\nmsg 0 3 0", "35"),
+    (38, "msg 0 0 0", "39"),
+    (38, "store 1..0 :\nkept 0 7", "40"),
+    (38, "store 1..0 :\nmsg 1 0 0", "40"),
+    (38, "store 1..0 :\nmsg 2 0 0", "40"),
+    (38, "store 1..0 :\nmsg -1 0 0", "40"),
+    (38, "store 1..0 :\nmsg 0 -1 0", "40"),
+    (38, "store 1..0 :\nmsg 0 0 0\nscalars 0", "41"),
     (
-        39,
+        38,
         "store 1..0 :\nproc 2 at 0 made 0 index 0 member 0 flag -1 end -",
         "40",
     ),
 ];
 
-/// The text of these lines with one in the place of that with this number.
-fn states_with(alloc: Global, number: usize, line: &str) -> Result<Vec<u8>, AllocError> {
+/// The text of these lines with one in the place of that behind so many.
+fn states_with(alloc: Global, behind: usize, line: &str) -> Result<Vec<u8>, AllocError> {
     let mut text = Vec::new(alloc);
     for i in 0..STATES.len() {
-        let shown = if i + 1 == number { line } else { STATES[i] };
+        let shown = if i == behind { line } else { STATES[i] };
         text.extend_from_slice(shown.as_bytes())?;
         text.extend_from_slice(b"\n")?;
     }
@@ -465,11 +465,11 @@ fn states_with(alloc: Global, number: usize, line: &str) -> Result<Vec<u8>, Allo
 #[test]
 fn states_of_no_processor(rt: HostRuntime) -> Result<(), Fail> {
     let alloc = rt.alloc();
-    let whole = states_with(alloc, 0, "")?;
+    let whole = states_with(alloc, STATES.len(), "")?;
     let found = answer_with(alloc, &["resume", "a"], whole.as_slice())?;
     assert!(rt; found.status == 0);
-    for (number, line, named) in WRONG_STATES.iter() {
-        let text = states_with(alloc, *number, line)?;
+    for (behind, line, named) in WRONG_STATES.iter() {
+        let text = states_with(alloc, *behind, line)?;
         let mut told = Vec::from_slice(alloc, b"save refused: BadState, line ")?;
         told.extend_from_slice(named.as_bytes())?;
         told.extend_from_slice(b"\n")?;
