@@ -142,7 +142,7 @@ module _ (call : Call) (file : List ℕ) (asked : Asked) (sure : AreSure call fi
   save_read ex (no_save may none) = absurd (sure.file_comes may)
   save_read ex (long_save long none) = λ h. omega arith
   save_read ex (in_save source (no_grid why is none)) = λ h. omega arith
-  save_read ex (in_save source (of_grid code grid is made c)) =
+  save_read ex (in_save source (of_grid code grid is there c)) =
       grid_file_read code grid ex.turns asked.order refl _ _ c
 
   -- ---- calls
