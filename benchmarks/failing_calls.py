@@ -73,7 +73,7 @@ class Caller:
         with tempfile.TemporaryFile() as log:
             how = {**os.environ, "LD_PRELOAD": self.library, "FAILING_CALL": f"{kind} {number}", "FAILING_LOG": str(log.fileno())}
             ran = subprocess.run(self.words(row), cwd=f"{TOP}/examples", stdin=subprocess.DEVNULL, capture_output=True,
-                                 env=how, pass_fds=[log.fileno()], timeout=60)
+                                 env=how, pass_fds=[log.fileno()], timeout=600)
             log.seek(0)
             return Answer(ran.returncode, ran.stdout, ran.stderr, log.read())
 
