@@ -105,7 +105,7 @@ def told_of_code(place, path):
 def main():
     with tempfile.TemporaryDirectory() as place:
         found = {path: of_program(place, path) for path in sorted(glob.glob("examples/**/*.zpl", recursive=True))}
-        found.update((path, of_listing(place, path)) for path in sorted(glob.glob("examples/listings/*.txt")))
+        found.update((path, of_listing(place, path)) for path in sorted(glob.glob("examples/listings/**/*.txt", recursive=True)))
         codes = {(path, built): told for path, (_, wanted) in found.items() if path.endswith(".zpl") and wanted[1] in (0, 7)
                  for built, told in told_of_code(place, path)}
     unsound = {it: told for it, told in codes.items() if not told.startswith("sound, links ")}
