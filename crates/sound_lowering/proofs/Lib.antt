@@ -1,0 +1,3 @@
+pub mod UniformLemmas
+pub mod FoldLemmas
+pub mod SegmentLemmas
