@@ -3,8 +3,11 @@
 use Rattle.std.proofs.Common.{◌≡◌, ◌⊎◌, inl, inr, ℕ, zero, suc, ◌+◌, ◌<◌, ◌≤◌, Bool, true, false, ◌&&◌, ◌||◌, ℤ, pos, refl, sym, ap, ◌∙◌, subst, arith, true≢false}
 use Rattle.std.proofs.Common.{List, [], ◌∷◌, ◌++◌, length, map, Contains}
 use Rattle.std.specs.Prelude.{Option, Some, None, All, filter, flat_map, neg_ℤ, not, slice_get, slice_index_or, ◌≤ℤ◌, int_le}
+use Rattle.std.specs.Ordering.{int_eq}
 use Rattle.std.specs.List.{list_all, list_any, range_with_len}
 use Rattle.std.specs.Option.{option_map}
+use Rattle.std.proofs.lemmas.Int.{ints}
+use Rattle.zpl_region.proofs.ListLemmas.{test_from_le}
 use Rattle.std.proofs.lemmas.List.Elements.{All-head, All-tail, All-get_or}
 use Rattle.std.proofs.lemmas.Option.{get_or_from_slice_get, slice_get_within, slice_get-map}
 use Rattle.node_form.specs.Fits.{Fits, FitsArray, FitsExpr, FitsWord, HasFringe}
@@ -19,7 +22,7 @@ use Rattle.node_form.specs.declared.instructions.DimRow.TheVariants as part
 use Rattle.node_form.specs.declared.instructions.Instr.{Instr}
 use Rattle.node_form.specs.declared.instructions.Instr.TheVariants as instr
 use Rattle.node_form.specs.declared.tables.Tables.{Tables}
-use Rattle.code_parts.specs.Uses.{rows_or_none, scalars_in, words_of}
+use Rattle.code_parts.specs.Uses.{may_divide, rows_or_none, scalars_in, words_of}
 use Rattle.code_parts.proofs.ListLemmas.{In, contained, in_append, in_back, in_front, in_list, unfiltered}
 use Rattle.row_runs.specs.Structured.{Piece, size}
 use Rattle.flat_form.specs.Flat.{IsFlat, IsFlatRow}
@@ -27,7 +30,8 @@ use Rattle.flat_form.specs.Row as row
 use Rattle.flat_form.specs.Row.{Row, all_inlined, inlined, words_at}
 use Rattle.flat_form.specs.Static.{HasFringes, array_has_fringe, is_in_fringe, word_has_fringe}
 use Rattle.zpl_lowering.specs.Check.{Check}
-use Rattle.node_check.specs.Fact.{Fact, Uniform}
+use Rattle.node_check.specs.declared.facts.Fact.{Fact}
+use Rattle.node_check.specs.declared.facts.Fact.TheVariants.{Uniform}
 use Rattle.node_check.specs.Learn.{is_uniform, learnt, start_facts}
 use Rattle.node_check.specs.Path.{nexts}
 use Rattle.node_check.specs.Demand.{has_own, has_place, is_held, is_met, is_near, is_stored, is_stored_row, is_uniform_part, leaves_slots}
@@ -35,13 +39,13 @@ use Rattle.node_check.proofs.MoreLemmas.{learnt_more, met_more}
 use Rattle.lowering_checks.specs.Walked.{laid}
 use Rattle.sound_lowering.specs.Goes.{AreIn, Goes, IsHere, MeetsRow, behind_row, is_decided_held, is_of_slots, row_nexts}
 use Rattle.sound_lowering.specs.Undecided.{IsUndecidedSound}
-use Rattle.sound_lowering.specs.Uniform.{AreTaken, uniform_at}
+use Rattle.sound_lowering.specs.Uniform.{AreTaken, asks_scalars, uniform_at}
 use Rattle.sound_lowering.proofs.UniformLemmas.{IsKept, NamesScalars, all_uniform, in_all, is_fold, kept_in, uniform_at_start, uniform_behind}
 use Rattle.sound_lowering.proofs.SegmentLemmas.{AreAlong, CodeRuns, IsRight, front, glued, goes_runs, high, laid_long, low}
-use Rattle.sound_lowering.proofs.KeptLemmas.{few, held_kept, is_whole, keeps, kept_is, kept_of, learnt_behind, plain_met}
+use Rattle.sound_lowering.proofs.KeptLemmas.{held_kept, keeps, kept_is, kept_of, learnt_behind, plain_met}
 use Rattle.sound_lowering.proofs.LoopLemmas.{found, loop_passes, WordsPass}
 
-both_true : (a b : Bool) → a ≡ true → b ≡ true → (a && b) ≡ true
+pub both_true : (a b : Bool) → a ≡ true → b ≡ true → (a && b) ≡ true
 both_true true b first rest = rest
 both_true false b first rest = absurd (true≢false (sym first))
 
@@ -49,7 +53,7 @@ both_are : (a b : Bool) → (a && b) ≡ true → (a ≡ true) × (b ≡ true)
 both_are true b is = (refl, is)
 both_are false b is = absurd (true≢false (sym is))
 
-all_at : {X : Type 0} (P : X → Type 0) (xs : List X) → All P xs → (k : ℕ) (x : X)
+pub all_at : {X : Type 0} (P : X → Type 0) (xs : List X) → All P xs → (k : ℕ) (x : X)
     → slice_get xs k ≡ Some x → P x
 all_at P xs all k x there =
     subst P (get_or_from_slice_get xs k x x there)
@@ -83,7 +87,10 @@ scalars_named code fits expr scalar h = by (slice_get code.exprs expr) refl h
 -- ---- arrays are near
 widths : (low high : ℤ) → pos 0 ≤ℤ low → pos 0 ≤ℤ high
     → (int_le (neg_ℤ low) (pos 0) && int_le (pos 0) high) ≡ true
-widths low high down up = search (arith, down, up)
+widths low high down up =
+    both_true (int_le (neg_ℤ low) (pos 0)) (int_le (pos 0) high)
+    (test_from_le (neg_ℤ low) (pos 0) (omega (arith, ints, down)))
+    (test_from_le (pos 0) high up)
 
 no_fringe : (dims : List ArrayDim) (shift : List ℤ) → All HasFringe dims
     → ((d : ℤ) → In shift d → d ≡ pos 0) → is_in_fringe dims shift ≡ true
@@ -98,7 +105,8 @@ no_fringe (axis.Range lo hi low high ∷ dims) (d ∷ shift) fringes none =
     (no_fringe dims shift (All-tail HasFringe (axis.Range lo hi low high) dims fringes)
     (λ e h. none e (inr h)))
 no_fringe (axis.Star ∷ dims) (d ∷ shift) fringes none =
-    both_true _ (is_in_fringe dims shift) (ap _ (none d (inl refl)))
+    both_true (int_eq d (pos 0)) (is_in_fringe dims shift)
+    (ap (λ e. int_eq e (pos 0)) (none d (inl refl)))
     (no_fringe dims shift (All-tail HasFringe axis.Star dims fringes) (λ e h. none e (inr h)))
 
 none_moved : (d : ℤ) → In unmoved d → d ≡ pos 0
@@ -156,10 +164,6 @@ along_at code facts at (first ∷ rows) along (suc k) one there =
     (along_at code facts (suc at) rows along.1 k one there)
 
 -- ---- what rows demand of scalars alone
-abbrev pub asks_scalars : Instr → Bool
-asks_scalars (instr.Loop slot group) = false
-asks_scalars one = not (is_whole one)
-
 parts_uniform : (code : Tables) (facts : List Fact)
     → ((expr : ℕ) → is_uniform code facts expr ≡ true) → (parts : List DimRow)
     → list_all (is_uniform_part code facts) parts ≡ true
@@ -177,12 +181,12 @@ right_true : (a b : Bool) → b ≡ true → (a || b) ≡ true
 right_true true b is = refl
 right_true false b is = is
 
-scalars_met : (code : Tables) (facts : List Fact) (one : Instr) → IsFlatRow one
+pub scalars_met : (code : Tables) (facts : List Fact) (one : Instr) → IsFlatRow one
     → asks_scalars one ≡ true
     → (is_fold one ≡ false → (expr : ℕ) → is_uniform code facts expr ≡ true)
     → has_own code facts [] one ≡ true
 scalars_met code facts (instr.Set scalar expr line) flat asks uniform =
-    right_true _ (is_uniform code facts expr) (uniform refl expr)
+    right_true (not (may_divide code expr)) (is_uniform code facts expr) (uniform refl expr)
 scalars_met code facts (instr.Dims slot parts line) flat asks uniform =
     parts_uniform code facts (uniform refl) parts
 scalars_met code facts (instr.Unless expr goal line) flat asks uniform = uniform refl expr
@@ -225,8 +229,10 @@ module _ (code : Tables) (flat : IsFlat code) (taken : AreTaken code) (fringes :
   right_at : (at : ℕ) (one : Instr) → slice_get code.code at ≡ Some one
       → IsRight code slots at (inlined code one)
   right_at at one there =
-      along_at code slots 0 (all_inlined code) along at (inlined code one)
-      (slice_get-map (inlined code) code.code at ∙ ap (option_map (inlined code)) there)
+      let same : 0 + at ≡ at = omega arith in
+      subst (λ n. IsRight code slots n (inlined code one)) same
+      (along_at code slots 0 (all_inlined code) along at (inlined code one)
+      (slice_get-map (inlined code) code.code at ∙ ap (option_map (inlined code)) there))
 
   all_behind : (at next : ℕ) (one : Instr) (fact : Fact) → slice_get code.code at ≡ Some one
       → In (nexts at one) next → In (all next) fact → In (learnt code (all at) one) fact
@@ -249,8 +255,7 @@ module _ (code : Tables) (flat : IsFlat code) (taken : AreTaken code) (fringes :
   -- what a loop demands
   abbrev Passing : ℕ → ℕ → List ExprOp → Type 0
   Passing at slot words =
-      WordsPass code (IsHere code (slots at) slot) (has_place code (kept_of code (slots at)) slot)
-      words
+      WordsPass (IsHere code (slots at) slot) (has_place code (kept_of code (slots at)) slot) words
 
   words_passing : (at slot : ℕ) (words : List ExprOp)
       → list_all (word_has_fringe code) words ≡ true → Passing at slot words
@@ -354,7 +359,7 @@ module _ (code : Tables) (flat : IsFlat code) (taken : AreTaken code) (fringes :
         by_start fact (in_append (uniform_at code 0) (kept_of code (slots 0)) fact h);
     behind = λ at next one fact there leads h. all_behind at next one fact there leads h;
     met = λ at one there. all_met at one there;
-    open = λ at fact h.
+    undecided = λ at fact h.
         by_open at fact (in_append (uniform_at code at) (kept_of code (slots at)) fact h);
   }
     where

@@ -13,6 +13,7 @@ use Rattle.zpl_region.specs.Tests.{is_within_limit}
 use Rattle.zpl_arrays.specs.Border.{border_conforms}
 use Rattle.node_form.specs.Control.{conforms, formed_by}
 use Rattle.node_form.specs.Value.{unmoved}
+use Rattle.node_form.specs.declared.instructions.DimRow.{DimRow}
 use Rattle.node_form.specs.declared.instructions.Instr.{Instr}
 use Rattle.node_form.specs.declared.instructions.Instr.TheVariants as instr
 use Rattle.node_form.specs.declared.instructions.RegionForm.{RegionForm}
@@ -24,24 +25,16 @@ use Rattle.code_parts.specs.Needs.{passes}
 use Rattle.code_parts.specs.Uses.{as_list}
 use Rattle.code_parts.proofs.ListLemmas.{In, filtered, from_each, from_mapped, in_append, in_back, in_each, in_front, in_mapped, some_passes, unfiltered}
 use Rattle.flat_form.specs.Row.{Row, inlined}
-use Rattle.node_check.specs.Fact.{Fact, Agree, Border, Held, Made, Stands, Uniform}
+use Rattle.node_check.specs.declared.facts.Fact.{Fact}
+use Rattle.node_check.specs.declared.facts.Fact.TheVariants.{Agree, Border, Held, Made, Stands, Uniform}
 use Rattle.node_check.specs.Learn.{learnt, loses, made, made_where, is_side, region_in, regions_of}
 use Rattle.node_check.specs.Demand.{are_held, do_agree, has_border, has_own, is_held, is_kind, is_met, is_stored, made_in, slots_made, source_shift, tells_agree, tells_border, tells_held}
 use Rattle.sound_lowering.specs.Goes.{AllHere, AreIn, ByCheck, ByRegion, HasBorder, HasSide, IsHere, MeetsPlain, behind_row, is_decided_held, is_of_slots}
+use Rattle.sound_lowering.specs.Uniform.{is_whole}
 use Rattle.sound_lowering.proofs.UniformLemmas.{learnt_kept, learnt_made}
 
 abbrev pub keeps : Tables → Fact → Bool
 keeps code fact = is_of_slots fact && not (is_decided_held code fact)
-
--- a row whose demands are of slots alone
-abbrev pub is_whole : Instr → Bool
-is_whole (instr.Edge border array slot shift) = true
-is_whole (instr.Flood array target from source) = true
-is_whole (instr.Part array target fold from source) = true
-is_whole (instr.Scan array slot fold along from mask) = true
-is_whole (instr.Gather truth array slot) = true
-is_whole (instr.Remap array slot from parts) = true
-is_whole row = false
 
 abbrev pub kept_of : Tables → List Fact → List Fact
 kept_of code facts = filter (keeps code) facts
@@ -62,7 +55,7 @@ module _ (code : Tables) (facts : List Fact) where
   abbrev few : List Fact
   few = kept_of code facts
 
-  kept_is : (fact : Fact) → In few fact → (In facts fact) × (keeps code fact ≡ true)
+  pub kept_is : (fact : Fact) → In few fact → (In facts fact) × (keeps code fact ≡ true)
   kept_is fact h = unfiltered (keeps code) facts fact h
 
   is_kept : (fact : Fact) → In facts fact → keeps code fact ≡ true → In few fact
@@ -121,19 +114,21 @@ module _ (code : Tables) (facts : List Fact) where
       (map (formed_by form shift) (regions_of facts from))))
       (made_where (is_side form && not (slot == from)) (Made form slot from shift)) fact h)
     where
-      regions : List Fact
-      regions =
-          map (Stands slot) (filter is_within_limit
-          (map (formed_by form shift) (regions_of few from)))
-
-      others : List Fact
-      others = made_where (is_side form && not (slot == from)) (Made form slot from shift)
-
       which : In (map (Stands slot) (filter is_within_limit
-          (map (formed_by form shift) (regions_of facts from)))) fact ⊎ In others fact
-          → In (regions ++ others) fact
-      which (inl h) = in_front regions others fact (formed_kept form from slot shift fact h)
-      which (inr h) = in_back regions others fact h
+          (map (formed_by form shift) (regions_of facts from)))) fact
+          ⊎ In (made_where (is_side form && not (slot == from)) (Made form slot from shift)) fact
+          → In (map (Stands slot) (filter is_within_limit
+          (map (formed_by form shift) (regions_of few from)))
+          ++ made_where (is_side form && not (slot == from)) (Made form slot from shift)) fact
+      which (inl h) =
+          in_front (map (Stands slot) (filter is_within_limit
+          (map (formed_by form shift) (regions_of few from))))
+          (made_where (is_side form && not (slot == from)) (Made form slot from shift)) fact
+          (formed_kept form from slot shift fact h)
+      which (inr h) =
+          in_back (map (Stands slot) (filter is_within_limit
+          (map (formed_by form shift) (regions_of few from))))
+          (made_where (is_side form && not (slot == from)) (Made form slot from shift)) fact h
   made_kept row fact h is = h
 
   learnt_few : (row : Instr) (fact : Fact) → In (learnt code facts row) fact
@@ -208,7 +203,7 @@ module _ (code : Tables) (facts : List Fact) where
   test_loses expr goal line (Agree target source kind) = refl
   test_loses expr goal line (Border other shift) = refl
 
-  dims_lose : (slot line : ℕ) (parts : List _) (fact : Fact)
+  dims_lose : (slot line : ℕ) (parts : List DimRow) (fact : Fact)
       → loses code (instr.Dims slot parts line) fact ≡ loses code (instr.Dims slot [] line) fact
   dims_lose slot line parts (Uniform other) = refl
   dims_lose slot line parts (Stands other region) = refl
@@ -273,20 +268,20 @@ module _ (code : Tables) (facts : List Fact) where
       in_each (region_in slot) few (Stands slot region) region
       (is_kept (Stands slot region) h refl) (in_region slot region)
 
-  held_kept : (slot array : ℕ) (shift : List ℤ) → IsHere code facts slot array shift
+  pub held_kept : (slot array : ℕ) (shift : List ℤ) → IsHere code facts slot array shift
       → is_held code few array shift slot ≡ true
-  held_kept slot array shift (ByRegion {region = region} h stored passing) =
+  held_kept slot array shift (ByRegion region h stored passing) =
       either_right (list_any (tells_held slot array shift) few)
       (is_stored code array && list_any (passes code array shift) (regions_of few slot))
       (both_true (is_stored code array) (list_any (passes code array shift) (regions_of few slot))
       stored
       (some_passes (passes code array shift) (regions_of few slot) region
       (stands_kept slot region h) passing))
-  held_kept slot array shift (ByCheck h open) =
+  held_kept slot array shift (ByCheck h told) =
       either_left (list_any (tells_held slot array shift) few)
       (is_stored code array && list_any (passes code array shift) (regions_of few slot))
       (some_passes (tells_held slot array shift) few (Held slot array shift)
-      (is_kept (Held slot array shift) h (ap not open))
+      (is_kept (Held slot array shift) h (ap not told))
       (both_true (slot == slot) ((array == array) && pointwise int_eq shift shift)
       (number_same slot)
       (both_true (array == array) (pointwise int_eq shift shift) (number_same array)

@@ -1,6 +1,6 @@
 -- What a loop demands, by its members seen inline.
 use Rattle.std.proofs.Common.{◌≡◌, ◌⊎◌, inl, inr, ℕ, zero, suc, ◌+◌, Bool, true, false, ◌&&◌, ◌||◌, ℤ, pos, refl, sym, ap, ◌∙◌, subst, true≢false}
-use Rattle.std.proofs.Common.{List, [], ◌∷◌, ◌++◌, map}
+use Rattle.std.proofs.Common.{List, [], ◌∷◌, ◌++◌, map, append_assoc}
 use Rattle.std.specs.Prelude.{Option, Some, None, flat_map, not, slice_get, slice_index_or}
 use Rattle.std.specs.List.{list_all}
 use Rattle.node_form.specs.Value.{unmoved}
@@ -19,7 +19,7 @@ both_true : (a b : Bool) → a ≡ true → b ≡ true → (a && b) ≡ true
 both_true true b first rest = rest
 both_true false b first rest = absurd (true≢false (sym first))
 
-found : {X : Type 0} (lists : List (List X)) (k : ℕ)
+pub found : {X : Type 0} (lists : List (List X)) (k : ℕ)
     → rows_or_none (slice_get lists k) ≡ slice_index_or lists k []
 found [] k = refl
 found (one ∷ lists) zero = refl
@@ -28,16 +28,23 @@ found (one ∷ lists) (suc k) = found lists k
 all_both : {X : Type 0} (test : X → Bool) (xs ys : List X) → list_all test xs ≡ true
     → list_all test ys ≡ true → list_all test (xs ++ ys) ≡ true
 all_both test [] ys first rest = rest
-all_both test (x ∷ xs) ys first rest = by (test x) first
+all_both test (x ∷ xs) ys first rest =
+    by (test x) (λ is. all_both test xs ys is rest) first
   where
-    by : (b : Bool) → (b && list_all test xs) ≡ true → (b && list_all test (xs ++ ys)) ≡ true
-    by true is = all_both test xs ys is rest
-    by false is = absurd (true≢false (sym is))
+    by : (b : Bool) → (list_all test xs ≡ true → list_all test (xs ++ ys) ≡ true)
+        → (b && list_all test xs) ≡ true → (b && list_all test (xs ++ ys)) ≡ true
+    by true later is = later is
+    by false later is = absurd (true≢false (sym is))
 
--- a test of places that passes wherever an array is there
-module _ (code : Tables) (Here : ℕ → List ℤ → Type 0) (test : ℕ × List ℤ → Bool)
-    (unmoved_pass : (array : ℕ) → Here array unmoved → test (array, unmoved) ≡ true) where
-  -- an expression, of which each word with a shift passes where its array is there
+each_place : (xs ys : Words)
+    → flat_map places_in (xs ++ ys) ≡ flat_map places_in xs ++ flat_map places_in ys
+each_place [] ys = refl
+each_place (x ∷ xs) ys =
+    ap (λ rest. places_in x ++ rest) (each_place xs ys)
+    ∙ sym (append_assoc (places_in x) (flat_map places_in xs) (flat_map places_in ys))
+
+-- an expression, of which each word with a shift passes where its array is there
+module _ (Here : ℕ → List ℤ → Type 0) (test : ℕ × List ℤ → Bool) where
   abbrev pub WordPasses : ExprOp → Type 0
   WordPasses (word.Shifted array shift) = Here array shift → test (array, shift) ≡ true
   WordPasses one = Unit {0}
@@ -46,7 +53,10 @@ module _ (code : Tables) (Here : ℕ → List ℤ → Type 0) (test : ℕ × Lis
   WordsPass [] = Unit {0}
   WordsPass (one ∷ words) = WordPasses one × WordsPass words
 
-  words_pass : (words : Words) → WordsPass words → HasWords Here words
+-- a test of places that passes wherever an array is there
+module _ (code : Tables) (Here : ℕ → List ℤ → Type 0) (test : ℕ × List ℤ → Bool)
+    (unmoved_pass : (array : ℕ) → Here array unmoved → test (array, unmoved) ≡ true) where
+  words_pass : (words : Words) → WordsPass Here test words → HasWords Here words
       → list_all test (flat_map places_in words) ≡ true
   words_pass [] passes has = refl
   words_pass (word.Here array ∷ words) passes has =
@@ -57,7 +67,7 @@ module _ (code : Tables) (Here : ℕ → List ℤ → Type 0) (test : ℕ × Lis
       (passes.0 has.0) (words_pass words passes.1 has.1)
   words_pass (one ∷ words) passes has = words_pass words passes.1 has.1
 
-  module _ (pass : (expr : ℕ) → WordsPass (words_at code expr)) where
+  module _ (pass : (expr : ℕ) → WordsPass Here test (words_at code expr)) where
     expr_passes : (expr : ℕ) → HasWords Here (words_at code expr)
         → list_all test (flat_map places_in (words_of code expr)) ≡ true
     expr_passes expr has =
@@ -77,20 +87,9 @@ module _ (code : Tables) (Here : ℕ → List ℤ → Type 0) (test : ℕ × Lis
     each_both : (xs ys : Words) → list_all test (flat_map places_in xs) ≡ true
         → list_all test (flat_map places_in ys) ≡ true
         → list_all test (flat_map places_in (xs ++ ys)) ≡ true
-    each_both [] ys first rest = rest
-    each_both (x ∷ xs) ys first rest = by (places_in x) first
-      where
-        by : (places : List (ℕ × List ℤ))
-            → list_all test (places ++ flat_map places_in xs) ≡ true
-            → list_all test (places ++ flat_map places_in (xs ++ ys)) ≡ true
-        by [] is = each_both xs ys is rest
-        by (place ∷ places) is = which (test place) is
-          where
-            which : (b : Bool)
-                → (b && list_all test (places ++ flat_map places_in xs)) ≡ true
-                → (b && list_all test (places ++ flat_map places_in (xs ++ ys))) ≡ true
-            which true is = by places is
-            which false is = absurd (true≢false (sym is))
+    each_both xs ys first rest =
+        subst (λ places. list_all test places ≡ true) (sym (each_place xs ys))
+        (all_both test (flat_map places_in xs) (flat_map places_in ys) first rest)
 
     two_exprs : (expr mask : ℕ) → HasWords Here (words_at code expr)
         → HasWords Here (words_at code mask)

@@ -1,5 +1,5 @@
 -- Structured code that goes so has facts in front of each of its rows, wherever it is laid out.
-use Rattle.std.proofs.Common.{◌≡◌, ◌⊎◌, inl, inr, ℕ, zero, suc, ◌+◌, ◌<◌, ◌≤◌, Bool, true, false, refl, sym, ap, ◌∙◌, subst, arith, true≢false}
+use Rattle.std.proofs.Common.{◌≡◌, ◌⊎◌, inl, inr, ℕ, zero, suc, ◌+◌, ◌<◌, ◌≤◌, Bool, true, false, refl, sym, ap, ◌∙◌, subst, arith, true≢false, length-append}
 use Rattle.std.proofs.Common.{List, [], ◌∷◌, ◌++◌, length, map}
 use Rattle.std.specs.Prelude.{Option, Some, None, filter, not}
 use Rattle.zpl_nums.specs.declared.ends.TrapKind.{TrapKind}
@@ -13,7 +13,8 @@ use Rattle.row_runs.specs.Structured.{Piece, flattened, size}
 use Rattle.flat_form.specs.Row as row
 use Rattle.flat_form.specs.Row.{Row}
 use Rattle.zpl_lowering.specs.Check.{Check, flat_row}
-use Rattle.node_check.specs.Fact.{Fact, Agree, Border, Held, Made, Stands, Uniform}
+use Rattle.node_check.specs.declared.facts.Fact.{Fact}
+use Rattle.node_check.specs.declared.facts.Fact.TheVariants.{Agree, Border, Held, Made, Stands, Uniform}
 use Rattle.node_check.specs.Learn.{learnt, loses, made}
 use Rattle.lowering_checks.specs.Walked.{laid}
 use Rattle.lowering_checks.proofs.WalkLemmas.{map_both, laid_rows, laid_then}
@@ -49,15 +50,19 @@ glued zero first rest k = rest k
 glued (suc n) first rest zero = first zero
 glued (suc n) first rest (suc k) = glued n (λ i. first (suc i)) rest k
 
-low : (n k : ℕ) (first rest : ℕ → List Fact) → k < n → glued n first rest k ≡ first k
+pub low : (n k : ℕ) (first rest : ℕ → List Fact) → k < n → glued n first rest k ≡ first k
 low zero k first rest below = absurd (omega (arith, below))
 low (suc n) zero first rest below = refl
 low (suc n) (suc k) first rest below =
     low n k (λ i. first (suc i)) rest (omega (arith, below))
 
-high : (n k : ℕ) (first rest : ℕ → List Fact) → glued n first rest (n + k) ≡ rest k
-high zero k first rest = refl
-high (suc n) k first rest = high n k (λ i. first (suc i)) rest
+pub high : (n k : ℕ) (first rest : ℕ → List Fact) → glued n first rest (n + k) ≡ rest k
+high zero k first rest =
+    let same : 0 + k ≡ k = omega arith in
+    ap rest same
+high (suc n) k first rest =
+    let same : suc n + k ≡ suc (n + k) = omega arith in
+    ap (glued (suc n) first rest) same ∙ high n k (λ i. first (suc i)) rest
 
 -- what is known in front of so many rows, and behind them where there are none
 abbrev pub front : ℕ → (ℕ → List Fact) → List Fact → List Fact
@@ -92,8 +97,12 @@ front_is at (suc n) before after Says has all agree exits fact h =
 front_glued : (n m : ℕ) (first rest : ℕ → List Fact) (before between after : List Fact)
     → AreIn (front n first between) before → AreIn (front m rest after) between
     → AreIn (front (n + m) (glued n first rest) after) before
-front_glued zero m first rest before between after one other fact h = one fact (other fact h)
-front_glued (suc n) m first rest before between after one other fact h = one fact h
+front_glued zero m first rest before between after one other fact h =
+    let same : 0 + m ≡ m = omega arith in
+    one fact (other fact (subst (λ k. In (front k rest after) fact) same h))
+front_glued (suc n) m first rest before between after one other fact h =
+    let same : suc n + m ≡ suc (n + m) = omega arith in
+    one fact (subst (λ k. In (front k (glued (suc n) first rest) after) fact) same h)
 
 -- one part behind the other
 pub has_both : {at n m : ℕ} {before between after : List Fact}
@@ -179,7 +188,9 @@ straight_run : (code : Tables) (at : ℕ) (one : Row) (rows : List Row) (before 
     → Runs code (at + 1) rows (behind_row code before one) after
     → Runs code at (one ∷ rows) before after
 straight_run code at one rows before after straight met runs =
-    has_so by (has_both (has_one at before (behind_row code before one)) runs)
+    let many : 1 + length rows ≡ length (one ∷ rows) = omega arith in
+    has_at refl many
+    (has_so by (has_both (has_one at before (behind_row code before one)) runs))
   where
     by : (all : ℕ → List Fact) → AreIn (all at) before
         → AreIn (all (at + (1 + length rows))) after
@@ -213,6 +224,9 @@ rows_run code at before (one ∷ rows) met =
 abbrev pub CodeRuns : Tables → ℕ → Piece Row Check → List Fact → List Fact → Type 0
 CodeRuns code at one before after =
     Has at (size one) before after (λ all. AreAlong code all at (laid at one))
+
+long_both : (xs ys : List Row) → length (xs ++ ys) ≡ length xs + length ys
+long_both xs ys = length-append xs ys
 
 map_long : {A B : Type 0} (f : A → B) (xs : List A) → length (map f xs) ≡ length xs
 map_long f [] = refl
@@ -316,13 +330,12 @@ test_right code all at test goal falls leaps = (tt, leads)
     leads next (inr (inr h)) fact there = absurd h
 
 -- what is known at one number is known at an equal one
-moved : (all : ℕ → List Fact) {n m : ℕ} {facts : List Fact} → n ≡ m → AreIn (all n) facts
+moved : (all : ℕ → List Fact) (facts : List Fact) (n m : ℕ) → n ≡ m → AreIn (all n) facts
     → AreIn (all m) facts
-moved all {facts = facts} same known = subst (λ n. AreIn (all n) facts) same known
+moved all facts n m same known = subst (λ n. AreIn (all n) facts) same known
 
-below : {all : ℕ → List Fact} {at : ℕ} {few facts : List Fact} → all at ≡ facts
-    → AreIn few facts → AreIn few (all at)
-below {few = few} here known = subst (λ facts. AreIn few facts) (sym here) known
+below : (few facts here : List Fact) → here ≡ facts → AreIn few facts → AreIn few here
+below few facts here same known = subst (λ facts. AreIn few facts) (sym same) known
 
 module _ (code : Tables) where
   when_runs : (at : ℕ) (test : Check) (body : Piece Row Check) (facts : List Fact)
@@ -339,8 +352,8 @@ module _ (code : Tables) where
       by all enters exits (here, along, joint) =
           let end : at + (1 + size body) ≡ at + size body + 1 = omega arith in
           let next : at + 1 ≡ suc at = omega arith in (
-            test_right code all at test (at + size body + 1) (below here joint)
-                (below here (moved all end exits)),
+            test_right code all at test (at + size body + 1) (below _ _ _ here joint)
+                (below _ _ _ here (moved all _ _ _ end exits)),
             subst (λ n. AreAlong code all n (laid (at + 1) body)) next along,
           )
 
@@ -357,7 +370,7 @@ module _ (code : Tables) where
       by all enters exits (here, there, joint) =
           let end : at + (1 + 1) ≡ at + 1 + 1 = omega arith in (
             test_right code all at test (at + 1 + 1)
-                (below here (λ fact h. absurd (joint fact h))) (below here (moved all end exits)),
+                (below _ _ _ here (λ fact h. absurd (joint fact h))) (below _ _ _ here (moved all _ _ _ end exits)),
             ((tt, λ next h. absurd h), tt),
           )
 
@@ -372,21 +385,17 @@ module _ (code : Tables) where
       (has_both (has_both (has_one at facts facts) first)
       (has_both (has_one (at + (1 + size one)) after facts) (has_at there refl second))))
     where
-      start : ℕ
-      start = at + size one + 2
-
-      leave : ℕ
-      leave = at + size one + size other + 2
-
       by : (all : ℕ → List Fact) → AreIn (all at) facts
           → AreIn (all (at + ((1 + size one) + (1 + size other)))) after
           → ((all at ≡ facts) × AreAlong code all (at + 1) (laid (at + 1) one)
           × AreIn (all (at + 1)) facts)
-          × ((all (at + (1 + size one)) ≡ after) × AreAlong code all start (laid start other)
+          × ((all (at + (1 + size one)) ≡ after) × AreAlong code all (at + size one + 2) (laid (at + size one + 2) other)
           × AreIn (all ((at + (1 + size one)) + 1)) facts)
           × AreIn (all (at + (1 + size one))) after
           → AreAlong code all at (laid at (piece.Choose test one other))
       by all enters exits ((here, along, joint), (jumps, along', joint'), meets) =
+          let start : ℕ = at + size one + 2 in
+          let leave : ℕ = at + size one + size other + 2 in
           let next : at + 1 ≡ suc at = omega arith in
           let goal : (at + (1 + size one)) + 1 ≡ start = omega arith in
           let end : at + ((1 + size one) + (1 + size other)) ≡ leave = omega arith in
@@ -397,9 +406,9 @@ module _ (code : Tables) where
           (Jump leave ∷ flattened start other) in
           let jump : IsRight code all (suc at + size one) (flat_row (Jump leave)) =
           subst (λ n. IsRight code all n (flat_row (Jump leave))) last
-          (jump_right code all (at + (1 + size one)) leave (below jumps (moved all end exits))) in (
-            test_right code all at test start (below here joint)
-                (below here (moved all goal joint')),
+          (jump_right code all (at + (1 + size one)) leave (below _ _ _ jumps (moved all _ _ _ end exits))) in (
+            test_right code all at test start (below _ _ _ here joint)
+                (below _ _ _ here (moved all _ _ _ goal joint')),
             subst (AreAlong code all (suc at)) (sym rows)
                 (sized_both code all (suc at) (size one) (laid (at + 1) one)
                 (flat_row (Jump leave) ∷ laid start other) long
@@ -419,23 +428,19 @@ module _ (code : Tables) where
       (has_both (has_at there refl second)
       (has_one (((at + size head) + 1) + size body) facts after)))))
     where
-      start : ℕ
-      start = at + size head + 1
-
-      end : ℕ
-      end = at + size head + size body + 2
-
       by : (all : ℕ → List Fact) → AreIn (all at) facts
           → AreIn (all (at + (size head + (1 + (size body + 1))))) after
           → AreAlong code all at (laid at head)
           × ((all (at + size head) ≡ after)
-          × (AreAlong code all start (laid start body)
+          × (AreAlong code all (at + size head + 1) (laid (at + size head + 1) body)
           × (all (((at + size head) + 1) + size body) ≡ facts)
           × AreIn (all (((at + size head) + 1) + size body)) facts)
           × AreIn (all ((at + size head) + 1)) after)
           × AreIn (all (at + size head)) after
           → AreAlong code all at (laid at (piece.While head test body))
       by all enters exits (along, (tests, (along', jumps, turn), joint), meets) =
+          let start : ℕ = at + size head + 1 in
+          let end : ℕ = at + size head + size body + 2 in
           let leave : at + (size head + (1 + (size body + 1))) ≡ end = omega arith in
           let next : (at + size head) + 1 ≡ suc (at + size head) = omega arith in
           let begin : start ≡ suc (at + size head) = omega arith in
@@ -447,13 +452,13 @@ module _ (code : Tables) where
           let rows' = map_both flat_row (flattened start body) back in
           let jump : IsRight code all (suc (at + size head) + size body) (flat_row (Jump at)) =
           subst (λ n. IsRight code all n (flat_row (Jump at))) last
-          (jump_right code all (((at + size head) + 1) + size body) at (below jumps enters)) in
+          (jump_right code all (((at + size head) + 1) + size body) at (below _ _ _ jumps enters)) in
           subst (AreAlong code all at) (sym rows)
           (sized_both code all at (size head) (laid at head)
           (map flat_row (Unless test end ∷ (flattened start body ++ back))) (laid_long at head)
           along (
-            test_right code all (at + size head) test end (below tests joint)
-                (below tests (moved all leave exits)),
+            test_right code all (at + size head) test end (below _ _ _ tests joint)
+                (below _ _ _ tests (moved all _ _ _ leave exits)),
             subst (AreAlong code all (suc (at + size head))) (sym rows')
                 (sized_both code all (suc (at + size head)) (size body) (laid start body)
                 (map flat_row back) (laid_long start body)
@@ -472,20 +477,18 @@ module _ (code : Tables) where
       (has_both (has_at there refl second)
       (has_one (((at + 1) + size body) + size head) after after)))))
     where
-      later : ℕ
-      later = at + size body + 1
-
       by : (all : ℕ → List Fact) → AreIn (all at) facts
           → AreIn (all (at + (1 + (size body + (size head + 1))))) after
           → (all at ≡ facts)
           × (AreAlong code all (at + 1) (laid (at + 1) body)
-          × (AreAlong code all later (laid later head)
+          × (AreAlong code all (at + size body + 1) (laid (at + size body + 1) head)
           × (all (((at + 1) + size body) + size head) ≡ after)
           × AreIn (all (((at + 1) + size body) + size head)) after)
           × AreIn (all ((at + 1) + size body)) between)
           × AreIn (all (at + 1)) facts
           → AreAlong code all at (laid at (piece.Repeat body head test))
       by all enters exits (here, (along, (along', tests, turn), meets), joint) =
+          let later : ℕ = at + size body + 1 in
           let tested : ℕ = ((at + 1) + size body) + size head in
           let next : at + 1 ≡ suc at = omega arith in
           let begin : later ≡ suc at + size body = omega arith in
@@ -497,9 +500,9 @@ module _ (code : Tables) where
           let test_is : IsRight code all ((suc at + size body) + size head)
           (flat_row (Unless test (at + 1))) =
           subst (λ n. IsRight code all n (flat_row (Unless test (at + 1)))) last
-          (test_right code all tested test (at + 1) (below tests (moved all end exits))
-          (below tests (λ fact h. again fact (joint fact h)))) in (
-            jump_right code all at (at + 1) (below here joint),
+          (test_right code all tested test (at + 1) (below _ _ _ tests (moved all _ _ _ end exits))
+          (below _ _ _ tests (λ fact h. again fact (joint fact h)))) in (
+            jump_right code all at (at + 1) (below _ _ _ here joint),
             subst (AreAlong code all (suc at)) (sym rows)
                 (sized_both code all (suc at) (size body) (laid (at + 1) body)
                 (map flat_row (flattened later head ++ back)) (laid_long (at + 1) body)
@@ -525,19 +528,19 @@ module _ (code : Tables) where
       (laid_long at first) said.0 said.1))
       (has_both (goes_runs at first before between one)
       (goes_runs (at + size first) rest between after others))
-  goes_runs at (piece.When test body) facts facts (WhenGoes inside) =
-      when_runs at test body facts (goes_runs (at + 1) body facts facts inside)
-  goes_runs at (piece.When test body) facts facts (TrapGoes {kind = kind} {line = line}) =
-      trap_runs at test kind line facts
-  goes_runs at (piece.Choose test one other) facts after (ChooseGoes first second) =
-      choose_runs at test one other facts after (goes_runs (at + 1) one facts after first)
-      (goes_runs (at + size one + 2) other facts after second)
-  goes_runs at (piece.While head test body) facts after (WhileGoes first second) =
-      while_runs at head test body facts after (goes_runs at head facts after first)
-      (goes_runs (at + size head + 1) body after facts second)
-  goes_runs at (piece.Repeat body head test) facts after (RepeatGoes {between = between} first second again) =
-      repeat_runs at body head test facts between after
-      (goes_runs (at + 1) body facts between first)
+  goes_runs at (piece.When test body) before after (WhenGoes inside) =
+      when_runs at test body before (goes_runs (at + 1) body before before inside)
+  goes_runs at (piece.When test body) before after (TrapGoes {kind = kind} {line = line}) =
+      trap_runs at test kind line before
+  goes_runs at (piece.Choose test one other) before after (ChooseGoes first second) =
+      choose_runs at test one other before after (goes_runs (at + 1) one before after first)
+      (goes_runs (at + size one + 2) other before after second)
+  goes_runs at (piece.While head test body) before after (WhileGoes first second) =
+      while_runs at head test body before after (goes_runs at head before after first)
+      (goes_runs (at + size head + 1) body after before second)
+  goes_runs at (piece.Repeat body head test) before after (RepeatGoes {between = between} first second again) =
+      repeat_runs at body head test before between after
+      (goes_runs (at + 1) body before between first)
       (goes_runs (at + size body + 1) head between after second) again
   goes_runs at one before less (Forgets {few = few} {after = after} more inside fewer) =
       has_less more (goes_runs at one few after inside) fewer

@@ -4,6 +4,7 @@ use Rattle.std.proofs.Common.{List, [], ◌∷◌, ◌++◌, length, Contains, r
 use Rattle.std.specs.Prelude.{Option, Some, None, filter, flat_map, map, not, slice_get, All}
 use Rattle.std.specs.List.{list_all, list_any, range_with_len}
 use Rattle.std.proofs.lemmas.Bool.Decides.{Decides-eqb}
+use Rattle.zpl_nums.specs.declared.folds.Fold.{Fold}
 use Rattle.node_form.specs.declared.words.ExprOp.{ExprOp}
 use Rattle.node_form.specs.declared.words.ExprOp.TheVariants as word
 use Rattle.node_form.specs.declared.instructions.Instr.{Instr}
@@ -11,7 +12,8 @@ use Rattle.node_form.specs.declared.instructions.Instr.TheVariants as instr
 use Rattle.node_form.specs.declared.tables.Tables.{Tables}
 use Rattle.code_parts.specs.Uses.{accumulated, scalars_in, words_of}
 use Rattle.code_parts.proofs.ListLemmas.{In, contained, filtered, from_each, from_mapped, in_append, in_back, in_front, in_list, in_mapped, one_passes, some_passes, unfiltered}
-use Rattle.node_check.specs.Fact.{Fact, Uniform}
+use Rattle.node_check.specs.declared.facts.Fact.{Fact}
+use Rattle.node_check.specs.declared.facts.Fact.TheVariants.{Uniform}
 use Rattle.node_check.specs.Learn.{changed_scalars, is_among, is_uniform, learnt, loses, made, made_where, start_facts, start_slots, tells_uniform}
 use Rattle.node_check.specs.Path.{nexts}
 use Rattle.sound_lowering.specs.Uniform.{AreTaken, Folds, Takes, awaited, awaited_by, awaited_behind, uniform_at}
@@ -30,7 +32,7 @@ in_range from (suc n) (suc k) below =
     inr (subst (λ m. In (range_with_len (from + 1) n) m) same
     (in_range (from + 1) n k (omega (arith, below))))
 
-in_all : (n k : ℕ) → k < n → In (range_with_len 0 n) k
+pub in_all : (n k : ℕ) → k < n → In (range_with_len 0 n) k
 in_all n k below =
     let same : 0 + k ≡ k = omega arith in
     subst (λ m. In (range_with_len 0 n) m) same (in_range 0 n k below)
@@ -53,7 +55,7 @@ pub record IsKept (code : Tables) (at : ℕ) (fact : Fact) : Type 0 where
 pub kept_in : (code : Tables) (at : ℕ) (fact : Fact) → In (uniform_at code at) fact
     → IsKept code at fact
 kept_in code at fact h =
-    let test = λ scalar. not (is_among (awaited code at) scalar) in
+    let test : ℕ → Bool = λ scalar. not (is_among (awaited code at) scalar) in
     let one = from_mapped Uniform (filter test (range_with_len 0 code.scalars)) fact h in
     let two = unfiltered test (range_with_len 0 code.scalars) one.0 one.1 in
     record {
@@ -186,25 +188,22 @@ module _ (code : Tables) (taken : AreTaken code) (named : NamesScalars code) whe
       → In (learnt code (uniform_at code at) (instr.Set scalar expr line)) fact
   set_behind at next scalar expr line there fact h = by (kept_in code next fact h)
     where
-      one : Instr
-      one = instr.Set scalar expr line
-
-      by : IsKept code next fact → In (learnt code (uniform_at code at) one) fact
+      by : IsKept code next fact → In (learnt code (uniform_at code at) (instr.Set scalar expr line)) fact
       by kept =
-          subst (λ fact. In (learnt code (uniform_at code at) one) fact) (sym kept.is)
+          subst (λ fact. In (learnt code (uniform_at code at) (instr.Set scalar expr line)) fact) (sym kept.is)
           (which (true_or_false (scalar == kept.scalar)))
         where
           which : ((scalar == kept.scalar) ≡ true) ⊎ ((scalar == kept.scalar) ≡ false)
-              → In (learnt code (uniform_at code at) one) (Uniform kept.scalar)
+              → In (learnt code (uniform_at code at) (instr.Set scalar expr line)) (Uniform kept.scalar)
           which (inl is) =
               let same : scalar ≡ kept.scalar = (Decides-eqb scalar kept.scalar).0 is in
-              learnt_made code (uniform_at code at) one (Uniform kept.scalar)
-              (subst (λ s. In (made code (uniform_at code at) one) (Uniform s)) same
+              learnt_made code (uniform_at code at) (instr.Set scalar expr line) (Uniform kept.scalar)
+              (subst (λ s. In (made code (uniform_at code at) (instr.Set scalar expr line)) (Uniform s)) same
               (made_is (is_uniform code (uniform_at code at) expr) (Uniform scalar)
-              (all_uniform at one there refl expr)))
+              (all_uniform at (instr.Set scalar expr line) there refl expr)))
           which (inr is) =
-              learnt_kept code (uniform_at code at) one (Uniform kept.scalar)
-              (calm_in code taken at one there refl kept.scalar kept.there)
+              learnt_kept code (uniform_at code at) (instr.Set scalar expr line) (Uniform kept.scalar)
+              (calm_in code taken at (instr.Set scalar expr line) there refl kept.scalar kept.there)
               (one_among scalar kept.scalar is)
 
   loop_behind : (at slot group : ℕ) → slice_get code.code at ≡ Some (instr.Loop slot group)
@@ -219,37 +218,34 @@ module _ (code : Tables) (taken : AreTaken code) (named : NamesScalars code) whe
       (learnt_kept code (uniform_at code at) one (Uniform kept.scalar)
       (calm_in code taken at one there refl kept.scalar kept.there) free)
 
-  fold_behind : (at next scalar : ℕ) (fold : _)
+  fold_behind : (at next scalar : ℕ) (fold : Fold)
       → slice_get code.code at ≡ Some (instr.Fold scalar fold) → (fact : Fact)
       → In (uniform_at code next) fact
       → In (learnt code (uniform_at code at) (instr.Fold scalar fold)) fact
   fold_behind at next scalar fold there fact h = by (kept_in code next fact h)
     where
-      one : Instr
-      one = instr.Fold scalar fold
-
-      by : IsKept code next fact → In (learnt code (uniform_at code at) one) fact
+      by : IsKept code next fact → In (learnt code (uniform_at code at) (instr.Fold scalar fold)) fact
       by kept =
-          subst (λ fact. In (learnt code (uniform_at code at) one) fact) (sym kept.is)
+          subst (λ fact. In (learnt code (uniform_at code at) (instr.Fold scalar fold)) fact) (sym kept.is)
           (which (true_or_false (scalar == kept.scalar)))
         where
           free : (scalar == kept.scalar) ≡ false → (b : Bool)
               → is_among (awaited code at) kept.scalar ≡ b → b ≡ false
           free other true is =
               let same : kept.scalar ≡ scalar =
-              one_taken (awaited code at) scalar one (taken_at code taken at one there)
+              one_taken (awaited code at) scalar (instr.Fold scalar fold) (taken_at code taken at (instr.Fold scalar fold) there)
               (λ s folds. folds) kept.scalar is in
               absurd (true≢false (sym ((Decides-eqb scalar kept.scalar).1 (sym same)) ∙ other))
           free other false is = refl
 
           which : ((scalar == kept.scalar) ≡ true) ⊎ ((scalar == kept.scalar) ≡ false)
-              → In (learnt code (uniform_at code at) one) (Uniform kept.scalar)
+              → In (learnt code (uniform_at code at) (instr.Fold scalar fold)) (Uniform kept.scalar)
           which (inl is) =
               let same : scalar ≡ kept.scalar = (Decides-eqb scalar kept.scalar).0 is in
-              learnt_made code (uniform_at code at) one (Uniform kept.scalar)
+              learnt_made code (uniform_at code at) (instr.Fold scalar fold) (Uniform kept.scalar)
               (inl (ap Uniform same))
           which (inr is) =
-              learnt_kept code (uniform_at code at) one (Uniform kept.scalar)
+              learnt_kept code (uniform_at code at) (instr.Fold scalar fold) (Uniform kept.scalar)
               (in_kept code at kept.scalar kept.there
               (free is (is_among (awaited code at) kept.scalar) refl)) refl
 

@@ -26,7 +26,8 @@ use Rattle.row_runs.specs.Structured.{Piece}
 use Rattle.flat_form.specs.Row as row
 use Rattle.flat_form.specs.Row.{Row, Member, Words}
 use Rattle.zpl_lowering.specs.Check.{Check}
-use Rattle.node_check.specs.Fact.{Fact, Agree, Border, Held, Made, Stands, Uniform}
+use Rattle.node_check.specs.declared.facts.Fact.{Fact}
+use Rattle.node_check.specs.declared.facts.Fact.TheVariants.{Agree, Border, Held, Made, Stands, Uniform}
 use Rattle.node_check.specs.Learn.{learnt}
 use Rattle.node_check.specs.Path.{nexts}
 use Rattle.node_check.specs.Demand.{is_stored, source_shift}
@@ -39,6 +40,39 @@ is_of_slots fact = true
 abbrev pub AreIn : List Fact → List Fact → Type 0
 AreIn few many = (fact : Fact) → In few fact → In many fact
 
+-- ---- what loops demand: that all that is named at a tuple is there
+module _ (Here : ℕ → List ℤ → Type 0) where
+  abbrev pub HasWord : ExprOp → Type 0
+  HasWord (word.Here array) = Here array unmoved
+  HasWord (word.Shifted array shift) = Here array shift
+  HasWord one = Unit {0}
+
+  abbrev pub HasWords : Words → Type 0
+  HasWords [] = Unit {0}
+  HasWords (one ∷ words) = HasWord one × HasWords words
+
+  abbrev pub HasMask : Option Words → Type 0
+  HasMask None = Unit {0}
+  HasMask (Some words) = HasWords words
+
+  abbrev pub HasMember : Member → Type 0
+  HasMember (row.Put array expr mask line) =
+      Here array unmoved × HasWords expr × HasMask mask
+  HasMember (row.Cell cell expr mask line) = HasWords expr × HasMask mask
+  HasMember (row.Acc scalar operator expr mask line) = HasWords expr × HasMask mask
+  HasMember (row.OpenIf expr mask line) = HasWords expr × HasMask mask
+  HasMember row.Otherwise = Unit {0}
+  HasMember row.CloseIf = Unit {0}
+  HasMember (row.OpenWhile expr mask line) = HasWords expr × HasMask mask
+  HasMember row.CloseWhile = Unit {0}
+  HasMember (row.OpenRepeat mask line) = HasMask mask
+  HasMember (row.Until expr) = HasWords expr
+
+  abbrev pub HasMembers : List Member → Type 0
+  HasMembers [] = Unit {0}
+  HasMembers (one ∷ group) = HasMember one × HasMembers group
+
+-- ---- what is known of slots
 module _ (code : Tables) where
   -- a check that always passes, since `fix` rows alone write its slot
   abbrev pub is_decided_held : Fact → Bool
@@ -48,42 +82,10 @@ module _ (code : Tables) where
 
   -- by the slot's region, or by a row of its own
   pub data IsHere (facts : List Fact) (slot array : ℕ) (shift : List ℤ) : Type 0 where
-    ByRegion : {region : Region} → In facts (Stands slot region) → is_stored code array ≡ true
+    ByRegion : (region : Region) → In facts (Stands slot region) → is_stored code array ≡ true
         → passes code array shift region ≡ true → IsHere facts slot array shift
     ByCheck : In facts (Held slot array shift)
         → is_decided_held (Held slot array shift) ≡ false → IsHere facts slot array shift
-
-  -- ---- what loops demand: that all that is named at a tuple is there
-  module _ (Here : ℕ → List ℤ → Type 0) where
-    abbrev pub HasWord : ExprOp → Type 0
-    HasWord (word.Here array) = Here array unmoved
-    HasWord (word.Shifted array shift) = Here array shift
-    HasWord one = Unit {0}
-
-    abbrev pub HasWords : Words → Type 0
-    HasWords [] = Unit {0}
-    HasWords (one ∷ words) = HasWord one × HasWords words
-
-    abbrev pub HasMask : Option Words → Type 0
-    HasMask None = Unit {0}
-    HasMask (Some words) = HasWords words
-
-    abbrev pub HasMember : Member → Type 0
-    HasMember (row.Put array expr mask line) =
-        Here array unmoved × HasWords expr × HasMask mask
-    HasMember (row.Cell cell expr mask line) = HasWords expr × HasMask mask
-    HasMember (row.Acc scalar operator expr mask line) = HasWords expr × HasMask mask
-    HasMember (row.OpenIf expr mask line) = HasWords expr × HasMask mask
-    HasMember row.Otherwise = Unit {0}
-    HasMember row.CloseIf = Unit {0}
-    HasMember (row.OpenWhile expr mask line) = HasWords expr × HasMask mask
-    HasMember row.CloseWhile = Unit {0}
-    HasMember (row.OpenRepeat mask line) = HasMask mask
-    HasMember (row.Until expr) = HasWords expr
-
-    abbrev pub HasMembers : List Member → Type 0
-    HasMembers [] = Unit {0}
-    HasMembers (one ∷ group) = HasMember one × HasMembers group
 
   -- ---- what rows demand
   abbrev pub AllHere : List Fact → ℕ → List ℕ → Type 0

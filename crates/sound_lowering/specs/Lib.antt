@@ -1,2 +1,5 @@
 pub mod Uniform
 pub mod Goes
+pub mod Undecided
+pub mod Deep
+pub mod Tells

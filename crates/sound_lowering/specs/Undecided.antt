@@ -3,7 +3,7 @@
 use Rattle.std.specs.Prelude.{◌≡◌, ℕ, true, false, List, [], slice_get, Some}
 use Rattle.node_form.specs.declared.instructions.Instr.{Instr}
 use Rattle.node_form.specs.declared.tables.Tables.{Tables}
-use Rattle.node_check.specs.Fact.{Fact}
+use Rattle.node_check.specs.declared.facts.Fact.{Fact}
 use Rattle.node_check.specs.Path.{AreFacts, Comes, nexts}
 use Rattle.node_check.specs.Learn.{learnt, start_facts}
 use Rattle.node_check.specs.Demand.{is_met}
@@ -19,4 +19,4 @@ pub record IsUndecidedSound (code : Tables) : Type 0 where
       → In (nexts at row) next → In (facts next) fact → In (learnt code (facts at) row) fact
   pub met : (at : ℕ) (row : Instr) → slice_get code.code at ≡ Some row
       → is_met code (facts at) [] row ≡ true
-  pub open : (at : ℕ) (fact : Fact) → In (facts at) fact → is_decided_held code fact ≡ false
+  pub undecided : (at : ℕ) (fact : Fact) → In (facts at) fact → is_decided_held code fact ≡ false

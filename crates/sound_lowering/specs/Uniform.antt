@@ -11,7 +11,8 @@ use Rattle.node_form.specs.declared.tables.Tables.{Tables}
 use Rattle.code_parts.specs.Uses.{accumulated}
 use Rattle.flat_form.specs.Row as row
 use Rattle.flat_form.specs.Row.{Row, Member}
-use Rattle.node_check.specs.Fact.{Fact, Uniform}
+use Rattle.node_check.specs.declared.facts.Fact.{Fact}
+use Rattle.node_check.specs.declared.facts.Fact.TheVariants.{Uniform}
 use Rattle.node_check.specs.Learn.{is_among}
 
 -- ---- the scalars that a row accumulates: their folds are awaited behind it
@@ -70,3 +71,19 @@ RowsTake (scalar ∷ scalars) rows = ⊥
 abbrev pub AreFolded : List Row → Type 0
 AreFolded [] = Unit {0}
 AreFolded (one ∷ rows) = RowsTake (row_totals one) rows × AreFolded rows
+
+-- ---- rows by what they demand
+-- of slots alone
+abbrev pub is_whole : Instr → Bool
+is_whole (instr.Edge border array slot shift) = true
+is_whole (instr.Flood array target from source) = true
+is_whole (instr.Part array target fold from source) = true
+is_whole (instr.Scan array slot fold along from mask) = true
+is_whole (instr.Gather truth array slot) = true
+is_whole (instr.Remap array slot from parts) = true
+is_whole row = false
+
+-- of scalars alone, or nothing: all rows but loops and those that act on whole arrays
+abbrev pub asks_scalars : Instr → Bool
+asks_scalars (instr.Loop slot group) = false
+asks_scalars one = not (is_whole one)
