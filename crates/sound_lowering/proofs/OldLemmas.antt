@@ -21,20 +21,8 @@ use Rattle.node_check.specs.declared.facts.Fact.TheVariants.{Agree, Border, Held
 use Rattle.node_check.specs.Learn.{is_among, learnt, loses, made, roomed_arrays}
 use Rattle.node_check.specs.Demand.{is_stored}
 use Rattle.sound_lowering.specs.Goes.{ByCheck, ByRegion, HasMask, HasWord, HasWords, IsHere, behind_row, behind_rows, is_decided_held, is_of_slots}
+use Rattle.sound_lowering.specs.Steady.{HasTree, HasTrees, IsOld, IsOldArray, Keeps}
 use Rattle.sound_lowering.proofs.UniformLemmas.{learnt_kept, learnt_made}
-
--- an array that is stored, or a temporary below a number
-abbrev pub IsOldArray : Tables → ℕ → ℕ → Type 0
-IsOldArray code n array = (is_stored code array ≡ true) ⊎ (array < n)
-
--- facts of slots that rows with rooms for temporaries from a number on leave alone
-abbrev pub IsOld : Tables → ℕ → Fact → Type 0
-IsOld code n (Uniform scalar) = ⊥
-IsOld code n (Held slot array shift) = IsOldArray code n array
-IsOld code n fact = Unit {0}
-
-abbrev pub Keeps : Tables → ℕ → List Fact → List Fact → Type 0
-Keeps code n facts after = (fact : Fact) → In facts fact → IsOld code n fact → In after fact
 
 pub older : (code : Tables) (n m array : ℕ) → n ≤ m → IsOldArray code n array
     → IsOldArray code m array
@@ -155,27 +143,11 @@ room_here code facts array slot temporary =
 
 -- ---- expressions whose places are there
 module _ (Here : ℕ → List ℤ → Type 0) where
-  abbrev pub HasTree : Expression → Type 0
-  HasTree (expr.Constant value) = Unit {0}
-  HasTree (expr.Variable scalar) = Unit {0}
-  HasTree (expr.Element array) = Here array unmoved
-  HasTree (expr.Neighbour array shift) = Here array shift
-  HasTree (expr.CellValue cell) = Unit {0}
-  HasTree (expr.Coordinate dimension) = Unit {0}
-  HasTree (expr.Operation op left right) = HasTree left × HasTree right
-  HasTree (expr.Negation operand) = HasTree operand
-  HasTree (expr.Denial operand) = HasTree operand
-  HasTree (expr.Absolute operand) = HasTree operand
-
-  abbrev pub HasTrees : List Expression → Type 0
-  HasTrees [] = Unit {0}
-  HasTrees (one ∷ rest) = HasTree one × HasTrees rest
-
   words_both : (xs ys : Words) → HasWords Here xs → HasWords Here ys → HasWords Here (xs ++ ys)
   words_both [] ys first rest = rest
   words_both (x ∷ xs) ys first rest = (first.0, words_both xs ys first.1 rest)
 
-  pub tree_words : (tree : Expression) → HasTree tree → HasWords Here (words_of tree)
+  pub tree_words : (tree : Expression) → HasTree Here tree → HasWords Here (words_of tree)
   tree_words (expr.Constant value) has = (tt, tt)
   tree_words (expr.Variable scalar) has = (tt, tt)
   tree_words (expr.Element array) has = (has, tt)

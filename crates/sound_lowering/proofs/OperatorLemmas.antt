@@ -41,7 +41,8 @@ use Rattle.node_check.specs.Demand.{is_stored}
 use Rattle.lowering_checks.proofs.HoistLemmas.{part_rows, flood_rows}
 use Rattle.sound_lowering.specs.Goes.{AllHere, AreMet, ByCheck, Forgets, Goes, HasMask, HasMembers, HasWords, IsHere, IsStraight, MeetsPlain, RowsGo, ThenGoes, TrapGoes, behind_row, behind_rows, is_of_slots}
 use Rattle.sound_lowering.specs.Deep.{AllAgree, AreDeep, AreDeepAt, HasIndices, count_of, AreOf, AreReferred, IsDeep, IsNumbered, IsOf, IsVector}
-use Rattle.sound_lowering.proofs.OldLemmas.{HasTree, HasTrees, IsOldArray, IsStill, Keeps, filter_keeps, here_kept, keeps_all, keeps_both, mask_so, older, room_here, room_keeps, still_keeps, tree_so, tree_words, trees_so, words_so}
+use Rattle.sound_lowering.specs.Steady.{HasTree, HasTrees, Hoists, IsOldArray, IsSteady, Keeps}
+use Rattle.sound_lowering.proofs.OldLemmas.{IsStill, filter_keeps, here_kept, keeps_all, keeps_both, mask_so, older, room_here, room_keeps, still_keeps, tree_so, tree_words, trees_so, words_so}
 
 -- ---- vectors
 both_true : (a b : Bool) → (a && b) ≡ true → (a ≡ true) × (b ≡ true)
@@ -81,17 +82,6 @@ vector_long storage (d ∷ shift) three =
     let same = shift_long storage.dims (d ∷ shift) in omega (arith, same, three)
 
 -- ---- what is there
-abbrev pub IsSteady : Tables → List Fact → ℕ → ℕ → ℕ → List ℤ → Type 0
-IsSteady code facts m slot array shift =
-    IsHere code facts slot array shift × IsOldArray code m array
-
-pub record Hoists (code : Tables) (n m slot : ℕ) (facts : List Fact) (one : Piece Row Check)
-    (left : Expression) : Type 0 where
-  pub after : List Fact
-  pub goes : Goes code facts one after
-  pub kept : Keeps code n facts after
-  pub has : HasTree (IsSteady code after m slot) left
-
 pub record HoistsAll (code : Tables) (n m slot : ℕ) (facts : List Fact) (one : Piece Row Check)
     (left : List Expression) : Type 0 where
   pub after : List Fact

@@ -3,3 +3,4 @@ pub mod Goes
 pub mod Undecided
 pub mod Deep
 pub mod Tells
+pub mod Steady
