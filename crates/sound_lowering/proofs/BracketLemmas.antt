@@ -30,12 +30,13 @@ use Rattle.sound_lowering.proofs.UniformLemmas.{learnt_kept, learnt_made}
 all_in : {X : Type 0} (test : X → Bool) (xs : List X) → list_all test xs ≡ true → (x : X)
     → In xs x → test x ≡ true
 all_in test [] all x h = absurd h
-all_in test (y ∷ xs) all x h = by (test y) refl all h
+all_in test (y ∷ xs) all x h = by (λ rest h. all_in test xs rest x h) (test y) refl all h
   where
-    by : (b : Bool) → test y ≡ b → (b && list_all test xs) ≡ true → In (y ∷ xs) x → test x ≡ true
-    by true is all (inl same) = ap test (sym same) ∙ is
-    by true is all (inr h) = all_in test xs all x h
-    by false is all h = absurd (true≢false (sym all))
+    by : (list_all test xs ≡ true → In xs x → test x ≡ true) → (b : Bool) → test y ≡ b
+        → (b && list_all test xs) ≡ true → In (y ∷ xs) x → test x ≡ true
+    by later true is all (inl same) = ap test (sym same) ∙ is
+    by later true is all (inr h) = later all h
+    by later false is all h = absurd (true≢false (sym all))
 
 fix_is : (code : Tables) (one : Instr) (slot : ℕ) (region : Region)
     → inlined code one ≡ row.Plain (instr.Fix slot region) → one ≡ instr.Fix slot region
@@ -101,7 +102,7 @@ module _ (code : Tables) where
 
   never : (slot : ℕ) (b : Bool) → b ≡ true → not b ≡ true → ⊥
   never slot true is no = true≢false (sym no)
-  never slot false is no = true≢false (sym is)
+  never slot false is _ = true≢false (sym is)
 
   formed_tells : (facts : List Fact) (form : RegionForm) (slot from : ℕ) (shift : List ℤ) (line : ℕ)
       → In (all_inlined code) (row.Plain (instr.Formed form slot from shift line))
@@ -251,8 +252,8 @@ module _ (code : Tables) where
   behind_both facts (x ∷ xs) ys = behind_both (behind_row code facts x) xs ys
 
   length_one : (xs : List ℕ) (x : ℕ) → length (xs ++ x ∷ []) ≡ length xs + 1
-  length_one [] x = refl
-  length_one (y ∷ xs) x = ap suc (length_one xs x)
+  length_one [] x = omega arith
+  length_one (y ∷ xs) x = omega (arith, length_one xs x)
 
   -- a slot that stands there already
   standing_well : (n : ℕ) (facts : List Fact) (slot : ℕ) (flood : List Bool)

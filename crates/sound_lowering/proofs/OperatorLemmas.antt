@@ -718,12 +718,12 @@ module _ (code : Tables) where
     }
 
     long_temps : (xs ys : List (List Bool)) → length (xs ++ ys) ≡ length xs + length ys
-    long_temps [] ys = refl
-    long_temps (x ∷ xs) ys = ap suc (long_temps xs ys)
+    long_temps [] ys = omega arith
+    long_temps (x ∷ xs) ys = omega (arith, long_temps xs ys)
 
     long_copies : (count : ℕ) (flood : List Bool) → length (replicate count flood) ≡ count
     long_copies zero flood = refl
-    long_copies (suc count) flood = ap suc (long_copies count flood)
+    long_copies (suc count) flood = omega (arith, long_copies count flood)
 
     trees_at : (n m : ℕ) (facts : List Fact) → n ≤ m → (slots : List ℕ) (trees : List Expression)
         → TreesAt code facts n slots trees → TreesAt code facts m slots trees
