@@ -1,12 +1,7 @@
 pub mod UniformLemmas
 pub mod LoopLemmas
 pub mod TakenLemmas
-pub mod FoldLemmas
 pub mod SegmentLemmas
 pub mod KeptLemmas
 pub mod AssembleLemmas
 pub mod SoundLemmas
-pub mod OldLemmas
-pub mod RoomLemmas
-pub mod OperatorLemmas
-pub mod BracketLemmas

@@ -1,5 +1,3 @@
 pub mod Uniform
 pub mod Goes
 pub mod Undecided
-pub mod Deep
-pub mod Tells
