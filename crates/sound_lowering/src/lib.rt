@@ -5,6 +5,8 @@
 #![tactic(auto)]
 
 ghost use Rattle.std.specs.Prelude.{◌≡◌, ◌++◌, ◌∷◌, ℕ, List, [], Some, slice_get, true};
+ghost use Rattle.zpl_tree.specs.Syntax.{Program};
+ghost use Rattle.zpl_binding.specs.Settings.{Setting};
 ghost use Rattle.node_form.specs.declared.instructions.Instr.{Instr};
 ghost use Rattle.node_form.specs.declared.instructions.Instr.TheVariants as instr;
 ghost use Rattle.node_form.specs.declared.tables.Tables.{Tables as Code};
@@ -14,6 +16,8 @@ ghost use Rattle.flat_form.specs.Row as row;
 ghost use Rattle.flat_form.specs.Row.{Row, all_inlined};
 ghost use Rattle.flat_form.specs.Static.{HasFringes};
 ghost use Rattle.zpl_lowering.specs.Check.{Check};
+ghost use Rattle.zpl_lowering.specs.Program.{lowered_program};
+ghost use Rattle.zpl_lowering.specs.Tables.{rows_of};
 ghost use Rattle.lowering_checks.specs.Walked.{laid};
 ghost use Rattle.node_check.specs.declared.facts.Fact.{Fact};
 ghost use Rattle.node_check.specs.Path.{AreFacts};
@@ -25,11 +29,13 @@ ghost use Rattle.sound_lowering.specs.Uniform.{AreFolded, AreTaken, asks_scalars
 pub use lowering_checks;
 pub use node_check;
 
-/// In tables whose rows have the fold of what a loop accumulates right behind the loop, a loop
-/// accumulates one scalar at most, and its fold is the next instruction.
+/// In the rows of a program, whatever it is, a loop accumulates one scalar at most, and its fold
+/// stands right behind it. So it does in tables that have such rows.
 pub fn folds_stand_behind_loops()
-    ensures { (code : Code) (rows : List Row) → all_inlined code ≡ rows → AreFolded rows →
-        AreTaken code }
+    ensures rows { (program : Program) (settings : List Setting) →
+        AreFolded (rows_of (lowered_program program settings)) }
+    ensures tables { (code : Code) (rows : List Row) → all_inlined code ≡ rows →
+        AreFolded rows → AreTaken code }
 {}
 
 /// In a flat program with folds right behind loops all scalars are uniform but those whose folds are
