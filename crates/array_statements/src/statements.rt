@@ -28,6 +28,7 @@ use crate::choices::{Truth, behind_prefixes, truth_of};
 use crate::counting::{is_past, next_value};
 use crate::endings::{is_done, stopped};
 use crate::faults::MeanFault;
+use crate::quick::quick_while;
 use crate::ranks::tests_rank;
 use crate::runs::{Run, body_place, entered_at};
 use crate::simple::{assign, give_back, print, set_borders, set_result, shatter};
@@ -182,9 +183,42 @@ fn exec_form<'n, O: Sink>(
     }
 }
 
-/// Runs a `while`, which tests before each turn.
+/// Runs a `while`, which tests before each turn. One of scalars alone goes by code that has their
+/// places in it.
 #[cycle(statements)]
 fn exec_while<'n, O: Sink>(
+    run: &Run<'_, 'n>,
+    place: &Place<'_, 'n>,
+    at: u32,
+    body: &[Stmt<'_>],
+    test: &Expr<'_>,
+    store: &mut Store,
+    buffers: &mut Buffers,
+    out: &mut O,
+) -> Result<End, MeanFault>
+    requires running { IsRunning run.now (place_of place.now).setup }
+    requires place { IsPlace place.now }
+    requires fit { IsFit (expr_of test.now) }
+    requires visited { AreVisited (place_of place.now).setup (place_of place.now)
+        (stmts_of body.now) }
+    ensures { let context = context_of run.now place.now in
+        Runs result (while_turns run.now.turns
+        (statement.test_of context.place (expr_of test.now) at)
+        (statement.exec_all context run.now.turns (stmts_of body.now)) store.old)
+        store.new (O.tells out.old) (O.tells out.new)
+        (faults_of (O.faults out.old) (O.has_failed out.old))
+        (faults_of (O.faults out.new) (O.has_failed out.new)) }
+{
+    let turns = run.turns;
+    match quick_while(run.alloc, place, turns, at, body, test, store) {
+        Some(ending) => Ok(ending),
+        None => exec_turns(run, place, at, body, test, store, buffers, out),
+    }
+}
+
+/// Runs the turns of a `while`, which tests before each.
+#[cycle(statements)]
+fn exec_turns<'n, O: Sink>(
     run: &Run<'_, 'n>,
     place: &Place<'_, 'n>,
     at: u32,

@@ -408,35 +408,35 @@ exec_form-returns-in-Return g t c =
 
 -- ---- loops
 
-pub exec_while-loop-ending-init : goal.exec_while-loop-ending-init
-exec_while-loop-ending-init g t c = goes_begin _ _ _
+pub exec_turns-loop-ending-init : goal.exec_turns-loop-ending-init
+exec_turns-loop-ending-init g t c = goes_begin _ _ _
 
-pub exec_while-returns-in-False : goal.exec_while-returns-in-False
-exec_while-returns-in-False g t c =
+pub exec_turns-returns-in-False : goal.exec_turns-returns-in-False
+exec_turns-returns-in-False g t c =
     let context = context_of c.args.run.now c.args.place.now in
     while_false (test_of context.place (expr_of c.args.test.now) c.args.at)
     (exec_all context c.args.run.now.turns (stmts_of c.args.body.now)) _ c.loop-ending.store
     c.loop-ending.left _ _ _ _ c.loop-ending.invariant c.in_ok-truth_of.field-0
     c.in_ok-truth_of.ensures c.in-False.is
 
-pub exec_while-returns-in-Ends : goal.exec_while-returns-in-Ends
-exec_while-returns-in-Ends g t c =
+pub exec_turns-returns-in-Ends : goal.exec_turns-returns-in-Ends
+exec_turns-returns-in-Ends g t c =
     let context = context_of c.args.run.now c.args.place.now in
     while_ends (test_of context.place (expr_of c.args.test.now) c.args.at)
     (exec_all context c.args.run.now.turns (stmts_of c.args.body.now)) _ c.loop-ending.store
     c.loop-ending.left _ _ _ _ c.loop-ending.invariant c.in_ok-truth_of.field-0
     c.in_ok-truth_of.ensures c.in-Ends.ending c.in-Ends.is
 
-pub exec_while-returns-then-left-eq0 : goal.exec_while-returns-then-left-eq0
-exec_while-returns-then-left-eq0 g t c =
+pub exec_turns-returns-then-left-eq0 : goal.exec_turns-returns-then-left-eq0
+exec_turns-returns-then-left-eq0 g t c =
     let context = context_of c.args.run.now c.args.place.now in
     while_wants (test_of context.place (expr_of c.args.test.now) c.args.at)
     (exec_all context c.args.run.now.turns (stmts_of c.args.body.now)) _ c.loop-ending.store
     c.loop-ending.left _ _ _ _ c.loop-ending.invariant c.in_ok-truth_of.field-0
     c.in_ok-truth_of.ensures c.in-True.is c.if-left-eq0.true
 
-pub exec_while-returns-in_err-ending : goal.exec_while-returns-in_err-ending
-exec_while-returns-in_err-ending g t c =
+pub exec_turns-returns-in_err-ending : goal.exec_turns-returns-in_err-ending
+exec_turns-returns-in_err-ending g t c =
     let context = context_of c.args.run.now c.args.place.now in
     passed c.from_residual-in_err-ending.result c.in_err-ending.field-0.0 _ c.exec_all.new.store
     _ _ _ _ c.from_residual-in_err-ending.ensures.1
@@ -446,8 +446,8 @@ exec_while-returns-in_err-ending g t c =
     c.in_ok-truth_of.ensures c.in-True.is c.if-left-eq0.false c.exec_all.new.store _ _
     c.in_err-ending.field-0.0 c.in_err-ending.ensures)
 
-pub exec_while-returns-then-not-is_done : goal.exec_while-returns-then-not-is_done
-exec_while-returns-then-not-is_done g t c =
+pub exec_turns-returns-then-not-is_done : goal.exec_turns-returns-then-not-is_done
+exec_turns-returns-then-not-is_done g t c =
     let context = context_of c.args.run.now c.args.place.now in
     while_ended (test_of context.place (expr_of c.args.test.now) c.args.at)
     (exec_all context c.args.run.now.turns (stmts_of c.args.body.now)) _ c.loop-ending.store
@@ -455,8 +455,8 @@ exec_while-returns-then-not-is_done g t c =
     c.in_ok-truth_of.ensures c.in-True.is c.if-left-eq0.false c.exec_all.new.store _ _
     c.in_ok-ending.ending (sym c.is_done.ensures ∙ c.if-not-is_done.true) c.in_ok-ending.ensures
 
-pub exec_while-loop-ending-preserved : goal.exec_while-loop-ending-preserved
-exec_while-loop-ending-preserved g t c =
+pub exec_turns-loop-ending-preserved : goal.exec_turns-loop-ending-preserved
+exec_turns-loop-ending-preserved g t c =
     let context = context_of c.args.run.now c.args.place.now in
     while_next (test_of context.place (expr_of c.args.test.now) c.args.at)
     (exec_all context c.args.run.now.turns (stmts_of c.args.body.now)) _ c.loop-ending.store

@@ -46,8 +46,11 @@ decreases-exec g l = l.run.now.depth * room_for l.run.now + 8 * goal.size-exec g
 abbrev pub decreases-exec_all : goal.decreases-exec_all
 decreases-exec_all g l = l.run.now.depth * room_for l.run.now + 8 * goal.size-exec_all g l + 6
 
+abbrev pub decreases-exec_turns : goal.decreases-exec_turns
+decreases-exec_turns g l = l.run.now.depth * room_for l.run.now + 8 * goal.size-exec_turns g l + 7
+
 abbrev pub decreases-exec_while : goal.decreases-exec_while
-decreases-exec_while g l = l.run.now.depth * room_for l.run.now + 8 * goal.size-exec_while g l + 7
+decreases-exec_while g l = l.run.now.depth * room_for l.run.now + 8 * goal.size-exec_while g l + 8
 
 abbrev pub decreases-exec_repeat : goal.decreases-exec_repeat
 decreases-exec_repeat g l =
@@ -70,8 +73,8 @@ invariant-exec_all-loop-stmt g l =
     (faults_of (g.O.Sink.faults l.initial.out) (g.O.Sink.has_failed l.initial.out))
     (faults_of (g.O.Sink.faults l.out) (g.O.Sink.has_failed l.out))
 
-abbrev pub invariant-exec_while-loop-ending : goal.invariant-exec_while-loop-ending
-invariant-exec_while-loop-ending g l =
+abbrev pub invariant-exec_turns-loop-ending : goal.invariant-exec_turns-loop-ending
+invariant-exec_turns-loop-ending g l =
     let context = context_of l.run l.place in
     let test = test_of context.place (expr_of l.test) l.at in
     let body = exec_all context l.run.turns (stmts_of l.body) in
@@ -80,8 +83,8 @@ invariant-exec_while-loop-ending g l =
     (faults_of (g.O.Sink.faults l.initial.out) (g.O.Sink.has_failed l.initial.out))
     (faults_of (g.O.Sink.faults l.out) (g.O.Sink.has_failed l.out))
 
-abbrev pub decreases-exec_while-loop-ending : goal.decreases-exec_while-loop-ending
-decreases-exec_while-loop-ending g l = l.left
+abbrev pub decreases-exec_turns-loop-ending : goal.decreases-exec_turns-loop-ending
+decreases-exec_turns-loop-ending g l = l.left
 
 abbrev pub invariant-exec_repeat-loop-left : goal.invariant-exec_repeat-loop-left
 invariant-exec_repeat-loop-left g l =
