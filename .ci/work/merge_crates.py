@@ -362,7 +362,7 @@ class Plan:
 
     def module(self, crate, kind, rest):
         """A path in specs/ or proofs/ of a part, with its new names."""
-        if kind == "specs" and rest[:1] == ("declared",):
+        if kind == "specs" and rest[:1] in (("declared",), ("contracts",)):
             return rest[:1] + tuple(self.mod(crate, it) for it in rest[1:2]) + rest[2:]
         if rest and rest[0] in self.of[crate].mods and kind == "proofs":
             return (self.mod(crate, rest[0]),) + rest[1:]
