@@ -1,6 +1,6 @@
 -- Expressions without operators over regions: what their code reads, and what it gives at a tuple.
 use Rattle.std.proofs.Common.{◌≡◌, refl, sym, ◌∙◌, ap, subst, arith, ℕ, zero, suc, ◌+◌, ◌<◌, Bool, true, false}
-use Rattle.std.proofs.Common.{◌&&◌, List, [], ◌∷◌, ◌++◌, length, ℤ, pos, Option, Some, None, inl, inr}
+use Rattle.std.proofs.Common.{◌&&◌, List, [], ◌∷◌, ◌++◌, length, ℤ, pos, Option, Some, None}
 use Rattle.std.specs.Prelude.{◌-◌, slice_get, slice_index_or}
 use Rattle.std.specs.List.{AllZip, list_all}
 use Rattle.zpl_nums.specs.declared.operators.Op.{Op}
@@ -11,7 +11,6 @@ use Rattle.zpl_nums.specs.UnaryOp.{applied_unary}
 use Rattle.zpl_region.specs.declared.regions.Region.{Region}
 use Rattle.zpl_region.specs.Dim.{IsCoordinate}
 use Rattle.zpl_region.specs.Region.{IsMember}
-use Rattle.zpl_region.proofs.ListLemmas.{Among}
 use Rattle.array_puts.specs.of_zpl_meaning.Computed as mean
 use Rattle.array_puts.specs.of_zpl_meaning.Computed.{both_then, computed_then}
 use Rattle.array_puts.specs.of_zpl_meaning.Store.{Store, scalar_at}
@@ -90,12 +89,6 @@ all_append f (x ∷ xs) ys = by (f x) (all_append f xs ys)
 pub both_true : (a b : Bool) → (a && b) ≡ true → (a ≡ true) × (b ≡ true)
 both_true true b e = (refl, e)
 both_true false b e = absurd (let bad : false ≡ true = e in cc)
-
-all_among : {A : Type 0} (f : A → Bool) (xs : List A) → ((x : A) → Among xs x → f x ≡ true)
-    → list_all f xs ≡ true
-all_among f [] h = refl
-all_among f (x ∷ xs) h =
-    ap (λ b. b && list_all f xs) (h x (inl refl)) ∙ all_among f xs (λ y k. h y (inr k))
 
 -- ---- under a region, in a state
 

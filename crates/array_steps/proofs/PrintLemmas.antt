@@ -294,16 +294,6 @@ module _ (place : Place) (store : Store) (line : Bool) (items : List Item) where
       by (Gives totals) i = absurd (cc)
       by (Traps k) i = let same : k ≡ kind = cc in ap Traps same
 
-  pub checks_stop : (stop : Stop) →
-      Stops stop (checked_each place store (printed_exprs place items)) →
-      Stops stop (print_text place store line items)
-  checks_stop NoMemory h = tt
-  checks_stop (Trap kind) h =
-      by_checked
-      ∙ ap
-      (λ c. computed_then (computed_then c (fields_of store))
-      (λ fields. computed_then (items_text place items fields) after)) h
-
 -- ---- one term
 
 map_stops : {A B C : Type 0} (stop : Stop) (f : A → B) (g : A → C) (c : Computed A) →

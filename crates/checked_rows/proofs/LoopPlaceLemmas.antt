@@ -160,11 +160,6 @@ flat_vector zero (x ∷ v) zeros =
     rest v zeros = zeros
 flat_vector (suc rank) (x ∷ v) zeros = ap (λ u. x ∷ u) (flat_vector rank v zeros)
 
-moved_many : (v t : List ℤ) → length (moved_by v t) ≡ length t
-moved_many [] t = refl
-moved_many (d ∷ v) [] = refl
-moved_many (d ∷ v) (x ∷ t) = ap suc (moved_many v t)
-
 -- ---- of a stored array: what is referred to is held, within its fringes
 module _ (code : Tables) (layout : HasLayout code) (array : ℕ) (row : ArrayRow)
     (there : slice_get code.arrays array ≡ Some row) (told : row.stored ≡ true) (p : ℕ)

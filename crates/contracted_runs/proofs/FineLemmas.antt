@@ -322,11 +322,6 @@ module _ (cell_of : ℕ → Option ℕ) (old new : ℕ) (IsPut : ℕ → Type 0)
       (subst (λ words. Among words (word.Here array)) (index_rows tables.exprs expr) inside))
       (inl refl)))
 
-  put_named : (array expr : ℕ) (mask : Option ℕ) (line : ℕ)
-      → is_named_in tables array (member.Put array expr mask line) ≡ true
-  put_named array expr mask line =
-      there_is array (named_by tables (member.Put array expr mask line)) (inl refl)
-
   -- a member that begins an array is a put of it, outermost and without a mask, whose expression
   -- doesn't name it
   record ItBegins (depth array : ℕ) (one : Member) : Type 0 where

@@ -495,11 +495,6 @@ index_last : {X : Type 0} (xs : List X) (x d : X) → slice_index_or (xs ++ x �
 index_last [] x d = refl
 index_last (y ∷ xs) x d = index_last xs x d
 
-length_set : {X : Type 0} (xs : List X) (k : ℕ) (v : X) → length (set xs k v) ≡ length xs
-length_set [] k v = refl
-length_set (x ∷ xs) zero v = refl
-length_set (x ∷ xs) (suc k) v = ap suc (length_set xs k v)
-
 patch_behind : (tables : Tables) (row : Row) (at goal : ℕ) → at < length tables.code
     → patched (with_row tables row) at goal ≡ with_row (patched tables at goal) row
 patch_behind tables row at goal inside =

@@ -1,9 +1,8 @@
 -- Hulls of storages.
-use Rattle.std.proofs.Common.{◌≡◌, ◌≢◌, refl, sym, ◌∙◌, ap, arith, ℕ, zero, suc, ◌+◌, ◌<◌, true, false, List, [], ◌∷◌, length, get_or, take, ℤ, Option, None}
+use Rattle.std.proofs.Common.{◌≡◌, refl, sym, ◌∙◌, ap, arith, ℕ, zero, suc, ◌+◌, ◌<◌, true, false, List, [], ◌∷◌, length, get_or, take, ℤ, Option, None}
 use Rattle.std.specs.Prelude.{◌==◌}
 use Rattle.std.proofs.Math.Seq.{take-suc}
 use Rattle.std.proofs.lemmas.Bool.{eq-eqb}
-use Rattle.std.proofs.lemmas.Bool.Decides.{nat_tests}
 use Rattle.std.proofs.lemmas.List.Sums.{fold-append}
 use Rattle.zpl_region.specs.declared.dims.Dim.{Dim}
 use Rattle.zpl_region.specs.declared.dims.Dim.TheVariants.{Flood}
@@ -18,14 +17,6 @@ hull_more rank k boxes i box h =
     let e : i + 1 ≡ suc i = omega arith in
     sym (ap (λ n. hull_in rank k (take n boxes)) e
     ∙ (ap (hull_in rank k) (take-suc boxes i box h) ∙ fold-append (widened rank k) None (take i boxes) (get_or boxes i box ∷ [])))
-
-differ : (n m : ℕ) → n ≢ m → (n == m) ≡ false
-differ n m other = grind (arith, nat_tests)
-
-pub other_rank : (rank k : ℕ) (hull : Option (ℤ × ℤ)) (box : ArrayBox) → box.shape.rank ≢ rank → hull ≡ widened rank k hull box
-other_rank rank k hull box other =
-    let e : (box.shape.rank == rank) ≡ false = differ box.shape.rank rank other in
-    rw e refl
 
 pub empty_one : (rank k : ℕ) (hull : Option (ℤ × ℤ)) (box : ArrayBox) → box.shape.rank ≡ rank → has_none box.shape ≡ true → hull ≡ widened rank k hull box
 empty_one rank k hull box same none =

@@ -117,15 +117,6 @@ messages_from_self count p (Taken q message ∷ events) named =
     ap (λ b. message_where b message ++ messages_from p events) named.0.1
     ∙ messages_from_self count p events named.1
 
-messages_to_self : {M : Type 0} (count p : ℕ) (events : List (Event M)) → NamesOthers count p events
-    → messages_to p events ≡ []
-messages_to_self count p [] named = refl
-messages_to_self count p (Quiet shown ∷ events) named = messages_to_self count p events named.1
-messages_to_self count p (Sent q message ∷ events) named =
-    ap (λ b. message_where b message ++ messages_to p events) named.0.1
-    ∙ messages_to_self count p events named.1
-messages_to_self count p (Taken q message ∷ events) named = messages_to_self count p events named.1
-
 -- ---- two lists that are one
 front_of : {X : Type 0} (xs ys us vs : List X) → xs ++ ys ≡ us ++ vs → length us ≤ length xs → xs
     ≡ us ++ drop (length us) xs

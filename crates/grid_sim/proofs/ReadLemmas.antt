@@ -143,7 +143,3 @@ ends_as grid ending answer over is = (
 
 pub some_over : (ls : List Local) (answer : Option End) → 1 ≤ length ls → answer ≡ ending_at ls 0 → All (λ (local : Local). IsSome local.ended) ls → IsSome answer
 some_over ls answer some is all = ap is_some is ∙ told_over ls some all
-
-pub none_first : (ls : List Workplace) → 1 ≤ length ls → slice_get ls 0 ≡ None → ⊥
-none_first [] some none = absurd (omega arith)
-none_first (w ∷ ls) some none = cc

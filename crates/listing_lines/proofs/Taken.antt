@@ -18,10 +18,6 @@ abbrev pub AreLeft : List ℕ → List ℤ → List (List ℕ) → Type 0
 AreLeft word taken texts =
     (ns : List ℤ) → All IsInteger ns → number_texts word ≡ map signed_decimal ns → IsLeft ns taken texts
 
-pub left_start : (word : List ℕ) (texts : List (List ℕ)) → number_texts word ≡ some_texts texts → AreLeft word [] texts
-left_start word texts same ns range written =
-    record { rest = ns; range = range; whole = refl; written = sym same ∙ written }
-
 pub left_empty : (word : List ℕ) (taken : List ℤ) (texts more : List (List ℕ)) → texts ≡ [] ∷ more →
     AreLeft word taken texts → AreLeft word taken more
 left_empty word taken texts more same left ns range written =

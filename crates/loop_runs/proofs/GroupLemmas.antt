@@ -4,7 +4,7 @@
 --   puts_it                      whether an array is put
 --   members_of_group             each member reads and writes so
 use Rattle.std.proofs.Common.{◌≡◌, ◌⊎◌, inl, inr, refl, sym, ◌∙◌, ap, subst, arith, ℕ, zero, suc}
-use Rattle.std.proofs.Common.{◌<◌, Bool, true, false, true≢false, ◌&&◌, ◌||◌, List, [], ◌∷◌, ◌++◌}
+use Rattle.std.proofs.Common.{Bool, true, false, true≢false, ◌&&◌, ◌||◌, List, [], ◌∷◌, ◌++◌}
 use Rattle.std.proofs.Common.{map, All, ℤ, Some, None, eqb-true}
 use Rattle.std.specs.Prelude.{◌==◌, flat_map, fold, if◌then◌else◌, not, slice_get, slice_index_or}
 use Rattle.std.specs.List.{list_all, list_any}
@@ -285,9 +285,6 @@ module _ (code : Tables) (exprs_fit : All (FitsExpr code) code.exprs) (slot grou
   pub record SettledOf (k : ℕ) : Type 0 where
     pub settled : is_settled whole k ≡ true
     pub read : Among scalars k
-
-  abbrev pub CellOf : ℕ → Type 0
-  CellOf c = (c < code.cells) × (c < count)
 
   members_are : uses.members_of code group ≡ members
   members_are = ap rows_or_none there

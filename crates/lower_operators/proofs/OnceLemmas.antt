@@ -182,10 +182,3 @@ module _ {K : Type 0} (eq : K → K → Bool) (view : K → Reference)
           ≡ (if b then map view keys else map view keys ++ view k ∷ [])
       by true = refl
       by false = map-append view keys (k ∷ [])
-
--- two tests that are true of what is the same agree
-pub tests-agree : (a b : Bool) → (a ≡ true → b ≡ true) → (b ≡ true → a ≡ true) → a ≡ b
-tests-agree true true h k = refl
-tests-agree false false h k = refl
-tests-agree true false h k = sym (h refl)
-tests-agree false true h k = k refl

@@ -92,10 +92,6 @@ current_rank currents (Some (suc (suc zero))) has = (2, refl, tt)
 current_rank currents (Some (suc (suc (suc zero)))) has = (3, refl, tt)
 current_rank currents (Some (suc (suc (suc (suc k))))) has = absurd has
 
-array_rank_is : (rank : Rank) → IsArrayRank rank → (k : ℕ) × (rank ≡ Some k)
-array_rank_is None is = absurd is
-array_rank_is (Some k) is = (k, refl)
-
 -- the ranks of tests go by names and the prefix alone
 arms_same : (one other : Reach) → one.scope ≡ other.scope → one.prefix ≡ other.prefix →
     (arms : Arms) → arms_rank one arms ≡ arms_rank other arms

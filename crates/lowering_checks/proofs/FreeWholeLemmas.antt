@@ -1,41 +1,27 @@
 -- In the rows of a program without faults, a loop that checks alone stand between and one before it
 -- reads no scalar that some loop accumulates; or it stands directly behind it, and puts an array.
-use Rattle.std.proofs.Common.{◌≡◌, inr, ℕ, zero, suc, ◌+◌, ◌==◌, Bool, true, false, not, List, [], ◌∷◌, ◌++◌, map, length, refl, sym, ap, ap₂, ◌∙◌, subst, arith}
-use Rattle.std.specs.Prelude.{◌≢◌, ◌||◌, Option, Some, None, IsSome, Contains}
-use Rattle.std.specs.List.{list_all, list_any}
-use Rattle.std.proofs.lemmas.Bool.Decides.{Decides-eqb}
-use Rattle.zpl_tree.specs.Syntax.{Prefix, Form, Assign, Invoke, Block, If, While, Repeat, For, Border, Write, Return, Tested, Arms, NoArm, ThenArm, Program}
+use Rattle.std.proofs.Common.{◌≡◌, inr, ℕ, ◌+◌, Bool, true, false, List, [], ◌∷◌, ◌++◌, length, refl, sym, ap₂, ◌∙◌, subst}
+use Rattle.std.specs.Prelude.{Option, Some, None, IsSome}
+use Rattle.std.specs.List.{list_all}
+use Rattle.zpl_tree.specs.Syntax.{Prefix, Form, Assign, Invoke, Block, If, While, Repeat, For, Border, Write, Return, Tested, Arms, NoArm, ThenArm}
 use Rattle.zpl_names.specs.Kinds.{Rank}
-use Rattle.zpl_names.specs.Accepted.{HasKnownRank, IsFaultless}
-use Rattle.zpl_names.specs.Declared.{Routine, routines_of}
-use Rattle.zpl_names.specs.Shapes.{Shapes, unknown_shapes}
-use Rattle.zpl_names.specs.Sites.{Reach, Site, AtStmt, Test, arms_rank, arms_sites, form_sites, inside, is_shattered, otherwise_sites, stmts_sites, routine_sites, test_rank, tests_rank, whole_sites}
-use Rattle.zpl_names.proofs.FaultlessLemmas.{clean-routine}
-use Rattle.zpl_names.proofs.ListLemmas.{among_from_Contains}
-use Rattle.zpl_binding.specs.Settings.{Setting}
-use Rattle.zpl_meaning.proofs.DepthLemmas.{Each, each_from, each_left, each_right}
-use Rattle.node_form.specs.declared.instructions.Instr.TheVariants as instr
-use Rattle.row_runs.specs.Code.{Jump, Unless}
+use Rattle.zpl_names.specs.Sites.{Reach, AtStmt, Test, arms_rank, arms_sites, form_sites, inside, is_shattered, otherwise_sites, stmts_sites, test_rank, tests_rank, whole_sites}
+use Rattle.zpl_meaning.proofs.DepthLemmas.{Each, each_left, each_right}
 use Rattle.row_runs.specs.Structured as piece
-use Rattle.row_runs.specs.Structured.{Piece, flattened, size}
 use Rattle.lowering_fits.specs.of_flat_form.Row as row
 use Rattle.lowering_fits.specs.of_flat_form.Row.{Row, Member, Words, mask_words}
-use Rattle.lowering_fits.specs.of_zpl_lowering.Check.{Check, flat_row}
 use Rattle.lowering_fits.specs.of_zpl_lowering.Where.{Slotted, slotted_at, Where, Next, reach_of}
 use Rattle.lowering_fits.specs.of_zpl_lowering.Reference.{Reference, over_reference, needs}
 use Rattle.lowering_fits.specs.of_zpl_lowering.Hoist.{mask_code}
 use Rattle.lowering_fits.specs.of_zpl_lowering.Statement.{Inside, form_inside, masked_members, has_put, apart_rows, shattered}
-use Rattle.lowering_fits.specs.of_zpl_lowering.Program.{lowered_program}
-use Rattle.lowering_fits.specs.of_zpl_lowering.Tables.{rows_of}
 use Rattle.lowering_checks.specs.Totals.{has_total}
-use Rattle.lowering_checks.specs.Walked.{behind_rows, laid}
-use Rattle.lowering_checks.specs.Reads.{totals_in, totals_of, is_free, FreeExprs, FreeMembers, AreFree}
-use Rattle.lowering_checks.proofs.WalkLemmas.{map_both, laid_rows, laid_then}
+use Rattle.lowering_checks.specs.Walked.{behind_rows}
+use Rattle.lowering_checks.specs.Reads.{totals_in, FreeExprs, FreeMembers}
 use Rattle.lowering_checks.proofs.SlateLemmas.{needs_quiet}
 use Rattle.lowering_checks.proofs.ShatterLemmas.{apart_quiet}
 use Rattle.lowering_checks.proofs.TotalLemmas.{form_none, masked_none}
-use Rattle.lowering_checks.proofs.NumberedLemmas.{GoesFromNumbered, IsSeen, AllHold, SitesHold, program_from}
-use Rattle.lowering_checks.proofs.FreeLemmas.{of_both, totals_both, code_totals, quiet_none, Misses, Within, Owns, IsReadFree, free_both, quiet_free, rows_free, may_read, along, mask_free, array_free_code}
+use Rattle.lowering_checks.proofs.NumberedLemmas.{GoesFromNumbered, IsSeen}
+use Rattle.lowering_checks.proofs.FreeLemmas.{totals_both, quiet_none, Within, IsReadFree, free_both, quiet_free, rows_free, may_read, along, mask_free, array_free_code}
 use Rattle.lowering_checks.proofs.FreeShatterLemmas.{IsWhole, some_first, members_both, form_free}
 
 none_in : (group : List Member) → has_total group ≡ false → totals_in group ≡ []
@@ -137,101 +123,3 @@ module _ (free : ℕ → Bool) where
     array = array_free_code free;
     shatters = shattered_free;
   }
-
--- ---- what is accumulated in all rows
-
-totals_laid : (at : ℕ) (code : Piece Row Check) → totals_of (laid at code) ≡ code_totals code
-totals_laid at (piece.Rows rows) = ap totals_of (laid_rows at rows)
-totals_laid at (piece.Then first rest) =
-    ap totals_of (laid_then at first rest)
-    ∙ totals_both (laid at first) (laid (at + size first) rest)
-    ∙ ap₂ (λ xs ys. xs ++ ys) (totals_laid at first) (totals_laid (at + size first) rest)
-totals_laid at (piece.When test body) = totals_laid (at + 1) body
-totals_laid at (piece.Choose test one other) =
-    let start = at + size one + 2 in
-    let leave = Jump (at + size one + size other + 2) in
-    ap totals_of (map_both flat_row (flattened (at + 1) one) (leave ∷ flattened start other))
-    ∙ totals_both (laid (at + 1) one) (flat_row leave ∷ laid start other)
-    ∙ ap₂ (λ xs ys. xs ++ ys) (totals_laid (at + 1) one) (totals_laid start other)
-totals_laid at (piece.While head test body) =
-    let end = at + size head + size body + 2 in
-    let start = at + size head + 1 in
-    let back = Jump at ∷ [] in
-    ap totals_of (map_both flat_row (flattened at head) (Unless test end ∷ (flattened start body ++ back)))
-    ∙ totals_both (laid at head)
-    (map flat_row (Unless test end ∷ (flattened start body ++ back)))
-    ∙ ap₂ (λ xs ys. xs ++ ys) (totals_laid at head)
-    (ap totals_of (map_both flat_row (flattened start body) back)
-    ∙ totals_both (laid start body) (map flat_row back)
-    ∙ last (totals_of (laid start body)) ∙ totals_laid start body)
-  where
-    last : (xs : List ℕ) → xs ++ [] ≡ xs
-    last [] = refl
-    last (x ∷ xs) = ap (λ rest. x ∷ rest) (last xs)
-totals_laid at (piece.Repeat body head test) =
-    let later = at + size body + 1 in
-    let back = Unless test (at + 1) ∷ [] in
-    ap totals_of (map_both flat_row (flattened (at + 1) body) (flattened later head ++ back))
-    ∙ totals_both (laid (at + 1) body) (map flat_row (flattened later head ++ back))
-    ∙ ap₂ (λ xs ys. xs ++ ys) (totals_laid (at + 1) body)
-    (ap totals_of (map_both flat_row (flattened later head) back)
-    ∙ totals_both (laid later head) (map flat_row back)
-    ∙ last (totals_of (laid later head)) ∙ totals_laid later head)
-  where
-    last : (xs : List ℕ) → xs ++ [] ≡ xs
-    last [] = refl
-    last (x ∷ xs) = ap (λ rest. x ∷ rest) (last xs)
-
-missed : (s : ℕ) (totals : List ℕ) → Misses s totals → is_free totals s ≡ true
-missed s [] misses = refl
-missed s (t ∷ totals) misses = by (s == t) refl (missed s totals misses.1)
-  where
-    by : (b : Bool) → (s == t) ≡ b → is_free totals s ≡ true →
-        not ((s == t) || list_any (λ total. s == total) totals) ≡ true
-    by true e rest = absurd (misses.0 ((Decides-eqb s t).0 e))
-    by false e rest =
-        subst (λ b. not (b || list_any (λ total. s == total) totals) ≡ true) (sym e) rest
-
--- ---- the sites of programs without faults
-
-held_from : (program : Program) (routines : List Routine) →
-    ((routine : Routine) → Contains routines routine → SitesHold program IsWhole routine) →
-    AllHold program IsWhole routines
-held_from program [] holds = tt
-held_from program (routine ∷ routines) holds = (
-  holds routine (zero, omega arith, refl),
-  held_from program routines
-      (λ other there. holds other (suc there.0, omega (arith, there.1), there.2)),
-)
-
--- that their ranks are known is handed in
-module _
-    (known : (program : Program) → IsFaultless program → (routine : Routine) →
-    Contains (routines_of program) routine → (shapes : Shapes) (site : Site) →
-    Contains (routine_sites program shapes routine) site → HasKnownRank site) where
-  all_whole : (program : Program) → IsFaultless program →
-      AllHold program IsWhole (routines_of program)
-  all_whole program clean =
-      held_from program (routines_of program) (λ routine member.
-      each_from IsWhole (routine_sites program unknown_shapes routine) (λ site there. (
-        known program clean routine member unknown_shapes site there,
-        (clean-routine program clean unknown_shapes routine
-            (among_from_Contains (routines_of program) routine member) site
-            (among_from_Contains (routine_sites program unknown_shapes routine) site there)).shattered,
-      )))
-
-  pub rows_read_free : (program : Program) (settings : List Setting) → IsFaultless program →
-      (let rows = rows_of (lowered_program program settings) in
-      AreFree (is_free (totals_of rows)) None rows)
-  rows_read_free program settings clean =
-      let made = lowered_program program settings in
-      let last : List Row = row.Plain instr.End ∷ [] in
-      let free : ℕ → Bool = is_free (totals_of (rows_of made)) in
-      let one = program_from (IsReadFree free) IsSome IsWhole (holds free) program settings
-      (all_whole program clean) in
-      let owns : Owns free 0 made.scalars (code_totals made.code) = λ s low high misses.
-      missed s (totals_of (rows_of made))
-      (subst (Misses s) (sym (totals_both (laid 0 made.code) last))
-      (of_both (λ t. s ≢ t) (totals_of (laid 0 made.code)) []
-      (subst (Misses s) (sym (totals_laid 0 made.code)) misses) tt)) in
-      free_both free None (laid 0 made.code) last (one.reads refl owns 0 None) (tt, tt)

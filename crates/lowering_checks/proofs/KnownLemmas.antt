@@ -114,12 +114,6 @@ pub all_right : (known : List Item) (xs ys : List Reference) → AllKnown known 
 all_right known [] ys all = all
 all_right known (x ∷ xs) ys all = all_right known xs ys all.1
 
-all_later : (item : Item) (known : List Item) (refs : List Reference) → AllKnown known refs →
-    AllKnown (item ∷ known) refs
-all_later item known [] all = tt
-all_later item known (one ∷ refs) all =
-    (known_later item (item_of one) known all.0, all_later item known refs all.1)
-
 -- behind their checks
 abbrev known_after : List Item → List Reference → List Item
 known_after known [] = known

@@ -1,39 +1,28 @@
 -- What holds of all code of a program, part by part, with the scalars that it has of its own, and
 -- those of the variables in its reach. Whatever the program is: no faults are ruled out.
-use Rattle.std.proofs.Common.{◌≡◌, ℕ, zero, suc, ◌+◌, ◌<◌, ◌≤◌, Bool, true, false, ℤ, pos, List, [], ◌∷◌, ◌++◌, length, refl, sym, ap, ◌∙◌, subst, arith, rules}
-use Rattle.std.specs.Prelude.{Option, Some, None, cond, find, slice_get}
+use Rattle.std.proofs.Common.{◌≡◌, ℕ, zero, suc, ◌+◌, ◌<◌, ◌≤◌, Bool, true, false, ℤ, List, [], ◌∷◌, ◌++◌, length, refl, ap, ◌∙◌, arith, rules}
+use Rattle.std.specs.Prelude.{Option, Some, None, slice_get}
 use Rattle.std.specs.List.{list_all}
-use Rattle.std.specs.Str.{bytes_eq}
 use Rattle.zpl_nums.specs.declared.operators.Op.{Op}
 use Rattle.zpl_nums.specs.declared.folds.Fold.{Fold}
 use Rattle.zpl_nums.specs.declared.folds.Fold.TheVariants as fold
 use Rattle.zpl_nums.specs.declared.ends.TrapKind.TheVariants as trap
 use Rattle.zpl_nums.specs.declared.ends.Border.{Border as BorderKind}
 use Rattle.zpl_region.specs.declared.regions.Region.{Region}
-use Rattle.zpl_tree.specs.Syntax as tree
-use Rattle.zpl_tree.specs.Syntax.{Name, Expr, Number, Truth, Coord, Named, Shifted, Around, Remap, Call, Paren, Neg, Not, Abs, Pair, Reduce, Scan, Flood, Exprs, NoExpr, ThenExpr, Prefix, Stmt, Prefixed, Stmts, NoStmt, ThenStmt, Form, Assign, Invoke, Block, If, While, Repeat, For, Border, Write, Return, Arm, Tested, Arms, NoArm, ThenArm, Otherwise, NoElse, Else, ForHead, Item, Str, Value, Bracket, NoBracket, Bracketed, VarDef, Base, Decl, Config, Regions, Directions, Vars, Defined, Program}
+use Rattle.zpl_tree.specs.Syntax.{Name, Expr, Number, Truth, Coord, Named, Shifted, Around, Remap, Call, Paren, Neg, Not, Abs, Pair, Reduce, Scan, Flood, Exprs, NoExpr, ThenExpr, Prefix, Stmt, Prefixed, Stmts, NoStmt, ThenStmt, Form, Assign, Invoke, Block, If, While, Repeat, For, Border, Write, Return, Arm, Tested, Arms, NoArm, ThenArm, Otherwise, NoElse, Else, ForHead, Item, Str, Value, Program}
 use Rattle.zpl_names.specs.Kinds.{Rank, Formal, ScalarFormal, ArrayFormal}
-use Rattle.zpl_names.specs.Scope as names
 use Rattle.zpl_names.specs.Scope.{kind_of}
 use Rattle.zpl_names.specs.Ranks.{first_rank, is_above_zero, rank_of}
-use Rattle.zpl_names.specs.Shapes.{prefix_rank, unknown_shapes}
-use Rattle.zpl_names.specs.Declared.{Routine, routine_named, routine_of, routines_behind, routines_of, scope_of, with_decl, with_procedure}
-use Rattle.zpl_names.specs.Expansion.{FormalName, formal_names}
-use Rattle.zpl_names.specs.Reached.{longest_chain}
+use Rattle.zpl_names.specs.Shapes.{prefix_rank}
+use Rattle.zpl_names.specs.Declared.{routines_of}
 use Rattle.zpl_names.specs.Sites as sites
-use Rattle.zpl_names.specs.Sites.{Role, Test, Printed, Assigned, Result, Limit, Reach, Site, AtStmt, arm_sites, arms_rank, arms_sites, body_sites, decl_sites, each_sites, form_sites, head_sites, in_body, inside, is_shattered, otherwise_sites, outermost_sites, prefixes_sites, routine_sites, step_sites, stmt_sites, stmts_sites, test_rank, text_sites, under_prefixes, whole_sites, tests_rank}
+use Rattle.zpl_names.specs.Sites.{Role, Test, Printed, Assigned, Result, Limit, Reach, Site, AtStmt, arm_sites, arms_rank, arms_sites, form_sites, inside, is_shattered, otherwise_sites, prefixes_sites, step_sites, stmt_sites, stmts_sites, test_rank, text_sites, under_prefixes, whole_sites, tests_rank}
 use Rattle.zpl_names.specs.Types.{type_of}
-use Rattle.zpl_binding.specs.Declarations.{known_of}
-use Rattle.zpl_binding.specs.Outcome.{Computed}
-use Rattle.zpl_binding.specs.Settings.{Setting}
-use Rattle.zpl_binding.specs.Storages.{borders_of}
 use Rattle.zpl_meaning.specs.Store.{Thing, Scalar, ArrayAt, Fixed, thing_of}
 use Rattle.zpl_meaning.specs.Context.{Mask, Setup}
 use Rattle.zpl_meaning.specs.Calls.{formals_in, actual_thing}
 use Rattle.zpl_meaning.specs.Points.{assigned_expr}
-use Rattle.zpl_meaning.specs.Program.{first_frame, setup_of}
 use Rattle.zpl_meaning.specs.Statement.{arms_at}
-use Rattle.zpl_meaning.specs.Variables.{Frame}
 use Rattle.node_form.specs.declared.instructions.Instr.TheVariants as instr
 use Rattle.node_form.specs.declared.instructions.RegionForm.TheVariants as form
 use Rattle.node_form.specs.Expression.{Expression, Constant, Variable, Element, Denial, words_of}
@@ -49,16 +38,14 @@ use Rattle.lowering_fits.specs.of_zpl_lowering.Slate.{Slate, Slates, NoSlate, Th
 use Rattle.lowering_fits.specs.of_zpl_lowering.Reference.{Reference, all_referred, all_conforming, needs}
 use Rattle.lowering_fits.specs.of_zpl_lowering.Hoist.{Hoisted, Free, behind as hoisted_behind, stored_element, fold_rows, kept_rows, scan_row, masked_scan, number_of, scanning, temps_from, three_of, rooms, index_puts, remap_code, remapping, border_vectors, border_rows, wrapping, mask_code, outside_code, trap_if, hoisted, all_hoisted}
 use Rattle.lowering_fits.specs.of_zpl_lowering.Lowered.{Lowered, rows_alone, behind, Phased, phased, phased_with, first_left, free_at, check_of}
-use Rattle.lowering_fits.specs.of_zpl_lowering.Statement.{Given, Valued, Copied, Referring, Calling, Lowering, placed_in, test_of, set_row, lowered_scalar, lowered_array, lowered_to, value_rows, value_exprs, referring, copying, given_to, with_values, lowered_invoke, target_of, lowered_assign, lowered_borders, is_border, prefix_opened, current_for, under_prefix, of_opened, is_last, lowered_under, counter_from, enters, is_done, step_row, counted, head_exprs, lowered_for, scalar_of, Shown, shown_at, shown_of, Prints, items_of, lowered_write, printed_exprs, is_truth, source_shift, each_border, shattered, choose_code, ends_arms, lowered, lowered_all, lowered_form, lowered_arms, lowered_arm, lowered_otherwise}
-use Rattle.lowering_fits.specs.of_zpl_lowering.Program.{Framed, with_scalar, with_array, Entry, zero_row, clear_row, made_copy, givens_code, names_code, locals_code, where_in, reads_round, in_call, routine_code, call_code, region_rows, scalars_from, globals_made, first_next, entry_calling, entry_code, lowered_program}
+use Rattle.lowering_fits.specs.of_zpl_lowering.Statement.{Given, Valued, Copied, Calling, Lowering, placed_in, test_of, set_row, lowered_scalar, lowered_array, lowered_to, value_rows, value_exprs, referring, copying, given_to, with_values, lowered_invoke, target_of, lowered_assign, lowered_borders, is_border, prefix_opened, current_for, under_prefix, of_opened, is_last, lowered_under, counter_from, enters, is_done, step_row, counted, head_exprs, lowered_for, scalar_of, Shown, shown_at, shown_of, Prints, items_of, lowered_write, printed_exprs, is_truth, source_shift, each_border, shattered, choose_code, ends_arms, lowered, lowered_all, lowered_form, lowered_arms, lowered_arm, lowered_otherwise}
+use Rattle.lowering_fits.specs.of_zpl_lowering.Program.{Framed}
 use Rattle.zpl_meaning.proofs.DepthLemmas.{Each, each_left, each_right}
-use Rattle.lowering_fits.specs.Whole.{local_frame}
 use Rattle.lowering_checks.proofs.KnownLemmas.{both_true}
 use Rattle.lowering_checks.proofs.TableLemmas.{both_are}
 use Rattle.lowering_checks.proofs.SlateLemmas.{AllQuiet, quiet_both, each_quiet, all_conforming_quiet, needs_quiet, opened_quiet}
 use Rattle.lowering_checks.proofs.HoistLemmas.{borders_quiet}
 use Rattle.lowering_checks.proofs.AssignLemmas.{set_quiet, values_quiet, edges_quiet, prints_quiet}
-use Rattle.lowering_checks.proofs.BodyLemmas.{if_quiet}
 
 -- ---- what is asked of a property of code that has so many scalars of its own from a number on, where
 -- others are those of variables: that it goes from parts to the whole, and holds of the loops of
@@ -380,19 +367,6 @@ valued (one ∷ actuals) = valued actuals
 -- and those of the variables in reach of a call
 abbrev pub scalars_for : Calling → List ℕ
 scalars_for calling = calling.numbers.scalars ++ valued calling.actuals
-
-all_left : {A : Type 0} (has : A → Bool) (xs ys : List A) → list_all has (xs ++ ys) ≡ true →
-    list_all has xs ≡ true
-all_left has [] ys all = refl
-all_left has (x ∷ xs) ys all =
-    let are = both_true (has x) (list_all has (xs ++ ys)) all in
-    both_are (has x) (list_all has xs) are.0 (all_left has xs ys are.1)
-
-all_right : {A : Type 0} (has : A → Bool) (xs ys : List A) → list_all has (xs ++ ys) ≡ true →
-    list_all has ys ≡ true
-all_right has [] ys all = all
-all_right has (x ∷ xs) ys all =
-    all_right has xs ys (both_true (has x) (list_all has (xs ++ ys)) all).1
 
 all_both : {A : Type 0} (has : A → Bool) (xs ys : List A) → list_all has xs ≡ true →
     list_all has ys ≡ true → list_all has (xs ++ ys) ≡ true
@@ -728,56 +702,6 @@ module _ (P : List ℕ → ℕ → ℕ → Piece Row Check → Type 0) (along : 
           to_each w (Assigned name None) line next (Flood at source operand)
           (thing_of w.environment name.text)
 
--- ---- the places of procedures are among those of the text
-module _ (program : Program) (Q : Site → Type 0) where
-  abbrev pub SitesHold : Routine → Type 0
-  SitesHold routine = Each Q (routine_sites program unknown_shapes routine)
-
-  abbrev pub AllHold : List Routine → Type 0
-  AllHold [] = Unit {0}
-  AllHold (routine ∷ routines) = SitesHold routine × AllHold routines
-
-  pub all_hold : (decls : List Decl) (earlier : List names.Entry) →
-      Each Q (each_sites with_decl (decl_sites program) earlier decls) →
-      AllHold (routines_behind earlier decls)
-  all_hold [] earlier all = tt
-  all_hold (Defined procedure ∷ decls) earlier all =
-      let sites = decl_sites program earlier (Defined procedure) in
-      let rest = each_sites with_decl (decl_sites program) (with_decl earlier (Defined procedure))
-      decls in (
-        each_right Q (head_sites earlier procedure)
-            (routine_sites program unknown_shapes (routine_of earlier procedure))
-            (each_left Q sites rest all),
-        all_hold decls (with_procedure earlier procedure) (each_right Q sites rest all),
-      )
-  all_hold (Config defines ∷ decls) earlier all =
-      all_hold decls _ (each_right Q (decl_sites program earlier (Config defines)) _ all)
-  all_hold (tree.Constant defines ∷ decls) earlier all =
-      all_hold decls _ (each_right Q (decl_sites program earlier (tree.Constant defines)) _ all)
-  all_hold (Regions regions ∷ decls) earlier all =
-      all_hold decls _ (each_right Q (decl_sites program earlier (Regions regions)) _ all)
-  all_hold (Directions directions ∷ decls) earlier all =
-      all_hold decls _ (each_right Q (decl_sites program earlier (Directions directions)) _ all)
-  all_hold (Vars vars ∷ decls) earlier all =
-      all_hold decls _ (each_right Q (decl_sites program earlier (Vars vars)) _ all)
-
-  abbrev FoundHolds : Option Routine → Type 0
-  FoundHolds None = Unit {0}
-  FoundHolds (Some routine) = SitesHold routine
-
-  found_holds : (is_it : Routine → Bool) (routines : List Routine) → AllHold routines →
-      FoundHolds (find is_it routines)
-  found_holds is_it [] all = tt
-  found_holds is_it (routine ∷ routines) all =
-      by (is_it routine) refl (found_holds is_it routines all.1)
-    where
-      by : (b : Bool) → is_it routine ≡ b → FoundHolds (find is_it routines) →
-          FoundHolds (find is_it (routine ∷ routines))
-      by true e rest =
-          subst (λ b. FoundHolds (cond b (Some routine) (find is_it routines))) (sym e) all.0
-      by false e rest =
-          subst (λ b. FoundHolds (cond b (Some routine) (find is_it routines))) (sym e) rest
-
 -- ---- shattered statements, each where it stands in the text
 pub record GoesFromNumbered (P : List ℕ → ℕ → ℕ → Piece Row Check → Type 0)
     (K : Rank → Type 0) (Q : Site → Type 0) : Type 0 where
@@ -966,59 +890,6 @@ module _ (P : List ℕ → ℕ → ℕ → Piece Row Check → Type 0) (K : Rank
           none_each w.numbers.scalars next.scalars
       otherwise_each w next (Else body) reach seen all = stmts_each w next body reach seen all
 
-    -- the statements of a body, of which the last may be its `return`
-    body_each : (w : Where) (next : Next) (body : Stmts) (reach : Reach) (result : Option Base) →
-        IsSeen K reach w → Each Q (body_sites reach result body) →
-        OfCode w.numbers.scalars next (lowered_all (at_place w) next body)
-    body_each w next NoStmt reach result seen all = none_each w.numbers.scalars next.scalars
-    body_each w next (ThenStmt last NoStmt) reach result seen all =
-        let one : Lowered = lowered (at_place w) next last in
-        along.then w.numbers.scalars next.scalars one.scalars 0 one.code (piece.Rows [])
-        (stmt_each w next last (record reach { result = result })
-        (record {
-          scope = seen.scope;
-          prefix = seen.prefix;
-          bare = seen.bare;
-          known = seen.known;
-        }) all)
-        (none_each w.numbers.scalars (next.scalars + one.scalars))
-    body_each w next (ThenStmt first (ThenStmt second rest)) reach result seen all =
-        let one : Lowered = lowered (at_place w) next first in
-        let others = body_sites reach result (ThenStmt second rest) in
-        let more : Lowered = lowered_all (at_place w) (behind next one) (ThenStmt second rest) in
-        along.then w.numbers.scalars next.scalars one.scalars more.scalars one.code more.code
-        (stmt_each w next first reach seen (each_left Q (stmt_sites reach first) others all))
-        (body_each w (behind next one) (ThenStmt second rest) reach result seen
-        (each_right Q (stmt_sites reach first) others all))
-
-    outermost_each : (w : Where) (next : Next) (stmt : Stmt) (reach : Reach)
-        (result : Option Base) → IsSeen K reach w → Each Q (outermost_sites reach result stmt) →
-        OfCode w.numbers.scalars next (lowered (at_place w) next stmt)
-    outermost_each w next (Prefixed at prefixes (Block body)) reach result seen all =
-        let within : Reach = under_prefixes reach prefixes in
-        under_each P along holds.array K false (λ inner after. lowered_form inner after at (Block body))
-        prefixes w call next reach seen
-        (λ inner after is. body_each inner after body within result is
-        (each_right Q (prefixes_sites reach prefixes) (body_sites within result body) all))
-    outermost_each w next (Prefixed at prefixes (Assign name op value)) reach result seen all =
-        stmt_each w next (Prefixed at prefixes (Assign name op value)) reach seen all
-    outermost_each w next (Prefixed at prefixes (Invoke name actuals)) reach result seen all =
-        stmt_each w next (Prefixed at prefixes (Invoke name actuals)) reach seen all
-    outermost_each w next (Prefixed at prefixes (If arms otherwise)) reach result seen all =
-        stmt_each w next (Prefixed at prefixes (If arms otherwise)) reach seen all
-    outermost_each w next (Prefixed at prefixes (While test body)) reach result seen all =
-        stmt_each w next (Prefixed at prefixes (While test body)) reach seen all
-    outermost_each w next (Prefixed at prefixes (Repeat body until test)) reach result seen all =
-        stmt_each w next (Prefixed at prefixes (Repeat body until test)) reach seen all
-    outermost_each w next (Prefixed at prefixes (For head body)) reach result seen all =
-        stmt_each w next (Prefixed at prefixes (For head body)) reach seen all
-    outermost_each w next (Prefixed at prefixes (Border kind names)) reach result seen all =
-        stmt_each w next (Prefixed at prefixes (Border kind names)) reach seen all
-    outermost_each w next (Prefixed at prefixes (Write ends items)) reach result seen all =
-        stmt_each w next (Prefixed at prefixes (Write ends items)) reach seen all
-    outermost_each w next (Prefixed at prefixes (Return value)) reach result seen all =
-        stmt_each w next (Prefixed at prefixes (Return value)) reach seen all
-
   -- ---- procedures
 
   -- code behind variables: each of their scalars has what those in reach have
@@ -1026,158 +897,3 @@ module _ (P : List ℕ → ℕ → ℕ → Piece Row Check → Type 0) (K : Rank
   Rests rest =
       (v : List ℕ) (frame : Framed) (after : Next) → Covers v frame.numbers.scalars →
       OfCode v after (rest frame after)
-
-  givens_each : (v : List ℕ) (line : ℕ) (formals : List FormalName) (actuals : List Given)
-      (frame : Framed) (next : Next) (rest : Framed → Next → Lowered) →
-      Covers v frame.numbers.scalars → Covers v (valued actuals) → Rests rest →
-      OfCode v next (givens_code line formals actuals frame next rest)
-  givens_each v line [] actuals frame next rest has given each = each v frame next has
-  givens_each v line (formal ∷ formals) [] frame next rest has given each = each v frame next has
-  givens_each v line (formal ∷ formals) (Valued scalar ∷ actuals) frame next rest has given each =
-      givens_each v line formals actuals (with_scalar frame formal.name scalar) next rest
-      (λ some all.
-      let are = both_true (some scalar) (list_all some (valued actuals)) (given some all) in
-      all_both some frame.numbers.scalars (scalar ∷ []) (has some all)
-      (both_are (some scalar) true are.0 refl))
-      (λ some all. (both_true (some scalar) (list_all some (valued actuals)) (given some all)).1)
-      each
-  givens_each v line (formal ∷ formals) (Referring thing ∷ actuals) frame next rest has given each =
-      givens_each v line formals actuals
-      (record frame { names = frame.names ++ (formal.name.text, thing) ∷ [] }) next rest has given
-      each
-  givens_each v line (formal ∷ formals) (Copied from home ∷ actuals) frame next rest has given each =
-      let made : Lowered = made_copy line next from in
-      let after : Next = behind next made in
-      let inner : Framed = with_array frame formal.name home
-      (record { array = next.arrays; storage = from.storage }) in
-      let others : Lowered = givens_code line formals actuals inner after rest in
-      along.then v next.scalars 0 others.scalars made.code others.code
-      (along.copy v next.scalars line from.array next.arrays next.slots from.storage)
-      (givens_each v line formals actuals inner after rest has given each)
-
-  names_each : (v : List ℕ) (setup : Setup) (entry : Entry) (shape : Bracket) (names : List Name)
-      (frame : Framed) (next : Next) (rest : Framed → Next → Lowered) →
-      Covers v frame.numbers.scalars → Rests rest →
-      OfCode v next (names_code setup entry shape names frame next rest)
-  names_each v setup entry shape [] frame next rest has each = each v frame next has
-  names_each v setup entry NoBracket (name ∷ names) frame next rest has each =
-      let one = local_frame setup entry NoBracket name frame next in
-      let others : Lowered = names_code setup entry NoBracket names one.frame one.next rest in
-      along.new v (v ++ next.scalars ∷ []) next.scalars 0 1 others.scalars
-      (piece.Rows (zero_row entry next.scalars)) others.code (omega arith)
-      (λ some all between.
-      all_both some v (next.scalars ∷ []) all
-      (both_are (some next.scalars) true
-      (between next.scalars (omega arith) (omega arith)) refl))
-      (along.quiet v next.scalars 0 (zero_row entry next.scalars) (if_quiet entry.clears
-      (row.Set next.scalars (words_of (Constant (pos 0))) entry.line ∷ []) (tt, tt)))
-      (names_each (v ++ next.scalars ∷ []) setup entry NoBracket names one.frame one.next rest
-      (λ some all.
-      all_both some frame.numbers.scalars (next.scalars ∷ [])
-      (has some (all_left some v (next.scalars ∷ []) all))
-      (all_right some v (next.scalars ∷ []) all))
-      each)
-  names_each v setup entry (Bracketed inner) (name ∷ names) frame next rest has each =
-      let one = local_frame setup entry (Bracketed inner) name frame next in
-      let others : Lowered = names_code setup entry (Bracketed inner) names one.frame one.next rest in
-      along.then v next.scalars 0 others.scalars (piece.Rows (clear_row entry next.arrays)) others.code
-      (along.quiet v next.scalars 0 (clear_row entry next.arrays) (if_quiet entry.clears
-      (row.Plain (instr.Clear next.arrays) ∷ []) (tt, tt)))
-      (names_each v setup entry (Bracketed inner) names one.frame one.next rest has each)
-
-  locals_each : (v : List ℕ) (setup : Setup) (entry : Entry) (vars : List VarDef) (frame : Framed)
-      (next : Next) (rest : Framed → Next → Lowered) → Covers v frame.numbers.scalars →
-      Rests rest → OfCode v next (locals_code setup entry vars frame next rest)
-  locals_each v setup entry [] frame next rest has each = each v frame next has
-  locals_each v setup entry (var ∷ vars) frame next rest has each =
-      names_each v setup entry var.shape var.names frame next
-      (λ frame after. locals_code setup entry vars frame after rest) has
-      (λ w frame after has. locals_each w setup entry vars frame after rest has each)
-
-  -- ---- calls, and the program
-
-  module _ (setup : Setup) (sites : AllHold setup.program Q (routines_of setup.program)) where
-    found_each : (text : List ℕ) → FoundHolds setup.program Q (routine_named setup.program text)
-    found_each text =
-        found_holds setup.program Q (λ routine. bytes_eq routine.procedure.name.text text)
-        (routines_of setup.program) sites
-
-    abbrev CallsHold : (Calling → Next → Lowered) → Type 0
-    CallsHold call =
-        (calling : Calling) (next : Next) → OfCode (scalars_for calling) next (call calling next)
-
-    routine_each : (clears : Bool) (call : Calling → Next → Lowered) → CallsHold call →
-        (found : Option Routine) → FoundHolds setup.program Q found →
-        (calling : Calling) (next : Next) →
-        OfCode (scalars_for calling) next (routine_code setup clears call found calling next)
-    routine_each clears call calls None held calling next =
-        none_each (scalars_for calling) next.scalars
-    routine_each clears call calls (Some routine) held calling next =
-        let entry : Entry = record { clears = clears; line = calling.line } in
-        let body : Framed → Next → Lowered = λ frame last.
-        lowered (record { place = where_in setup routine calling frame; call = call }) last
-        routine.procedure.body in
-        givens_each (scalars_for calling) calling.line (formal_names routine.procedure.params)
-        calling.actuals (record { names = []; numbers = calling.numbers })
-        (in_call (reads_round setup.program routine) next)
-        (λ frame after. locals_code setup entry routine.procedure.locals frame after body)
-        (λ some all. all_left some calling.numbers.scalars (valued calling.actuals) all)
-        (λ some all. all_right some calling.numbers.scalars (valued calling.actuals) all)
-        (λ v frame after has. locals_each v setup entry routine.procedure.locals frame after body has
-        (λ v frame last has.
-        along.sees v frame.numbers.scalars last.scalars (body frame last).scalars
-        (body frame last).code has
-        (outermost_each call calls (where_in setup routine calling frame) last
-        routine.procedure.body (in_body (scope_of setup.program routine) unknown_shapes)
-        routine.procedure.result (record {
-          scope = refl;
-          prefix = refl;
-          bare = refl;
-          known = holds.none;
-        }) held)))
-
-    calls_each : (depth : ℕ) → CallsHold (call_code setup depth)
-    calls_each zero calling next = none_each (scalars_for calling) next.scalars
-    calls_each (suc depth) calling next =
-        routine_each true (call_code setup depth) (calls_each depth)
-        (routine_named setup.program calling.name) (found_each calling.name) calling next
-
-    entry_each : (depth : ℕ) → CallsHold (entry_code setup depth)
-    entry_each zero calling next = none_each (scalars_for calling) next.scalars
-    entry_each (suc depth) calling next =
-        routine_each false (call_code setup depth) (calls_each depth)
-        (routine_named setup.program calling.name) (found_each calling.name) calling next
-
-  regions_quiet : (slot : ℕ) (all : List (Computed Region)) → AllQuiet (region_rows slot all)
-  regions_quiet slot [] = tt
-  regions_quiet slot (one ∷ rest) = (tt, regions_quiet (suc slot) rest)
-
-  globals_new : (has : ℕ → Bool) (high k : ℕ) (values : List ℤ) →
-      ((s : ℕ) → 0 ≤ s → s < high → has s ≡ true) → k + length values ≤ high →
-      list_all has (scalars_from k values) ≡ true
-  globals_new has high k [] all few = refl
-  globals_new has high k (value ∷ values) all few =
-      both_are (has k) (list_all has (scalars_from (suc k) values))
-      (all k (omega arith) (omega (arith, few)))
-      (globals_new has high (suc k) values all (omega (arith, few)))
-
-  pub program_from : (program : Program) (settings : List Setting) →
-      AllHold program Q (routines_of program) →
-      (let made = lowered_program program settings in P [] 0 made.scalars made.code)
-  program_from program settings sites =
-      let known = known_of program settings in
-      let borders = borders_of program in
-      let frame : Frame = first_frame program known borders in
-      let made : Lowered = globals_made known frame in
-      let next : Next = behind (first_next program) made in
-      let calling : Calling = entry_calling program frame in
-      let setup : Setup = setup_of program known borders frame in
-      let others : Lowered = entry_code setup longest_chain calling next in
-      along.new [] (scalars_for calling) 0 0 made.scalars others.scalars made.code others.code
-      (omega arith)
-      (λ has all between.
-      all_both has (scalars_from 0 frame.store.scalars) []
-      (globals_new has made.scalars 0 frame.store.scalars
-      (λ s from to. between s (omega (arith, from)) (omega (arith, to))) (omega arith)) refl)
-      (along.quiet [] 0 0 (region_rows 0 known.regions) (regions_quiet 0 known.regions))
-      (entry_each setup sites longest_chain calling next)

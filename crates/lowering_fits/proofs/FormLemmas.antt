@@ -154,9 +154,6 @@ lefts_count base (one ∷ placed) (first ∷ rest) fits =
 
 module _ (limits : LimitsAreTold) (base : Tables) (w : Where) (result : ℕ) (currents : Currents)
     (edge : Option Edge) (reach : IsReach base w currents) where
-  abbrev pub Here : Place
-  Here = place_at w result currents edge
-
   -- ---- assignments
 
   flat_assigned : (name : Name) (op : Option Op) (value : Expr) → HasFlatRemaps w.scope value →

@@ -184,13 +184,6 @@ module _ (code : Tables) (layout : HasLayout code) (links : Option ℕ) (n : ℕ
   abbrev Fit : Instr → Type 0
   Fit row = FitRowAgrees code links n row
 
-  -- the row's own scalars and those of its words are settled
-  settled_behind : (whole : Whole) (own : List ℕ) (exprs : List Words)
-      → list_all (is_settled whole) (own ++ each_word word_scalars exprs) ≡ true
-      → list_all (is_settled whole) (each_word word_scalars exprs) ≡ true
-  settled_behind whole own exprs e =
-      (all_parts (is_settled whole) own (each_word word_scalars exprs) e).1
-
   pub set_agrees : (scalar expr line : ℕ) → Fit (instr.Set scalar expr line)
   set_agrees scalar expr line fits three whole all holds =
       agree_if (are_settled whole (inlined code row)) _ _ (λ settled.

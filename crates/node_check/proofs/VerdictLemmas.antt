@@ -15,7 +15,7 @@ use Rattle.node_check.specs.Demand.{is_met}
 use Rattle.node_check.specs.Fact.{Fact}
 use Rattle.node_check.specs.Front.{Point, behind}
 use Rattle.node_check.specs.Path.{AreFacts, Begins, Comes, Follows, nexts, open_behind}
-use Rattle.node_check.specs.Settled.{IsGood, IsGoodAt, IsRight, IsStart, StartsWith}
+use Rattle.node_check.specs.Settled.{IsGoodAt, IsRight, IsStart, StartsWith}
 use Rattle.node_check.specs.Sound.{HasFacts, HasOneList, IsLeastUnmet, IsLinksNeeded, IsMet, IsSound, MeetsDemand}
 use Rattle.node_check.specs.Verdict.{are_same, differs, differs_at, is_unmet, is_wrong, judged, judged_at, judged_behind, judged_from, least_with, no_verdict, noted, noted_goal}
 use Rattle.node_check.specs.Walk.{falls, front_at, goal_of, here, next_where}
@@ -402,10 +402,6 @@ module _ (code : Tables) (fronts : List (Option Point)) (right : IsRight code fr
       let meets : MeetsDemand code at row = met row there in
       true≢false (sym ((are_same-Decides one other).1 (meets.alike one other here again))
       ∙ not_true (are_same one other) differ)
-
-  front_good : (at : ℕ) (o : Option Point) (front : Point) → IsGoodAt code at o → o ≡ Some front
-      → IsGood code at front
-  front_good at o front good is = subst (λ o. IsGoodAt code at o) is good
 
   fronts_differ : (at : ℕ) (row : Instr) (o current : Option Point) → slice_get code.code at ≡ Some row
       → IsGoodAt code at o → IsGoodAt code at current → differs o current ≡ true → ¬ IsMet code at

@@ -33,25 +33,6 @@ module _ (code : Tables) (registers : Registers) (a b c : DimRow) where
       rw (e, f, g) refl
   dims_all (suc (suc (suc (suc rank)))) x y z above below p q q' r r' = absurd (omega arith)
 
-  pub dims_first : (rank : ℕ) → 1 ≤ rank → rank ≤ 3 → (0 < rank → part_dim code registers 0 a ≡ Divides)
-      → made_dims code registers rank a b c ≡ Divides
-  dims_first zero above below p = absurd (omega arith)
-  dims_first (suc zero) above below p = let e = p (omega arith) in rw e refl
-  dims_first (suc (suc zero)) above below p = let e = p (omega arith) in rw e refl
-  dims_first (suc (suc (suc zero))) above below p = let e = p (omega arith) in rw e refl
-  dims_first (suc (suc (suc (suc rank)))) above below p = absurd (omega arith)
-
-  pub dims_second : (rank : ℕ) (x : Dim) → 1 ≤ rank → rank ≤ 3 → (0 < rank → part_dim code registers 0 a ≡ Gives x)
-      → (1 < rank → part_dim code registers 1 b ≡ Divides) → (rank ≤ 1 → ⊥)
-      → made_dims code registers rank a b c ≡ Divides
-  dims_second zero x above below p q q' = absurd (omega arith)
-  dims_second (suc zero) x above below p q q' = absurd (q' (omega arith))
-  dims_second (suc (suc zero)) x above below p q q' =
-      let e = p (omega arith) in let f = q (omega arith) in rw (e, f) refl
-  dims_second (suc (suc (suc zero))) x above below p q q' =
-      let e = p (omega arith) in let f = q (omega arith) in rw (e, f) refl
-  dims_second (suc (suc (suc (suc rank)))) x above below p q q' = absurd (omega arith)
-
   pub dims_third : (rank : ℕ) (x y : Dim) → 1 ≤ rank → rank ≤ 3 → (0 < rank → part_dim code registers 0 a ≡ Gives x)
       → (1 < rank → part_dim code registers 1 b ≡ Gives y)
       → (2 < rank → part_dim code registers 2 c ≡ Divides) → (rank ≤ 2 → ⊥)

@@ -337,12 +337,6 @@ module _ (tables : Tables) (n : ℕ) (spots : List Spot) (w : Where) (line : ℕ
 
   -- ---- parts of array_runs
 
-  abbrev PartAt : Slotted → Region → Slate → Term → Whole → Expression → Type 0
-  PartAt over region one meant later left =
-      (i : InSlot later.slots over region)
-      → IsPart tables spots w line later region.rank over (current_in later.slots over region i) one
-      meant left
-
   part_hoists : (over : Slotted) (region : Region) → InSlot slots over region → (one : Slate)
       (meant : Term) (field : Field) → field_of store meant ≡ mean.Gives field → (free : Unused)
       → next.scalars ≤ free.scalars → hoisted w.numbers line (free_of free) one

@@ -192,8 +192,6 @@ module _ (tables : Tables) (array : ℕ) where
         either false b e = e
 
   -- ---- then it becomes a cell
-  abbrev IsGroupOf : ℕ → List Member → Type 0
-  IsGroupOf group members = slice_get tables.groups group ≡ Some members
 
   record Standing (group : ℕ) (cell : IsCellLeft (contracted tables) array group) : Type 0 where
     members : List Member

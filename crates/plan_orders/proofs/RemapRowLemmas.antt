@@ -88,9 +88,6 @@ module _ (code : Tables) (links : Option ℕ) (at array slot from : ℕ) (parts 
   abbrev many : ℕ → ℕ
   many p = length (others code p)
 
-  abbrev after_asking : ℕ → ℕ
-  after_asking p = 1 + many p + many p
-
   abbrev to_back : ℕ → List ℕ
   to_back = answers_to code the_row all
 

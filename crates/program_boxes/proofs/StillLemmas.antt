@@ -19,7 +19,6 @@ use Rattle.zpl_meaning.proofs.DepthLemmas.{Each, each_left, each_right}
 use Rattle.zpl_meaning.proofs.ProperLemmas.{taken}
 use Rattle.meaning_ranks.specs.Ranked.{IsPointOf, ArePointsOf, IsPointFormOf, ArePointArmsOf, IsPointElseOf}
 use Rattle.lowered_flat.proofs.of_lowering_fits.TallyLemmas.{tally, IsTameDim, AreTameDims, IsTameInner}
-use Rattle.lowered_flat.proofs.of_lowering_fits.PointSiteLemmas.{actual_sites, IsNamed}
 
 -- ---- tallies
 
@@ -352,25 +351,6 @@ elementwise_still reach rank (Reduce at operator over operand) is =
 elementwise_still reach rank (Scan at operator along operand) is =
     let no : ⊥ = cc in absurd no
 elementwise_still reach rank (Flood at source operand) is = let no : ⊥ = cc in absurd no
-
-pub named_still : (reach : Reach) (actual : Expr) → IsNamed actual →
-    IsStill (actual_sites reach actual)
-named_still reach (Number at value) is = absurd is
-named_still reach (Truth at value) is = absurd is
-named_still reach (Coord at k) is = absurd is
-named_still reach (Named at name) is = record { reads = refl }
-named_still reach (Shifted at name shift) is = absurd is
-named_still reach (Around at name shift) is = absurd is
-named_still reach (Remap at name indices) is = absurd is
-named_still reach (Call at callee actuals) is = absurd is
-named_still reach (Paren at inside) is = absurd is
-named_still reach (Neg at operand) is = absurd is
-named_still reach (Not at operand) is = absurd is
-named_still reach (Abs at operand) is = absurd is
-named_still reach (Pair at operator left right) is = absurd is
-named_still reach (Reduce at operator over operand) is = absurd is
-named_still reach (Scan at operator along operand) is = absurd is
-named_still reach (Flood at source operand) is = absurd is
 
 -- ---- right sides that are elementwise
 

@@ -105,12 +105,6 @@ module _ (code : Tables) (p : ℕ) (local : Local) where
 
   -- words that begin what it keeps
   module _ (front : List (ℕ × List ℤ)) (entry : ℕ × List ℤ) (back : List (ℕ × List ℤ)) (whole : local.kept ≡ front ++ entry ∷ back) where
-    abbrev part_kept : List (ℕ × List ℤ)
-    part_kept = front ++ entry ∷ []
-
-    abbrev senders_in : List (ℕ × List ℤ) → List ℕ
-    senders_in kept = map (λ one. one.0) kept
-
     nothing : local.kept ≡ [] → ⊥
     nothing none = not_nothing front entry back (sym none ∙ whole)
 
@@ -369,9 +363,6 @@ among p a (suc n) x from below other = by (order_of a x from) (λ more. among p 
   by (inr less) more = later (more less) (a == p)
 
 module _ (code : Tables) (links : List (List Message)) (p : ℕ) (own : link_of (processors code) links p p ≡ []) where
-  abbrev sent_on : ℕ → List (ℕ × Message)
-  sent_on q = map (λ message. (q, message)) (link_of (processors code) links p q)
-
   pub sents_from : List ℕ → List (ℕ × Message)
   sents_from [] = []
   sents_from (q ∷ qs) = map (λ message. (q, message)) (link_of (processors code) links p q) ++ sents_from qs
@@ -434,9 +425,6 @@ module _ (code : Tables) (links : List (List Message)) (p : ℕ) (own : link_of 
 
 -- ---- all states
 module _ (code : Tables) (grid : Grid) (may : IsSaveable code grid) where
-  abbrev lines_at : ℕ → List SavedLine
-  lines_at p = state_lines code grid.world.links p (slice_get grid.world.locals p)
-
   one_read : (p : ℕ) (local : Local) (rest : List SavedLine) → p < processors code → slice_get grid.world.locals p ≡ Some local → IsEnding local.ended → IsEnd rest →
       (state : State) × ReadsState code p (state_lines code grid.world.links p (slice_get grid.world.locals p) ++ rest) state rest
   one_read p local rest below found ends end =

@@ -25,9 +25,6 @@ use Rattle.needs_runs.proofs.HoldsLemmas.{both_parts, both_true}
 use Rattle.sharable_tables.proofs.UnitLemmas.{same_depth}
 
 -- ---- lists
-or_parts : (a b : Bool) → (a || b) ≡ true → (a ≡ true) ⊎ (b ≡ true)
-or_parts true b e = inl refl
-or_parts false b e = inr e
 
 or_left : (a b : Bool) → a ≡ true → (a || b) ≡ true
 or_left true b e = refl

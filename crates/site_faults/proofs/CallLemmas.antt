@@ -89,22 +89,6 @@ all_fit-lengths reach (formal ∷ formals) (actual ∷ actuals) differ =
     and-false true = refl
     and-false false = refl
 
-pub all_fit-next : (reach : Reach) (formals : List Formal) (actuals : List CodeExpr) (k : ℕ)
-    (f : Formal) (a : CodeExpr) → k < length formals → k < length actuals →
-    all_fit reach (map formal_of (drop k formals)) (exprs_of (drop k actuals)) ≡
-    fits reach (formal_of (get_or formals k f)) (expr_of (get_or actuals k a)) &&
-    all_fit reach (map formal_of (drop (k + 1) formals)) (exprs_of (drop (k + 1) actuals))
-all_fit-next reach formals actuals k f a one two =
-    ap₂ (λ formals actuals. all_fit reach (map formal_of formals) (exprs_of actuals))
-    (drop-next formals k f one) (drop-next actuals k a two)
-
-pub all_fit-end : (reach : Reach) (formals : List Formal) (actuals : List CodeExpr) (k : ℕ) →
-    length formals ≤ k → length actuals ≤ k →
-    all_fit reach (map formal_of (drop k formals)) (exprs_of (drop k actuals)) ≡ true
-all_fit-end reach formals actuals k one two =
-    ap₂ (λ formals actuals. all_fit reach (map formal_of formals) (exprs_of actuals))
-    (drop_all k formals one) (drop_all k actuals two)
-
 pub fixed-next : (reach : Reach) (formals : List Formal) (actuals : List CodeExpr) (k : ℕ)
     (f : Formal) (a : CodeExpr) (old new whole : State) → k < length formals → k < length actuals →
     new ≡ tells kind.NotAssignable

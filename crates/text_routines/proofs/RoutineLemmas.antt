@@ -34,11 +34,6 @@ pub stops-global : (earlier : List Entry) (decl : Decl) (stop : Stop) →
 stops-global earlier decl NoMemory h = tt
 stops-global earlier decl (Twice at) h = inl h
 
-pub err-global : {A : Type 0} (r : Result A Stop) (earlier : List Entry) (decl : Decl) →
-    IfErr r (Stops (with_decl earlier decl)) → IfErr r (StopsAt earlier (decl ∷ []))
-err-global (Ok v) earlier decl h = tt
-err-global (Err stop) earlier decl h = stops-global earlier decl stop h
-
 -- a stop at an own name of a procedure
 own-place : (earlier : List Entry) (procedure : plain.Procedure) (stop : Stop) →
     ((at : ℕ) → stop ≡ Twice at → Contains (repeated [] (own_names procedure)) at) →
@@ -63,11 +58,6 @@ stops-own earlier procedure stop h =
     let Q : Stop → Type 0 = λ stop. Stops (own_entries earlier procedure) stop in
     subst P (ap (repeated []) (own-entries-names earlier procedure)) (subst Q e h))
 
-pub stop-memory : (earlier : List Entry) (decls : List Decl) (stop : Stop) → stop ≡ NoMemory →
-    StopsAt earlier decls stop
-stop-memory earlier decls NoMemory e = tt
-stop-memory earlier decls (Twice at) e = absurd (let wrong : Twice at ≡ NoMemory = e in cc)
-
 -- a stop that is passed on
 pub passed : {A : Type 0} (r : Result A Stop) (stop : Stop) (earlier : List Entry)
     (decls : List Decl) →
@@ -75,10 +65,6 @@ pub passed : {A : Type 0} (r : Result A Stop) (stop : Stop) (earlier : List Entr
 passed (Ok v) stop earlier decls is h = tt
 passed (Err s) stop earlier decls is h =
     let P : Stop → Type 0 = λ s. StopsAt earlier decls s in subst P (sym is) h
-
-pub passed-memory : {A : Type 0} (r : Result A Stop) (earlier : List Entry) (decls : List Decl) →
-    IsErrAnd r (λ s. s ≡ NoMemory) → IfErr r (StopsAt earlier decls)
-passed-memory r earlier decls is = passed r NoMemory earlier decls is tt
 
 -- ---- one declaration and those behind it
 

@@ -103,18 +103,6 @@ misses_more operator (suc k) (x ∷ first) (y ∷ second) (is_in ∷ kept) d e a
     misses_more operator k first second kept d e (omega arith) (omega arith) (omega arith) h
     ∙ ap (λ n. misses_from operator n (x ∷ first) (y ∷ second) (is_in ∷ kept)) (let next : suc (k + 1) ≡ suc k + 1 = omega arith in next)
 
-pub misses_here : (operator : Op) (k : ℕ) (first second : List ℤ) (kept : List Bool) (d : ℤ) (e : Bool) → k < length first → k < length second → k < length kept
-    → (get_or kept k e && is_missing (applied operator (get_or first k d) (get_or second k d))) ≡ true
-    → true ≡ misses_from operator k first second kept
-misses_here operator zero [] second kept d e a b c h = absurd (omega arith)
-misses_here operator zero (x ∷ first) [] kept d e a b c h = absurd (omega arith)
-misses_here operator zero (x ∷ first) (y ∷ second) [] d e a b c h = absurd (omega arith)
-misses_here operator zero (x ∷ first) (y ∷ second) (is_in ∷ kept) d e a b c h = ap (λ t. t || misses operator first second kept) (sym h)
-misses_here operator (suc k) [] second kept d e a b c h = absurd (omega arith)
-misses_here operator (suc k) (x ∷ first) [] kept d e a b c h = absurd (omega arith)
-misses_here operator (suc k) (x ∷ first) (y ∷ second) [] d e a b c h = absurd (omega arith)
-misses_here operator (suc k) (x ∷ first) (y ∷ second) (is_in ∷ kept) d e a b c h = misses_here operator k first second kept d e (omega arith) (omega arith) (omega arith) h
-
 -- ---- rows of the values of terms
 
 pub rows_of_unary : (operator : UnaryOp) (total : Total) (ts : List (List ℤ)) → mapped operator (map total.value ts) ≡ map (unary_total operator total).value ts

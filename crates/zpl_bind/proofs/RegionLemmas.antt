@@ -27,7 +27,6 @@ use Rattle.std.proofs.lemmas.List.{take_more, map-append}
 use Rattle.zpl_tree.specs.View.{posts_of, pre_of, dims_of}
 use Rattle.zpl_tree.specs.declared.regions.Post.{Post}
 use Rattle.zpl_tree.specs.declared.regions.Pre.{Pre as Arena}
-use Rattle.zpl_parts.specs.of_zpl_binding.Outcome.{and_then}
 use Rattle.zpl_bind.specs.Fault.{FailsAs, Computes}
 use Rattle.zpl_bind.specs.declared.faults.BindFault.{BindFault}
 use Rattle.zpl_bind.specs.Known.{IsBuilt}
@@ -257,14 +256,6 @@ pub passed : {B : Type 0} (r : Result B BindFault) (fault : BindFault) (o : Outc
     IsErrAnd r (λ e. e ≡ fault) → FailsAs fault o → Computes r o
 passed (Err e) fault o is fails = subst (λ f. FailsAs f o) (sym is) fails
 passed (Ok x) fault o is fails = absurd is
-
-pub then-fails : {A B : Type 0} (fault : BindFault) (o : Outcome A) (next : A → Outcome B) →
-    FailsAs fault o → FailsAs fault (and_then o next)
-then-fails fault o next fails = record {
-  told = fails.told;
-  tells = fails.tells;
-  fails = ap (λ o. and_then o next) fails.fails;
-}
 
 pub behind-passes : (known : Known) (posts : Posts) (o : Outcome Region) (fault : BindFault) →
     FailsAs fault o → FailsAs fault (behind known o posts)

@@ -306,22 +306,6 @@ around-next known region storage next name parts i d whole below is rest =
     next_index : suc i ≡ i + 1
     next_index = omega arith
 
--- one border of the region
-pub border-of : (known : Known) (region storage : Region) (name : List ℕ) (border : Border)
-    (vector : List ℤ) → is_of name border ≡ true →
-    outcome_of (three_components []) known.directions border.direction.text ≡ Gives vector →
-    widened known region storage (filter (is_of name) (border ∷ []))
-    ≡ Gives (hull_with storage (outside_of vector region))
-border-of known region storage name border vector e is =
-    ap (λ b. widened known region storage (cond b (border ∷ []) [])) e ∙
-    ap (λ o. and_then o (λ v. widened known region (hull_with storage (outside_of v region)) [])) is
-
-pub border-else : (known : Known) (region storage : Region) (name : List ℕ) (border : Border) →
-    is_of name border ≡ false →
-    widened known region storage (filter (is_of name) (border ∷ [])) ≡ Gives storage
-border-else known region storage name border e =
-    ap (λ b. widened known region storage (cond b (border ∷ []) [])) e
-
 -- ---- a region of rank 0 stays as it is
 
 abbrev point : Region

@@ -164,13 +164,6 @@ adds-only item old new adds other h =
 
 -- ---- several items
 
-pub adds-none : {A : Type 0} (xs : List A) → AddsAll [] xs xs
-adds-none xs = record {
-  there = λ item h. absurd (not-in-none item h);
-  grows = grows-none xs;
-  only = λ item h. inl h;
-}
-
 pub adds-one : {A : Type 0} (item : A) (old new : List A) → Adds item old new →
     AddsAll (item ∷ []) old new
 adds-one item old new adds = record {
@@ -197,17 +190,6 @@ adds-more xs ys a b c one two = record {
 }
 
 -- ---- uses that are kept
-
-pub keeps-none : (text : List ℕ) (arrays : List ℕ → Option ℕ) (kept : Kept) →
-    Keeps text arrays [] kept kept
-keeps-none text arrays kept = record {
-  grows = grows-none kept.standings;
-  before = λ procedure name what h. h;
-  kept = λ name what h. absurd (not-in-none (name, what) h);
-  seeded = λ name what variable h is. absurd (not-in-none (name, what) h);
-  only_uses = λ procedure name what h. inl h;
-  only_standings = λ standing h. inl h;
-}
 
 pub keeps-more : (text : List ℕ) (arrays : List ℕ → Option ℕ) (xs ys : List (List ℕ × Use))
     (a b c : Kept) → Keeps text arrays xs a b → Keeps text arrays ys b c →
@@ -245,14 +227,6 @@ pub meets-grown : (known : Known) (shapes : List (ℕ × plain.Inner)) (variable
 meets-grown known shapes variable (Hands callee formal) old new grows h =
     grown-has old new grows (standing_for callee formal variable) h
 meets-grown known shapes variable (Reads shift) old new grows h = h
-
-pub meets-none : (known : Known) (shapes : List (ℕ × plain.Inner)) (variable : ℕ)
-    (standings : List formals.Standing) → MeetsAll known shapes variable [] standings standings
-meets-none known shapes variable standings = record {
-  met = λ what h. absurd (not-in-none what h);
-  grows = grows-none standings;
-  only = λ standing h. inl h;
-}
 
 pub meets-more : (known : Known) (shapes : List (ℕ × plain.Inner)) (variable : ℕ)
     (xs ys : List Use) (a b c : List formals.Standing) → MeetsAll known shapes variable xs a b →
