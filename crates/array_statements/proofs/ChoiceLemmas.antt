@@ -1,5 +1,6 @@
 -- Prefixes, tests and arms, one after the other.
 use Rattle.std.proofs.Common.{◌≡◌, ◌<◌, ◌+◌, ℕ, zero, suc, List, [], ◌∷◌, length, map, drop, get_or, refl, sym, ◌∙◌, ap, subst, arith}
+use Rattle.std.proofs.lemmas.List.{drop_more}
 use Rattle.zpl_nums.specs.declared.ends.End.{End}
 use Rattle.zpl_tree.specs.Syntax.{Expr, Prefix, Stmts, Arms, ThenArm, Tested}
 use Rattle.zpl_tree.specs.View.{arms_of, expr_of, prefix_of, stmts_of}
@@ -20,21 +21,6 @@ use Rattle.array_statements.specs.declared.choices.Truth.TheVariants as truth
 use Rattle.array_statements.specs.Fit.{AreFitPrefixes, AreFitTests}
 use Rattle.array_statements.specs.Runs.{IsAs}
 use Rattle.array_statements.proofs.RunLemmas.{as_both}
-
-pub drop_next : {X : Type 0} (xs : List X) (k : ℕ) (d : X) → k < length xs →
-    drop k xs ≡ get_or xs k d ∷ drop (k + 1) xs
-drop_next [] k d less = absurd (omega (arith, less))
-drop_next (x ∷ xs) zero d less = refl
-drop_next (x ∷ xs) (suc k) d less =
-    let later : suc (k + 1) ≡ suc k + 1 = omega arith in
-    subst (λ n. drop k xs ≡ get_or xs k d ∷ drop n (x ∷ xs)) later
-    (drop_next xs k d (omega (arith, less)))
-
-pub any_default : {X : Type 0} (xs : List X) (k : ℕ) (d e : X) → k < length xs →
-    get_or xs k d ≡ get_or xs k e
-any_default [] k d e less = absurd (omega (arith, less))
-any_default (x ∷ xs) zero d e less = refl
-any_default (x ∷ xs) (suc k) d e less = any_default xs k d e (omega (arith, less))
 
 pub drop_end : {X : Type 0} (xs : List X) (k : ℕ) → (k < length xs → ⊥) → drop k xs ≡ []
 drop_end [] zero past = refl
@@ -71,7 +57,7 @@ along_next prefixes rest prefix place here store over gives along = record {
 module _ (all : List CodePrefix) (k : ℕ) (d : CodePrefix) (less : k < length all) where
   prefixes_next : map prefix_of (drop k all) ≡
       prefix_of (get_or all k d) ∷ map prefix_of (drop (k + 1) all)
-  prefixes_next = ap (map prefix_of) (drop_next all k d less)
+  prefixes_next = ap (map prefix_of) (drop_more all k d less)
 
   along_here : (place here : Place) (store : Store) →
       Along (map prefix_of all) (map prefix_of (drop k all)) place here store →
@@ -127,7 +113,7 @@ module _ (arms : List CodeArm) (k : ℕ) (d : CodeArm) (less : k < length arms) 
 
   pub arms_next : arms_of (drop k arms) ≡
       ThenArm (Tested (out-Arm the).at text body) (arms_of (drop (k + 1) arms))
-  arms_next = ap arms_of (drop_next arms k d less)
+  arms_next = ap arms_of (drop_more arms k d less)
       ∙ ap (λ arm. ThenArm arm (arms_of (drop (k + 1) arms))) (arm_of-parts the)
 
   offset_next : (at : ℕ) → (m : ℕ) → m ≡ k →

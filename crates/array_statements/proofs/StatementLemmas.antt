@@ -1,5 +1,6 @@
 -- What statements come to.
 use Rattle.std.proofs.Common.{◌≡◌, ◌<◌, ◌+◌, ℕ, false, pos, List, [], ◌∷◌, length, map, drop, get_or, Option, Some, None, Ok, Err, refl, sym, ap, subst}
+use Rattle.std.proofs.lemmas.List.{drop_more}
 use Rattle.zpl_nums.specs.declared.operators.Op.{Op}
 use Rattle.zpl_nums.specs.declared.ends.Border.{Border as BorderKind}
 use Rattle.zpl_nums.specs.declared.ends.TrapKind.{TrapKind}
@@ -23,7 +24,6 @@ use Rattle.array_stops.specs.declared.stops.Stop.TheVariants as stop
 use Rattle.array_steps.specs.Steps.{Does}
 use Rattle.array_statements.specs.Endings.{stopped}
 use Rattle.array_statements.specs.Runs.{IsAs, Leaves}
-use Rattle.array_statements.proofs.ChoiceLemmas.{drop_next}
 use Rattle.array_statements.proofs.RunLemmas.{as_both, as_equal, left_as, left_so}
 
 as_counted : (steps : ℕ) (outcome other : Outcome) → outcome ≡ other →
@@ -54,7 +54,7 @@ pub all_next : (context : Context) (n : ℕ) (body : List CodeStmt) (k : ℕ) (d
     then_do (exec context n (stmt_of (get_or body k d)) store)
     (exec_all context n (stmts_of (drop (k + 1) body)))
 all_next context n body k d store less =
-    ap (λ all. exec_all context n (stmts_of all) store) (drop_next body k d less)
+    ap (λ all. exec_all context n (stmts_of all) store) (drop_more body k d less)
 
 -- ---- shattered or not
 
@@ -134,7 +134,7 @@ pub borders_next : (place : Place) (kind : BorderKind) (names : List CodeName) (
 borders_next place kind names k d line store after less does =
     subst
     (λ all. IsAs (borders place kind (map name_of all) line store)
-    (borders place kind (map name_of (drop (k + 1) names)) line after)) (sym (drop_next names k d less))
+    (borders place kind (map name_of (drop (k + 1) names)) line after)) (sym (drop_more names k d less))
     (as_both _ _ _ (as_equal _ _ (ap (λ o. then_do o (more_borders place kind (map name_of (drop (k + 1) names)) line)) does))
     (more (drop (k + 1) names)))
   where
@@ -154,7 +154,7 @@ pub borders_trap : (place : Place) (kind : BorderKind) (names : List CodeName) (
 borders_trap place kind names k d line store after trap less does =
     subst
     (λ all. IsAs (borders place kind (map name_of all) line store)
-    (ends after (end.Trap trap line))) (sym (drop_next names k d less))
+    (ends after (end.Trap trap line))) (sym (drop_more names k d less))
     (as_equal _ _ (ap (λ o. then_do o (more_borders place kind (map name_of (drop (k + 1) names)) line)) does))
 
 -- ---- calls

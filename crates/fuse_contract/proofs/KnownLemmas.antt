@@ -6,6 +6,7 @@ use Rattle.std.specs.Prelude.{slice_get}
 use Rattle.std.specs.List.{list_any}
 use Rattle.std.specs.Cmp.Lexicographic.{pointwise}
 use Rattle.std.specs.Ordering.{int_eq}
+use Rattle.std.proofs.lemmas.Bool.{or_left}
 use Rattle.indexmap.specs.IndexMap.{get}
 use Rattle.zpl_nums.specs.declared.ends.TrapKind.{TrapKind}
 use Rattle.zpl_region.specs.declared.regions.Region.{Region}
@@ -57,10 +58,6 @@ le_false a b h = by (nat_le a b) refl
     by : (v : Bool) → nat_le a b ≡ v → v ≡ false
     by true e = absurd (grind (arith, h, e))
     by false e = refl
-
-or_left : (a b : Bool) → a ≡ true → (a || b) ≡ true
-or_left true b e = refl
-or_left false b e = absurd (true≢false (sym e))
 
 -- ---- tests of lists
 any_kept : (one : Item) (keep : Item → Bool) (items : List Item)

@@ -73,10 +73,6 @@ module _ {X Y : Type 0} (words_of : X → List Words) (coding : ℕ → X → Y)
   end_with draft goal xs none left =
       no_exprs draft ∙ sym (ap (λ (ys : List X). with_all draft ys) none) ∙ left
 
-pub nothing_left : {X : Type 0} (xs : List X) → length xs ≡ 0 → xs ≡ []
-nothing_left [] none = refl
-nothing_left (x ∷ xs) none = absurd (omega arith)
-
 pub coded_length : {X Y : Type 0} (words_of : X → List Words) (coding : ℕ → X → Y) (n : ℕ)
     (xs : List X) → length (all_coded words_of coding n xs) ≡ length xs
 coded_length words_of coding n [] = refl

@@ -1,6 +1,7 @@
 -- Members and references, one part behind another.
-use Rattle.std.proofs.Common.{◌≡◌, ◌<◌, ◌≤◌, ℕ, ◌+◌, List, [], ◌∷◌, ◌++◌, drop, get_or, length, sym, ◌∙◌, ap, ap₂, append_assoc, add-one, drop-cons, arith, length-append}
+use Rattle.std.proofs.Common.{◌≡◌, ◌<◌, ◌≤◌, ℕ, ◌+◌, List, [], ◌∷◌, ◌++◌, drop, get_or, length, sym, ◌∙◌, ap, ap₂, append_assoc, arith, length-append}
 use Rattle.std.proofs.lemmas.List.Sums.{fold-append}
+use Rattle.std.proofs.lemmas.List.{drop_more}
 use Rattle.zpl_tree.specs.Syntax as plain
 use Rattle.zpl_tree.specs.View.{arms_of, expr_of, stmts_of}
 use Rattle.zpl_tree.specs.declared.statements.Arm.{Arm, out-Arm}
@@ -26,10 +27,6 @@ pub between : (old inside close : List Member) (m : Member) →
 between old inside close m =
     append_assoc (old ++ m ∷ []) inside close ∙ append_assoc old (m ∷ []) (inside ++ close)
 
-pub dropped : {A : Type 0} (xs : List A) (i : ℕ) (d : A) → i < length xs →
-    drop i xs ≡ get_or xs i d ∷ drop (i + 1) xs
-dropped xs i d less = drop-cons xs i d less ∙ ap (λ n. get_or xs i d ∷ drop n xs) (sym (add-one i))
-
 -- ---- choices
 
 pub choice_members : (old body rest close : List Member) (m : Member) →
@@ -52,7 +49,7 @@ pub arms_first : (at : Point) (arms : List Arm) (i : ℕ) (one : Arm) (o : plain
     (stmts_of (out-Arm one).body.now)) (arms_of (drop (i + 1) arms))) o
 arms_first at arms i one o less is =
     ap (λ l. arms_at at (arms_of l) o)
-    (dropped arms i one less ∙ ap (λ x. x ∷ drop (i + 1) arms) (sym is))
+    (drop_more arms i one less ∙ ap (λ x. x ∷ drop (i + 1) arms) (sym is))
     ∙ ap (λ a. arms_at at (plain.ThenArm a (arms_of (drop (i + 1) arms))) o) (arm_of-parts one)
 
 -- members behind an open one, and what closes it

@@ -3,6 +3,7 @@
 use Rattle.std.proofs.Common.{◌≡◌, ℕ, zero, suc, ◌+◌, ◌<◌, ◌≤◌, Bool, true, false, ℤ, List, [], ◌∷◌, ◌++◌, length, refl, ap, ◌∙◌, arith, rules}
 use Rattle.std.specs.Prelude.{Option, Some, None, slice_get}
 use Rattle.std.specs.List.{list_all}
+use Rattle.std.proofs.lemmas.Bool.{and_parts, and_from}
 use Rattle.zpl_nums.specs.declared.operators.Op.{Op}
 use Rattle.zpl_nums.specs.declared.folds.Fold.{Fold}
 use Rattle.zpl_nums.specs.declared.folds.Fold.TheVariants as fold
@@ -41,8 +42,6 @@ use Rattle.lowering_fits.specs.of_zpl_lowering.Lowered.{Lowered, rows_alone, beh
 use Rattle.lowering_fits.specs.of_zpl_lowering.Statement.{Given, Valued, Copied, Calling, Lowering, placed_in, test_of, set_row, lowered_scalar, lowered_array, lowered_to, value_rows, value_exprs, referring, copying, given_to, with_values, lowered_invoke, target_of, lowered_assign, lowered_borders, is_border, prefix_opened, current_for, under_prefix, of_opened, is_last, lowered_under, counter_from, enters, is_done, step_row, counted, head_exprs, lowered_for, scalar_of, Shown, shown_at, shown_of, Prints, items_of, lowered_write, printed_exprs, is_truth, source_shift, each_border, shattered, choose_code, ends_arms, lowered, lowered_all, lowered_form, lowered_arms, lowered_arm, lowered_otherwise}
 use Rattle.lowering_fits.specs.of_zpl_lowering.Program.{Framed}
 use Rattle.zpl_meaning.proofs.DepthLemmas.{Each, each_left, each_right}
-use Rattle.lowering_checks.proofs.KnownLemmas.{both_true}
-use Rattle.lowering_checks.proofs.TableLemmas.{both_are}
 use Rattle.lowering_checks.proofs.SlateLemmas.{AllQuiet, quiet_both, each_quiet, all_conforming_quiet, needs_quiet, opened_quiet}
 use Rattle.lowering_checks.proofs.HoistLemmas.{borders_quiet}
 use Rattle.lowering_checks.proofs.AssignLemmas.{set_quiet, values_quiet, edges_quiet, prints_quiet}
@@ -372,8 +371,8 @@ all_both : {A : Type 0} (has : A → Bool) (xs ys : List A) → list_all has xs 
     list_all has ys ≡ true → list_all has (xs ++ ys) ≡ true
 all_both has [] ys first rest = rest
 all_both has (x ∷ xs) ys first rest =
-    let are = both_true (has x) (list_all has xs) first in
-    both_are (has x) (list_all has (xs ++ ys)) are.0 (all_both has xs ys are.1 rest)
+    let are = and_parts (has x) (list_all has xs) first in
+    and_from (has x) (list_all has (xs ++ ys)) are.0 (all_both has xs ys are.1 rest)
 
 referring_valued : (thing : Option Thing) (rest : List Given) →
     valued (referring thing ++ rest) ≡ valued rest
@@ -415,7 +414,7 @@ values_new has low high all w scalar [] actuals from to = refl
 values_new has low high all w scalar (formal ∷ formals) NoExpr from to = refl
 values_new has low high all w scalar (ScalarFormal false base ∷ formals) (ThenExpr first rest) from
     to =
-    both_are (has scalar) (list_all has (valued (given_to w (suc scalar) formals rest)))
+    and_from (has scalar) (list_all has (valued (given_to w (suc scalar) formals rest)))
     (all scalar from (omega (arith, to)))
     (values_new has low high all w (suc scalar) formals rest (omega (arith, from))
     (omega (arith, to)))

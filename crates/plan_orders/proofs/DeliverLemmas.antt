@@ -25,9 +25,10 @@ use Rattle.plan_meaning.specs.Messages.{are_partners, begun, bytes, delivered, d
 use Rattle.plan_orders.specs.Brings.{AreOpen, GoesWell, IsLimited, in_front, placed, row_most, standing_at}
 use Rattle.plan_orders.proofs.QuietLemmas.{most_some}
 use Rattle.std.proofs.lemmas.List.{length-map}
+use Rattle.std.proofs.lemmas.Bool.{and_parts}
 use Rattle.plan_orders.proofs.AgreeLemmas.{quiet_far, quiet_near}
 use Rattle.plan_orders.proofs.PlaceLemmas.{IsPlaceless, taking_placed}
-use Rattle.plan_orders.proofs.TestLemmas.{both, each_all, every_one, every_other, no_flights, no_room, there}
+use Rattle.plan_orders.proofs.TestLemmas.{each_all, every_one, every_other, no_flights, no_room, there}
 
 -- ---- the stages of a row
 
@@ -251,7 +252,7 @@ module _ (code : Tables) (links : Option ℕ) (at : ℕ) (instr : Instr)
       → p < count → q < count
       → (times q (to p) ≡ times p (from q)) × (times q (to p) ≤ 1)
   partners_both to from e p q a b =
-      let parts = both (times q (to p) == times p (from q)) (nat_le (times q (to p)) 1)
+      let parts = and_parts (times q (to p) == times p (from q)) (nat_le (times q (to p)) 1)
       (every_other code (λ r s. (times s (to r) == times r (from s)) && nat_le (times s (to r)) 1)
       e p q (inside p a) (inside q b)) in
       (eqb-true _ _ parts.0, leb-true _ _ parts.1)

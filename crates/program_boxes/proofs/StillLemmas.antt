@@ -1,8 +1,9 @@
 -- Texts that read nothing with a shift: brackets, vectors, names, and statements that are
 -- shattered.
-use Rattle.std.proofs.Common.{◌≡◌, ℕ, suc, ◌+◌, Bool, true, false, ◌&&◌, List, [], ◌∷◌, ◌++◌, refl, ap, ◌∙◌, arith, cond}
+use Rattle.std.proofs.Common.{◌≡◌, ℕ, suc, ◌+◌, Bool, true, false, List, [], ◌∷◌, ◌++◌, refl, ap, ◌∙◌, arith, cond}
 use Rattle.std.specs.Prelude.{Option, Some, None}
 use Rattle.std.specs.Option.{option_or}
+use Rattle.std.proofs.lemmas.Bool.{and_parts}
 use Rattle.zpl_nums.specs.declared.operators.Op.{Op}
 use Rattle.zpl_tree.specs.Syntax.{Name, Pre, RegionBase, NamedRegion, Ditto, Expr, Number, Truth, Coord, Named, Shifted, Around, Remap, Call, Paren, Neg, Not, Abs, Pair, Reduce, Scan, Flood, Exprs, NoExpr, ThenExpr, Dir, NamedDir, Vector, Inner, Rexpr, Dims, NoBracket, Bracketed, Posts, NoPost, ThenPost, DimText, Blank, Star, One, Span, DimTexts, NoDim, ThenDim, Stmt, Prefixed, Stmts, NoStmt, ThenStmt, Form, Assign, Invoke, Block, If, While, Repeat, For, Border, Write, Return, Tested, Arms, NoArm, ThenArm, Otherwise, NoElse, Else}
 use Rattle.zpl_names.specs.Kinds as kind
@@ -315,10 +316,6 @@ region_still environment reach hint (Dims dims) is clean =
 
 -- ---- elementwise expressions ask for nothing
 
-both_true : (a b : Bool) → (a && b) ≡ true → (a ≡ true) × (b ≡ true)
-both_true true b is = (refl, is)
-both_true false b is = let no : ⊥ = cc in absurd no
-
 pub elementwise_still : (reach : Reach) (rank : Rank) (one : Expr) → is_elementwise one ≡ true →
     IsStill (expr_sites reach rank one)
 elementwise_still reach rank (Number at value) is = record { reads = refl }
@@ -338,7 +335,7 @@ elementwise_still reach rank (Abs at operand) is =
     let later = elementwise_still reach rank operand is in
     record { reads = later.reads }
 elementwise_still reach rank (Pair at op left right) is =
-    let are = both_true (is_elementwise left) (is_elementwise right) is in
+    let are = and_parts (is_elementwise left) (is_elementwise right) is in
     let later = still_both (expr_sites reach rank left) (expr_sites reach rank right)
     (elementwise_still reach rank left are.0) (elementwise_still reach rank right are.1) in
     record { reads = later.reads }

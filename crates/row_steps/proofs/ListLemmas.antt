@@ -1,13 +1,8 @@
 -- Lists of tuples, one after another: those that are left.
-use Rattle.std.proofs.Common.{◌≡◌, ℕ, suc, ◌+◌, ◌<◌, List, ◌∷◌, length, drop, get_or, ap, ◌∙◌, ℤ, arith, drop-cons}
+use Rattle.std.proofs.Common.{◌≡◌, ℕ, ◌+◌, List, ◌∷◌, drop, ap, ◌∙◌, ℤ}
 use Rattle.std.specs.Prelude.{Option, option_and_then}
 use Rattle.zpl_arrays.specs.Array.{Array}
 use Rattle.node_stages.specs.of_grid_meaning.Place.{with_value, with_values}
-
-pub next_at : {X : Type 0} (xs : List X) (i : ℕ) (d : X) → i < length xs → drop i xs ≡ get_or xs i d ∷ drop (i + 1) xs
-next_at xs i d within =
-    let more : suc i ≡ i + 1 = omega arith in
-    drop-cons xs i d within ∙ ap (λ n. get_or xs i d ∷ drop n xs) more
 
 -- ---- writing
 module _ (array : ℕ) (tuples : List (List ℤ)) (values : List ℤ) where

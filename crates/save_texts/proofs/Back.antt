@@ -5,7 +5,7 @@ use Rattle.std.specs.List.{AllZip, Any, filter_map, flat_map, range_with_len}
 use Rattle.std.specs.Option.{IsSomeAnd, option_map}
 use Rattle.std.proofs.lemmas.Bool.Decides.{nat_tests}
 use Rattle.std.proofs.lemmas.List.{append_assoc, map-append}
-use Rattle.std.proofs.lemmas.List.Elements.{All-nil, All-cons, All-head, All-tail, All-push}
+use Rattle.std.proofs.lemmas.List.Elements.{All-nil, All-cons, All-head, All-tail, All-push, All-weaker as all_more}
 use Rattle.zpl_nums.specs.declared.ends.End.{End}
 use Rattle.zpl_region.specs.declared.regions.Region.{Region}
 use Rattle.zpl_arrays.specs.Array.{Array}
@@ -41,10 +41,6 @@ use Rattle.save_texts.proofs.Groups.{BeforeSent, InOrder, kept_grouped, sent_lin
 all_front : {X : Type 0} (P : X → Type 0) (xs ys : List X) → All P (xs ++ ys) → All P xs
 all_front P [] ys all = All-nil P
 all_front P (x ∷ xs) ys all = All-cons P x xs (All-head P x (xs ++ ys) all) (all_front P xs ys (All-tail P x (xs ++ ys) all))
-
-all_more : {X : Type 0} (P Q : X → Type 0) → ((x : X) → P x → Q x) → (xs : List X) → All P xs → All Q xs
-all_more P Q more [] all = All-nil Q
-all_more P Q more (x ∷ xs) all = All-cons Q x xs (more x (All-head P x xs all)) (all_more P Q more xs (All-tail P x xs all))
 
 part_front : (xs ys zs : List ℕ) → IsPart (xs ++ ys) zs → IsPart xs zs
 part_front [] ys zs part = tt

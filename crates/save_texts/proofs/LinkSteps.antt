@@ -2,7 +2,7 @@
 use Rattle.std.proofs.Common.{◌≡◌, ℕ, ◌+◌, List, [], ◌∷◌, ◌++◌, length, map, refl, ap, sym, ◌∙◌, subst, arith, None}
 use Rattle.std.specs.Vec.Iter.{into_iter_items, into_iter_len}
 use Rattle.std.specs.declared.vec.IntoIter.{IntoIter}
-use Rattle.std.proofs.lemmas.List.{append_assoc}
+use Rattle.std.proofs.lemmas.List.{append_assoc, nil_from_length}
 use Rattle.grid_links.specs.declared.messages.Message.{Message}
 use Rattle.grid_links.specs.Network.{Network, empty_network, sending}
 use Rattle.node_local.specs.Workplace.{Workplace}
@@ -11,13 +11,9 @@ use Rattle.save_reading.specs.Sent.{sent_pair}
 use Rattle.state_reading.specs.declared.states.ReadState.{ReadState}
 use Rattle.save_texts.specs.Links.{AreTo, EachTo, sending_all, sending_each, sent_in, workplace_in}
 
-nothing_left : {X : Type 0} (xs : List X) → length xs ≡ 0 → xs ≡ []
-nothing_left [] e = refl
-nothing_left (x ∷ xs) e = absurd (omega (arith, e))
-
 -- what has no items to come
 pub drained : {X Z : Type 0} (it : IntoIter X Z) → into_iter_len it ≡ 0 → into_iter_items it ≡ []
-drained it none = nothing_left (into_iter_items it) (sym it.rest.ok.0 ∙ none)
+drained it none = nil_from_length (into_iter_items it) (sym it.rest.ok.0 ∙ none)
 
 pub all_keep : (from : ℕ) (sents : List (ℕ × Message)) (network : Network) →
     ((sending_all from sents network).count ≡ network.count) × ((sending_all from sents network).capacity ≡ network.capacity)

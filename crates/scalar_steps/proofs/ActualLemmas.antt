@@ -2,7 +2,7 @@
 use Rattle.std.specs.Prelude.{min}
 use Rattle.std.proofs.Common.{◌≡◌, ℕ, zero, suc, ◌+◌, ◌-◌, ◌<◌, ◌≤◌, ℤ, Bool, true, false, List, [], ◌∷◌, ◌++◌, map, length, drop, get_or, All, Option, Some, None, ◌⊎◌, inl, inr, refl, sym, ap, ap₂, ◌∙◌, subst, arith}
 use Rattle.std.specs.List.{AllByRecursion}
-use Rattle.std.proofs.lemmas.List.{drop-drop, length-drop}
+use Rattle.std.proofs.lemmas.List.{drop-drop, length-drop, drop_more, append-nil}
 use Rattle.std.proofs.lemmas.List.Elements.{All-from_recursion, recursion_from_All}
 use Rattle.std.specs.Prelude.{slice_get}
 use Rattle.zpl_tree.specs.Syntax as plain
@@ -17,7 +17,7 @@ use Rattle.zpl_meaning.specs.Calls.{Handed, handed_on}
 use Rattle.zpl_meaning.specs.Calls.{value_exprs}
 use Rattle.zpl_meaning.specs.Context.{Place}
 use Rattle.zpl_meaning.specs.Store.{Environment, Store}
-use Rattle.array_frames.proofs.LoopLemmas.{append-assoc, append-nothing, left-from}
+use Rattle.array_frames.proofs.LoopLemmas.{append-assoc}
 use Rattle.scalar_steps.specs.Actuals.{first_handed, value_count}
 
 -- ---- what is left of the actuals
@@ -25,7 +25,7 @@ use Rattle.scalar_steps.specs.Actuals.{first_handed, value_count}
 pub exprs-left : (actuals : List Expr) (i : ℕ) (d : Expr) → i < length actuals →
     exprs_of (drop i actuals)
     ≡ ThenExpr (expr_of (get_or actuals i d)) (exprs_of (drop (i + 1) actuals))
-exprs-left actuals i d below = ap exprs_of (left-from actuals i d below)
+exprs-left actuals i d below = ap exprs_of (drop_more actuals i d below)
 
 -- ---- values
 
@@ -89,7 +89,7 @@ handed-next environment store formals actuals values i taken count d e handed do
     (map formal_of (drop (i + 1) formals)) (expr_of (get_or actuals i e))
     (exprs_of (drop (i + 1) actuals)) (drop taken values))) ∙
     sym (ap₂ (λ l a. done ++ handed_on environment store (map formal_of l) a (drop taken values))
-    (left-from formals i d here) (exprs-left actuals i e there)) ∙ rest
+    (drop_more formals i d here) (exprs-left actuals i e there)) ∙ rest
   where
     left : List ℤ → List Handed
     left vs =
@@ -105,7 +105,7 @@ pub handed-stops : (environment : Environment) (store : Store) (formals : List F
     done ++ handed_on environment store (map formal_of (drop i formals))
     (exprs_of (drop i actuals)) values ≡ whole → done ≡ whole
 handed-stops environment store formals actuals values i d e done whole here there none rest =
-    sym (append-nothing done) ∙
+    sym (append-nil done) ∙
     ap (λ o. done ++ handed_then environment store (map formal_of (drop (i + 1) formals))
     (exprs_of (drop (i + 1) actuals))
     (drop (value_count (formal_of (get_or formals i d))) values) o) none ∙
@@ -113,7 +113,7 @@ handed-stops environment store formals actuals values i d e done whole here ther
     (map formal_of (drop (i + 1) formals)) (expr_of (get_or actuals i e))
     (exprs_of (drop (i + 1) actuals)) values)) ∙
     sym (ap₂ (λ l a. done ++ handed_on environment store (map formal_of l) a values)
-    (left-from formals i d here) (exprs-left actuals i e there)) ∙ rest
+    (drop_more formals i d here) (exprs-left actuals i e there)) ∙ rest
 
 no-more-handed : (environment : Environment) (store : Store) (formals : List kind.Formal)
     (values : List ℤ) → handed_on environment store formals NoExpr values ≡ []

@@ -1,6 +1,6 @@
 -- What is told of calls.
 use Rattle.std.proofs.Common.{◌≡◌, ◌⊎◌, inl, inr, ℕ, ◌+◌, ◌<◌, ◌≤◌, length, get_or, drop, map, ap₂, arith, Bool, true, false, not, ◌&&◌, cond, List, [], ◌∷◌, Some, None, refl, sym, ◌∙◌, ap}
-use Rattle.std.proofs.lemmas.List.{drop_all}
+use Rattle.std.proofs.lemmas.List.{drop_all, drop_more}
 use Rattle.zpl_tree.specs.Syntax.{Name, Exprs, NoExpr, ThenExpr}
 use Rattle.zpl_tree.specs.View.{expr_of, exprs_of, form_of}
 use Rattle.zpl_tree.specs.declared.expressions.Expr.{Expr as CodeExpr}
@@ -10,7 +10,7 @@ use Rattle.zpl_tree.specs.declared.names.Name.{Name as CodeName}
 use Rattle.name_kinds.specs.of_zpl_names.Kinds as kinds
 use Rattle.name_kinds.specs.Seen.{formal_of}
 use Rattle.name_kinds.specs.declared.kinds.Formal.{Formal}
-use Rattle.site_faults.proofs.FindingLemmas.{drop-next, tells-append, tells-none}
+use Rattle.site_faults.proofs.FindingLemmas.{tells-append, tells-none}
 use Rattle.name_kinds.specs.of_zpl_names.Accepted as kind
 use Rattle.name_kinds.specs.of_zpl_names.Scope.{is_procedure, is_value}
 use Rattle.name_kinds.specs.of_zpl_names.Faults.{all_fit, at_if, call_places, fits, fixed_actual, fixed_actuals, formals_in, kind_at}
@@ -110,7 +110,7 @@ fixed-next reach formals actuals k f a old new whole one two told invariant =
     old) ∙
     ap (λ places. tells kind.NotAssignable places old)
     (ap₂ (λ formals actuals. fixed_actuals reach (map formal_of formals) (exprs_of actuals))
-    (sym (drop-next formals k f one)) (sym (drop-next actuals k a two))) ∙
+    (sym (drop_more formals k f one)) (sym (drop_more actuals k a two))) ∙
     invariant
 
 fixed-no_formals : (reach : Reach) (actuals : Exprs) → fixed_actuals reach [] actuals ≡ []

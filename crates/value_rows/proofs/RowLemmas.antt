@@ -1,6 +1,7 @@
 -- Lemmas on rows of values.
 use Rattle.std.proofs.Common.{◌≡◌, ℕ, zero, suc, ◌+◌, ◌<◌, ◌≤◌, Bool, true, false, ◌&&◌, ◌||◌, not, Option, Some, None, List, [], ◌∷◌, length, map, get_or, set, drop, ℤ, pos, refl, sym, ◌∙◌, ap, arith, add-one}
 use Rattle.std.specs.List.{list_any}
+use Rattle.std.proofs.lemmas.Bool.{and_right}
 use Rattle.zpl_region.proofs.ListLemmas.{cons_same}
 use Rattle.zpl_nums.specs.declared.operators.Op.{Op}
 use Rattle.zpl_nums.specs.declared.operators.Op.TheVariants.{Add, Sub, Mul, Div, Rem, Eq, Ne, Lt, Le, Gt, Ge, And, Or, Max, Min}
@@ -74,16 +75,12 @@ never_missing Or a b h = refl
 never_missing Max a b h = refl
 never_missing Min a b h = refl
 
-none_here : (a m : Bool) → m ≡ false → (a && m) ≡ false
-none_here true m h = h
-none_here false m h = refl
-
 pub never_misses : (operator : Op) (first second : List ℤ) (kept : List Bool) → divides operator ≡ false → false ≡ misses operator first second kept
 never_misses operator [] second kept h = refl
 never_misses operator (x ∷ first) [] kept h = refl
 never_misses operator (x ∷ first) (y ∷ second) [] h = refl
 never_misses operator (x ∷ first) (y ∷ second) (is_in ∷ kept) h =
-    never_misses operator first second kept h ∙ ap (λ b. b || misses operator first second kept) (sym (none_here is_in (is_missing (applied operator x y)) (never_missing operator x y h)))
+    never_misses operator first second kept h ∙ ap (λ b. b || misses operator first second kept) (sym (and_right is_in (is_missing (applied operator x y)) (never_missing operator x y h)))
 
 -- what is left of three rows behind k values misses what they do, where nothing before misses
 abbrev pub misses_from : Op → ℕ → List ℤ → List ℤ → List Bool → Bool

@@ -24,6 +24,7 @@ use Rattle.zpl_parts.proofs.of_zpl_binding.KeptLemmas.{Formed, formed-kept}
 use Rattle.std.specs.Prelude.{IsErrAnd}
 use Rattle.std.proofs.Common.{drop-cons}
 use Rattle.std.proofs.lemmas.List.{take_more, map-append}
+use Rattle.std.proofs.lemmas.Bool.{and_parts}
 use Rattle.zpl_tree.specs.View.{posts_of, pre_of, dims_of}
 use Rattle.zpl_tree.specs.declared.regions.Post.{Post}
 use Rattle.zpl_tree.specs.declared.regions.Pre.{Pre as Arena}
@@ -283,14 +284,10 @@ empty-list : {X : Type 0} (xs : List X) → (length xs == 0) ≡ true → xs ≡
 empty-list [] h = refl
 empty-list (x ∷ xs) h = absurd (omega (arith, eqb-true (length (x ∷ xs)) 0 h))
 
-both_parts : (a b : Bool) → a && b ≡ true → (a ≡ true) × (b ≡ true)
-both_parts true b h = (refl, h)
-both_parts false b h = absurd (false-true h)
-
 pub plain-name : (pre : List Arena) (post : List Post) →
     ((length pre == 0) && (length post == 0)) ≡ true → (pre ≡ []) × (post ≡ [])
 plain-name pre post h =
-    let parts = both_parts (length pre == 0) (length post == 0) h in
+    let parts = and_parts (length pre == 0) (length post == 0) h in
     (empty-list pre parts.0, empty-list post parts.1)
 
 -- with something before or behind it
