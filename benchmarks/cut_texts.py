@@ -3,8 +3,8 @@
 
     benchmarks/cut_texts.py [--programs FOLDER] [--only WORD] [--changes N] [--seed N] [--jobs N] [--seconds S]
 
-Sources, listings, orders and saved grids are cut at each byte, and N copies of each (100, if no word tells it) have a byte, or a line,
-changed, left out or doubled. Each command that takes such a text is called with it: `mean`, `run` and `list` with sources; `exec`, also
+The examples' sources and listings, and an order and saved grids, are cut at each byte, and N copies of each (50, if no word tells it) have a
+byte, or a line, changed, left out or doubled. Each command that takes such a text is called with it: `mean`, `run` and `list` with sources; `exec`, also
 with `checked`, `save` and `links=`, `check`, `time` and `gridtrace` with listings; `resume` with saved grids; and those that take
 `order=` with orders.
 
@@ -20,6 +20,7 @@ tells it); without `gridtrace` its calls are left out. `--only` takes a word of 
 It ends with status 1 where a call answered otherwise; it says which, and keeps the text.
 """
 import argparse
+import glob
 import itertools
 import math
 import os
@@ -32,9 +33,10 @@ import threading
 from concurrent.futures import ThreadPoolExecutor
 
 TOP = os.path.dirname(os.path.dirname(os.path.abspath(__file__)))
-SOURCES = ["jacobi", "running", "transpose", "life", "matrix", "sum", "forms/scans", "forms/rounds", "forms/calls"]
-LISTINGS = ["ring", "stencil", "border", "crossed", "idle", "copies", "lacks/remap_taken", "lacks/scan_masked"]
-# whose code is listed for two by two processors, and saved behind so many turns too
+EXAMPLES = f"{TOP}/examples"
+SOURCES = ["*.zpl", "forms/*.zpl"]
+LISTINGS = ["listings/*.lst", "listings/lacks/*.lst"]
+# listings, and programs that are listed for two by two processors, which are saved behind so many turns
 SAVED = {"listings/ring.lst": 100, "listings/stencil.lst": 200, "listings/copies.lst": 30, "jacobi.zpl": 150, "transpose.zpl": 120}
 ORDER, PROCESSORS, MOST_TIMES = b"3x500 2x5 0 1\n2 03x007 0x1000000", 4, 1_000_000
 COUNTS = r"(turns \d+ sends \d+ words \d+\n)?"
@@ -148,14 +150,18 @@ def source(caller, text):
     return mean
 
 
+def end_of(text):
+    """The end of the last token of a source."""
+    return max((it.end() for it in TOKEN.finditer(text) if not it[0].startswith((b"--", b"/*"))), default=0)
+
+
 def source_front(caller, whole, end):
     """A front of a source is refused at its end, or at its last token."""
     text = whole[:end]
     found = source(caller, text)
-    is_whole = len(text) >= len(whole.rstrip())
     place = re.fullmatch(rb"refused: (Syntax|OpenComment|OpenString|BadByte|FloatText), line \d+, byte (\d+)\n", found.text)
     last = max((it.start() for it in TOKEN.finditer(text)), default=0)
-    holds(found.status not in REFUSED if is_whole else place and int(place[2]) >= last, found)
+    holds(found.status not in REFUSED if end >= end_of(whole) else place and int(place[2]) >= last, found)
 
 
 # ---- listings
@@ -183,7 +189,7 @@ def listing(caller, text, draw):
     if caller.has_trace:
         traced = caller.call("gridtrace text turns=300 report", {0, 7, 8, 12})
         turns = traced.out.count(b"\n") - (traced.status == 12 and b"stuck " in traced.out[-20:])
-        holds(turns == traced.counts[0] and (ran.status != 12 or ran.counts[0] > 300 or traced.status == 12), traced, ran)
+        holds(turns == traced.counts[0] and (ran.status != 12 or ran.counts[0] >= 300 or traced.status == 12), traced, ran)
     return ran
 
 
@@ -304,8 +310,13 @@ def changed(text, draw):
 
 
 def read(path):
-    with open(f"{TOP}/examples/{path}", "rb") as file:
+    with open(f"{EXAMPLES}/{path}", "rb") as file:
         return file.read()
+
+
+def names(patterns):
+    """The examples of these names."""
+    return [os.path.relpath(path, EXAMPLES) for pattern in patterns for path in sorted(glob.glob(f"{EXAMPLES}/{pattern}"))]
 
 
 def tasks_of(caller, changes, seed):
@@ -319,11 +330,15 @@ def tasks_of(caller, changes, seed):
             text = changed(whole, draw)
             yield name, text, lambda text=text: other(text)
 
-    for path in SOURCES:
-        yield from each(f"{path}.zpl", read(f"{path}.zpl"), lambda whole, end: source_front(caller, whole, end), lambda text: source(caller, text))
-    for path in LISTINGS:
-        yield from each(f"listings/{path}.lst", read(f"listings/{path}.lst"),
-                        lambda whole, end: listing_front(caller, whole, end, random.Random(end)), lambda text: listing(caller, text, random.Random(len(text))))
+    for path in names(SOURCES):
+        # without the comment that stands behind a program
+        text = read(path)
+        yield from each(path, text[:end_of(text) + 1], lambda whole, end: source_front(caller, whole, end), lambda text: source(caller, text))
+    for path in names(LISTINGS):
+        caller.put("text", read(path))
+        if caller.call("check text", {0, 11, 13}).status == 11:
+            continue
+        yield from each(path, read(path), lambda whole, end: listing_front(caller, whole, end, random.Random(end)), lambda text: listing(caller, text, random.Random(len(text))))
     code = read("listings/ring.lst")
     for path, turns in SAVED.items():
         caller.put("text", read(path))
@@ -356,7 +371,7 @@ def main():
     words = argparse.ArgumentParser(description=__doc__, formatter_class=argparse.RawDescriptionHelpFormatter)
     words.add_argument("--programs", default=f"{TOP}/crates", metavar="FOLDER")
     words.add_argument("--only", default="", metavar="WORD", help="only the texts in whose name this word is")
-    words.add_argument("--changes", type=int, default=100, metavar="N")
+    words.add_argument("--changes", type=int, default=50, metavar="N")
     words.add_argument("--seed", type=int, default=1, metavar="N")
     words.add_argument("--jobs", type=int, default=os.cpu_count(), metavar="N")
     words.add_argument("--seconds", type=float, default=20, metavar="S")
