@@ -2,7 +2,7 @@
 //!
 //! `FAILING_CALL=KIND N` fails the Nth call of this kind, counted from 1; with 0 none fails. The kinds: `allocation` (`malloc`,
 //! `calloc`, `realloc`, `aligned_alloc`, `posix_memalign`), `open` (`open`, `open64`, `openat`), `read` and `write`, of the two
-//! streams. To the open file `FAILING_LOG` a line `piece STREAM SIZE` is written for each write that was made, and at the program's
+//! streams. `FAILING_CALL=short N` fails none, and lets each read and write take N bytes at most. To the open file `FAILING_LOG` a line `piece STREAM SIZE` is written for each write that was made, and at the program's
 //! end a line with each kind and its number of calls.
 use std::ffi::{CStr, c_char, c_int, c_long, c_uint, c_void};
 use std::sync::atomic::{AtomicU64, Ordering::Relaxed};
@@ -56,6 +56,15 @@ static ALLOCATION: Kind = Kind::new(c"allocation");
 static OPEN: Kind = Kind::new(c"open");
 static READS: Kind = Kind::new(c"read");
 static WRITES: Kind = Kind::new(c"write");
+static SHORT: Kind = Kind::new(c"short");
+
+/// How many bytes a read or a write may take.
+fn taken_at_once(count: usize) -> usize {
+    match SHORT.wanted() {
+        0 => count,
+        most => count.min(most as usize),
+    }
+}
 
 fn number(text: &[u8]) -> u64 {
     text.iter().fold(0, |sum, digit| sum * 10 + u64::from(digit - b'0'))
@@ -153,7 +162,7 @@ pub extern "C" fn openat(folder: c_int, name: *const c_char, flags: c_int, mode:
 
 #[unsafe(no_mangle)]
 pub extern "C" fn read(file: c_int, bytes: *mut u8, count: usize) -> isize {
-    if READS.fails() { broken() } else { unsafe { syscall(READ, file, bytes, count) as isize } }
+    if READS.fails() { broken() } else { unsafe { syscall(READ, file, bytes, taken_at_once(count)) as isize } }
 }
 
 #[unsafe(no_mangle)]
@@ -164,7 +173,7 @@ pub extern "C" fn write(file: c_int, bytes: *const u8, count: usize) -> isize {
     if WRITES.fails() {
         return broken();
     }
-    let taken = unsafe { syscall(WRITE, file, bytes, count) as isize };
+    let taken = unsafe { syscall(WRITE, file, bytes, taken_at_once(count)) as isize };
     if taken >= 0 {
         log(c"piece", &[file as u64, taken as u64]);
     }

@@ -17,4 +17,6 @@ mod ranks;
 #[cfg(test)]
 mod regions;
 #[cfg(test)]
+mod several;
+#[cfg(test)]
 mod types;
