@@ -85,23 +85,11 @@ const PLACES: [(&str, &str, u32); 4] = [
 /// What the text shows, the entry procedure, and calls that come back.
 const CALLS: [(&str, &str, u32); 5] = [
     // what the text shows before a missing entry procedure
-    (
-        "procedure u(); begin y := 1; end;\n",
-        "UnknownName",
-        32,
-    ),
+    ("procedure u(); begin y := 1; end;\n", "UnknownName", 32),
     // a missing entry procedure before calls that come back
-    (
-        "procedure u(); begin u(); end;\n",
-        "NoEntry",
-        8,
-    ),
+    ("procedure u(); begin u(); end;\n", "NoEntry", 8),
     // one with a parameter before calls that come back
-    (
-        "procedure t(a : integer); begin t(a); end;\n",
-        "NoEntry",
-        8,
-    ),
+    ("procedure t(a : integer); begin t(a); end;\n", "NoEntry", 8),
     // what the text shows before calls that come back, earlier in the text
     (
         "procedure u(); begin u(); end;\nprocedure t(); begin y := 1; end;\n",

@@ -45,11 +45,7 @@ const CASES: [(&str, &[&str], Wanted<'static>); 14] = [
     ),
     ("", &["run", "a", "turns=0"], (8, "", "turn limit\n", 0)),
     ("", &["run", "a", "links=0"], (1, "", USAGE, 0)),
-    (
-        "",
-        &["run", "a", "links=1000000"],
-        (0, "sum 55\n", "", 47),
-    ),
+    ("", &["run", "a", "links=1000000"], (0, "sum 55\n", "", 47)),
     ("", &["run", "a", "links=1000001"], (1, "", USAGE, 0)),
     ("", &["run", "a", "report", "report"], (1, "", USAGE, 0)),
     ("", &["run", "a", "order=o", "order=o"], (1, "", USAGE, 0)),
