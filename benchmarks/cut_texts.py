@@ -8,7 +8,7 @@ byte, or a line, changed, left out or doubled. Each command that takes such a te
 with `checked`, `save` and `links=`, `check`, `time` and `gridtrace` with listings; `resume` with saved grids; and those that take
 `order=` with orders.
 
-What a cut text is told is known: a front of a source is refused at its end, or at its last token; a front of a listing or of a saved grid at the
+What a cut text is told is known: a front of a source is refused at its end, or at its last token, where it doesn't end behind a declaration; a front of a listing or of a saved grid at the
 line that is cut, or where a line is missing; a front of an order at the item that isn't one. Of a text that is changed the calls
 have to agree: what one command refuses the others refuse with the same words; a run prints a front of what is meant, and ends
 as that does; code that is compiled is sound; sound code is never stuck, over links as `check` tells; another order ends a run with the
@@ -156,12 +156,15 @@ def end_of(text):
 
 
 def source_front(caller, whole, end):
-    """A front of a source is refused at its end, or at its last token."""
+    """A front of a source is refused at its end, or at its last token; but for one that ends behind a declaration."""
     text = whole[:end]
     found = source(caller, text)
     place = re.fullmatch(rb"refused: (Syntax|OpenComment|OpenString|BadByte|FloatText), line \d+, byte (\d+)\n", found.text)
+    if not place:
+        holds(text[:end_of(text)].endswith(b";") and (found.status not in REFUSED or end < end_of(whole)), found)
+        return
     last = max((it.start() for it in TOKEN.finditer(text)), default=0)
-    holds(found.status not in REFUSED if end >= end_of(whole) else place and int(place[2]) >= last, found)
+    holds(end < end_of(whole) and int(place[2]) >= last, found)
 
 
 # ---- listings

@@ -26,8 +26,8 @@ STENCIL, JACOBI = "listings/stencil.lst", "jacobi.zpl"
 # the programs, and words of theirs; ROOM is a folder with an order, a wrong one, half a listing and saved grids
 ROWS = [("zplgrid", row.split()) for row in [
     f"mean {JACOBI} size:=4", "mean mistakes/shifts.zpl", f"mean {JACOBI} turns=1", "mean running.zpl",
-    "run sum.zpl", f"run {JACOBI} size:=4 grid=2x2 report", "run running.zpl grid=2 order=ROOM/order", "run transpose.zpl grid=2x2",
-    f"run {JACOBI} size:=4 grid=2 opt=fcrmet turns=500", "run slips/assign.zpl", "run refused/setting.zpl", "run sum.zpl grid=65",
+    "run sum.zpl", f"run {JACOBI} size:=4 grid=2x2 report", "run running.zpl grid=4 order=ROOM/order", "run sum.zpl grid=2 order=ROOM/order", "run transpose.zpl grid=2x2",
+    f"run {JACOBI} size:=4 grid=2 opt=fcrmet turns=500", "run slips/assign.zpl", "run refused/setting.zpl n:=x", "run sum.zpl grid=65",
     "list sum.zpl", "list life.zpl grid=3", f"list {JACOBI} grid=2x2 opt=fcrmet", "list mistakes/regions.zpl",
     f"exec {RING} report order=ROOM/order", f"exec {STENCIL}", f"exec {CROSSED} links=1 report", f"exec {SUM} checked",
     f"exec {RING} order=ROOM/wrong", "exec ROOM/half.lst", f"exec {RING} turns=100 save", f"exec {STENCIL} turns=200 save",

@@ -6,9 +6,9 @@
 The parts: `files` that are missing, folders, without a name or with one that is too long, empty, without an end, links that lead round, pipes,
 and texts of just as many bytes as are taken, and more; `words` that are no command, or very many; `streams` that are full, closed, or
 pipes that nobody reads; `texts` with nests, chains, names, numbers and lists as deep and as long as a text can have them, on a stack
-of half a mebibyte; and `memory` for less and less.
+of 4 MiB, and nests in each procedure of the longest chain on one of 64; and `memory` for less and less.
 
-Each call ends within S seconds (20), with the status that its row has, and tells and prints what stands there. A call that lacks
+Each call ends within S seconds of processor time (20), with the status that its row has, and tells and prints what stands there. A call that lacks
 memory answers as it does with all of it, or 10, behind a front of what it prints. `--large` reads a saved grid of 512 MiB too; `--unproved`
 leaves out limits of stack and memory, since a program that `rt try` built needs more. It isn't part of the gate: the program is the
 one that was proved and built before. It ends with status 1 where a call answered otherwise, and says which.
@@ -16,6 +16,7 @@ one that was proved and built before. It ends with status 1 where a call answere
 import argparse
 import os
 import resource
+import signal
 import subprocess
 import sys
 import tempfile
@@ -23,13 +24,14 @@ import tempfile
 TOP = os.path.dirname(os.path.dirname(os.path.abspath(__file__)))
 EXAMPLES = f"{TOP}/examples"
 MEBIBYTE = 1 << 20
-STACK = MEBIBYTE // 2
+# room on the stack for one nest; and for a nest in each of 32 procedures, which is what `./zplgrid` asks for
+STACK, DEEPEST = 4 * MEBIBYTE, 64 * MEBIBYTE
 USAGE = "usage: zplgrid run|mean|list|exec|gen WORD [words]\n"
 EMPTY = "refused: Syntax, line 1, byte 0\n"
 NO_LISTING = "listing refused: BadLine, line 1\n"
 DEEP = "refused: TooDeep\n"
 LONG = "n" * 5000
-PRINTS = ["run SUM report", "mean SUM", "list SUM", "exec RING report", "check RING", "time RING", "gen 1"]
+PRINTS = ["run SUM report", "mean SUM", "list SUM", "exec RING report", "check EXAMPLES/listings/crossed.lst", "time RING", "gen 1"]
 TELLS = ["run EXAMPLES/slips/assign.zpl", "exec EXAMPLES/listings/table.lst", "check EXAMPLES/listings/idle.lst", "resume empty", "gen 1 turns=0", "run none", ""]
 
 
@@ -60,12 +62,18 @@ class Caller:
         if isinstance(words, str):
             words = [it.replace("SUM", "EXAMPLES/sum.zpl").replace("RING", "EXAMPLES/listings/ring.lst").replace("EXAMPLES", EXAMPLES) for it in words.split()]
         given = {"stdin": subprocess.DEVNULL, "stdout": subprocess.PIPE, "stderr": subprocess.PIPE, **streams}
+
+        def prepared():
+            resource.setrlimit(resource.RLIMIT_CPU, (self.seconds, self.seconds))
+            if before:
+                before()
+
         try:
-            ran = subprocess.run([self.program, *words], cwd=self.room, preexec_fn=before, timeout=self.seconds, check=False, **given)
-        except subprocess.TimeoutExpired:
-            return Answer(None, b"", b"no answer in time")
+            ran = subprocess.run([self.program, *words], cwd=self.room, preexec_fn=prepared, check=False, **given)
         except (OSError, subprocess.SubprocessError) as why:
             return Answer(None, b"", str(why).encode())
+        if ran.returncode in (-signal.SIGXCPU, -signal.SIGKILL):
+            return Answer(None, b"", b"no answer in time")
         return Answer(ran.returncode, ran.stdout or b"", ran.stderr or b"")
 
     def wrong(self, name, words, found, wanted):
@@ -237,8 +245,27 @@ def listings():
     yield "a goal behind the code", of("jump 1\n"), 0, "", ""
 
 
+def chains():
+    """The longest chains of calls, with a nest as deep as may be in each procedure: what they have, the text, and what is printed."""
+    for name, head, tail in (("`if`", "if x = 0 then ", "end; "), ("`while`", "while x = 0 do ", "x := 1; end; "), ("`for`", "for x := 0 to 0 do ", "end; "),
+                             ("`repeat`", "repeat ", "until x = 1; "), ("blocks", "begin ", "end; "), ("prefixes", "[1..2] begin ", "end; ")):
+        deep, inner = 197, f"x := {'(' * 190}1{')' * 190}; writeln(x);"
+        calls = [*(f"p{k}();" for k in range(1, 32)), inner]
+        text = "program p0;\nvar x : integer;\n" + "".join(f"procedure p{k}();\nbegin\n{head * deep}{it}{tail * deep}\nend;\n" for k, it in enumerate(calls))
+        yield f"{name} in 32 procedures", text, "1\n"
+
+
+def limited(caller, size):
+    """Gives a call so much stack, where that is to be limited."""
+    return (lambda: resource.setrlimit(resource.RLIMIT_STACK, (size, size))) if caller.limits else None
+
+
 def texts(caller):
-    small = (lambda: resource.setrlimit(resource.RLIMIT_STACK, (STACK, STACK))) if caller.limits else None
+    small = limited(caller, STACK)
+    for name, text, out in chains():
+        caller.put("text", text)
+        for command in ("mean text", "run text grid=2", "run text opt=fcrmet"):
+            caller.expect(name, command, 0, "", out, before=limited(caller, DEEPEST))
     for name, text, status, told, out, compiled in sources():
         caller.put("text", text)
         if len(text) > MEBIBYTE:
@@ -284,7 +311,7 @@ def main():
     asked = argparse.ArgumentParser(description=__doc__, formatter_class=argparse.RawDescriptionHelpFormatter)
     asked.add_argument("--program", default=f"{TOP}/crates/zplgrid/out/zplgrid")
     asked.add_argument("--only", choices=PARTS, metavar="PART", help=f"one of {', '.join(PARTS)}")
-    asked.add_argument("--seconds", type=float, default=20, metavar="S")
+    asked.add_argument("--seconds", type=int, default=20, metavar="S")
     asked.add_argument("--large", action="store_true")
     asked.add_argument("--unproved", action="store_true")
     given = asked.parse_args()
