@@ -1,5 +1,5 @@
 //! Facts that an instruction loses.
-ghost use Rattle.std.specs.Prelude.{◌≡◌, filter, flat_map, not};
+ghost use Rattle.std.specs.Prelude.{◌≡◌, filter, flat_map, IfOk, not};
 ghost use Rattle.code_parts.specs.Uses.{accumulated_by, written_slots};
 ghost use Rattle.node_check.specs.Learn.{changed_scalars, is_among, loses, roomed_arrays};
 ghost use Rattle.node_check.specs.Front.{loses_none};
@@ -7,16 +7,26 @@ ghost use Rattle.node_check.specs.Front.{loses_none};
 use crate::facts::Fact;
 use crate::lists::members_of;
 use node_form::{Instr, Member, Tables};
+use std::alloc::{AllocError, Global};
 
 /// The facts without those that the instruction loses.
-pub(crate) fn kept(tables: &Tables, mut facts: Vec<Fact>, row: &Instr) -> Vec<Fact>
-    ensures { result.items ≡ filter (λ fact. not (loses tables.now row.now fact)) facts.items }
+pub(crate) fn kept(
+    alloc: Global,
+    tables: &Tables,
+    facts: Vec<Fact>,
+    row: &Instr,
+) -> Result<Vec<Fact>, AllocError>
+    ensures { IfOk result (λ left. left.items
+        ≡ filter (λ fact. not (loses tables.now row.now fact)) facts.items) }
 {
     if loses_none(row) {
-        return facts;
+        return Ok(facts);
     }
-    facts.retain(|fact| !loses(tables, row, fact));
     facts
+        .iter()
+        .filter(|fact| !loses(tables, row, fact))
+        .copied()
+        .collect(alloc)
 }
 
 fn loses_none(row: &Instr) -> bool

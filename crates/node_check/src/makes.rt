@@ -29,7 +29,7 @@ pub(crate) fn learnt(
     ensures regions { IfOk result (λ known. All HasRegion known.items) }
 {
     let made = made(alloc, tables, facts.as_slice(), row)?;
-    let mut left = kept(tables, facts, row);
+    let mut left = kept(alloc, tables, facts, row)?;
     left.extend_from_slice(made.as_slice())?;
     Ok(left)
 }

@@ -8,11 +8,11 @@ use Rattle.node_check.proofs.makes.learnt.Goals as goal
 pub returns-clause-regions : goal.returns-clause-regions
 returns-clause-regions c =
     All-same HasRegion c.extend_from_slice.new.self.items
-    (c.kept-left.result.items ++ c.as_slice-2.result.now) c.in_ok-extend_from_slice.ensures.items
-    (All-append HasRegion c.kept-left.result.items c.as_slice-2.result.now
-    (All-same HasRegion c.kept-left.result.items
+    (c.in_ok-left.left.items ++ c.as_slice-2.result.now) c.in_ok-extend_from_slice.ensures.items
+    (All-append HasRegion c.in_ok-left.left.items c.as_slice-2.result.now
+    (All-same HasRegion c.in_ok-left.left.items
     (filter (λ fact. not (loses c.args.tables.now c.args.row.now fact)) c.args.facts.items)
-    c.kept-left.ensures
+    c.in_ok-left.ensures
     (All-filter (λ fact. not (loses c.args.tables.now c.args.row.now fact)) HasRegion
     c.args.facts.items c.requires.regions))
     (All-same HasRegion c.as_slice-2.result.now c.in_ok-made.made.items c.as_slice-2.ensures.value
