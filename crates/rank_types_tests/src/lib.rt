@@ -17,6 +17,4 @@ mod ranks;
 #[cfg(test)]
 mod regions;
 #[cfg(test)]
-mod several;
-#[cfg(test)]
 mod types;

@@ -25,13 +25,10 @@ const OWN_REGION: &str = "zplnode 1\ngrid 2\nscalars 1\nslots 1 1\ncells 0\narra
     expr n1\nexpr n3\nexpr n3 s0 +\ngroup\nacc 0 sum 0 - 1\ncode\nfix 0 4..4:1:1\nloop 0 0\n\
     dims 1 1..2 1\ngather number 0 1\nend\n";
 
-/// There is no instruction 3 to go to.
-const TABLE: &str = "zplnode 1\ngrid 1\nscalars 0\nslots\ncells 0\ncode\nend\njump 3\n";
-
 const LINE: &str = "listing refused: BadLine, line 1\n";
 
 /// Checks, and what comes of them.
-const CHECKS: [Row; 9] = [
+const CHECKS: [Row; 8] = [
     (&["check", "a"], FIRST, (0, "sound, links 1\n", "", 0)),
     (&["check", "a"], CROSSED, (0, "sound, links 2\n", "", 0)),
     (
@@ -50,11 +47,6 @@ const CHECKS: [Row; 9] = [
         (13, "", "unsound, instruction 2\n", 0),
     ),
     (&["check", "a"], "zplnode 2\n", (11, "", LINE, 0)),
-    (
-        &["check", "a"],
-        TABLE,
-        (11, "", "listing refused: BadTable, line 8\n", 0),
-    ),
     (&["check", "b"], FIRST, (2, "", "cannot read b\n", 0)),
     (&["check", "a", "report"], FIRST, (1, "", USAGE, 0)),
 ];

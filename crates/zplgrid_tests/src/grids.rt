@@ -67,10 +67,7 @@ fn an_array_program(rt: HostRuntime) -> Result<(), Fail> {
         "grid=0007",
         "grid=2x2",
         "grid=1x1x3",
-        "grid=33",
         "grid=64",
-        "grid=1x64",
-        "grid=64x1x1",
     ] {
         let call = Call {
             words: &["run", "a", grid],

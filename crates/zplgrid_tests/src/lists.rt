@@ -30,12 +30,11 @@ const LISTINGS: [Row; 2] = [
     ),
 ];
 
-const NO_COMMANDS: [Row; 6] = [
+const NO_COMMANDS: [Row; 5] = [
     (&["list"], COUNT, (1, "", USAGE, 0)),
     (&["List", "a"], COUNT, (1, "", USAGE, 0)),
     (&["list", "a", "turns=1"], COUNT, (1, "", USAGE, 0)),
     (&["list", "a", "links=0"], COUNT, (1, "", USAGE, 0)),
-    (&["list", "a", "links=1000001"], COUNT, (1, "", USAGE, 0)),
     (&["list", "a", "list"], COUNT, (1, "", USAGE, 0)),
 ];
 

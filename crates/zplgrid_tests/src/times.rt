@@ -16,10 +16,7 @@ const TRAP: &str =
 /// A processor that moves for ever.
 const JUMP: &str = "zplnode 1\ngrid 1\nscalars 0\nslots\ncells 0\ncode\njump 0\n";
 
-/// There is no scalar 1.
-const TABLE: &str = "zplnode 1\ngrid 1\nscalars 1\nslots\ncells 0\nexpr n1\ncode\nset 1 0 7\nend\n";
-
-const TIMES: [Row; 11] = [
+const TIMES: [Row; 9] = [
     (
         &["time", "a"],
         FIRST,
@@ -51,23 +48,6 @@ const TIMES: [Row; 11] = [
             "",
             10,
         ),
-    ),
-    (
-        &["time", "a", "latency=1000000"],
-        SUM,
-        (
-            0,
-            "moves 8 ticks 2000006\nprocessor 1 moves 1..1 from tick 0\n\
-            processor 0 moves 1..2 from tick 1000001\n\
-            processor 1 moves 2..4 from tick 2000003\n",
-            "",
-            10,
-        ),
-    ),
-    (
-        &["time", "a"],
-        TABLE,
-        (11, "", "listing refused: BadTable, line 8\n", 0),
     ),
     (
         &["time", "a"],
