@@ -1,8 +1,8 @@
 -- One more element in a loop over a list.
-use Rattle.std.proofs.Common.{◌≡◌, ℕ, zero, suc, ◌+◌, ◌<◌, ◌≤◌, ℤ, pos, Bool, List, [], ◌∷◌, ◌++◌, map, flat_map, length, drop, drop-cons, get_or, All, Option, Some, unwrap_or, refl, sym, ap, ap₂, ◌∙◌, subst, arith}
+use Rattle.std.proofs.Common.{◌≡◌, ℕ, zero, suc, ◌+◌, ◌<◌, ◌≤◌, ℤ, pos, Bool, List, [], ◌∷◌, ◌++◌, map, flat_map, length, drop, get_or, All, Option, Some, unwrap_or, refl, sym, ap, ap₂, ◌∙◌, subst, arith}
 use Rattle.std.specs.Borrow.{Bor}
 use Rattle.std.specs.List.{AllByRecursion}
-use Rattle.std.proofs.lemmas.List.{length-append}
+use Rattle.std.proofs.lemmas.List.{length-append, drop_more, nil_from_length}
 use Rattle.std.proofs.lemmas.List.Elements.{All-from_recursion, recursion_from_All}
 use Rattle.std.proofs.Math.ListN.{drop_of_length-le}
 use Rattle.zpl_region.specs.declared.regions.Region.{Region}
@@ -32,21 +32,9 @@ use Rattle.array_frames.proofs.FrameLemmas.{value-found}
 
 -- ---- what is left of a list
 
-pub left-from : {A : Type 0} (xs : List A) (i : ℕ) (d : A) → i < length xs →
-    drop i xs ≡ get_or xs i d ∷ drop (i + 1) xs
-left-from xs i d below =
-    drop-cons xs i d below ∙ ap (λ n. get_or xs i d ∷ drop n xs) one_more
-  where
-    one_more : suc i ≡ i + 1
-    one_more = omega arith
-
 pub append-assoc : {A : Type 0} (xs ys zs : List A) → (xs ++ ys) ++ zs ≡ xs ++ (ys ++ zs)
 append-assoc [] ys zs = refl
 append-assoc (x ∷ xs) ys zs = ap (λ l. x ∷ l) (append-assoc xs ys zs)
-
-pub append-nothing : {A : Type 0} (xs : List A) → xs ++ [] ≡ xs
-append-nothing [] = refl
-append-nothing (x ∷ xs) = ap (λ l. x ∷ l) (append-nothing xs)
 
 -- what holds of all holds at each place
 pub all-at : {A B : Type 0} (P : B → Type 0) (f : A → B) (xs : List A) (i : ℕ) (d : A) →
@@ -71,7 +59,7 @@ pub count-next : {A B C : Type 0} (f : B → List C) (g : A → B) (xs : List A)
     length (flat_map f (map g (drop i xs)))
     ≡ count + length (flat_map f (map g (drop (i + 1) xs)))
 count-next f g xs i d count below is =
-    ap (λ l. length (flat_map f (map g l))) (left-from xs i d below) ∙
+    ap (λ l. length (flat_map f (map g l))) (drop_more xs i d below) ∙
     length-append (f (g (get_or xs i d))) (flat_map f (map g (drop (i + 1) xs))) ∙
     ap (λ n. n + length (flat_map f (map g (drop (i + 1) xs)))) (sym is)
 
@@ -92,7 +80,7 @@ vars-next known storages at count vars i d boxes done new whole below counted sa
     ap (λ n. done ++ (declared_at known storages at (var_of (get_or vars i d)) ++ left (at + n)))
     counted ∙
     sym (ap (λ l. done ++ all_declared_at known storages at (map var_of l))
-    (left-from vars i d below)) ∙ rest
+    (drop_more vars i d below)) ∙ rest
   where
     left : ℕ → List Declared
     left n = all_declared_at known storages n (map var_of (drop (i + 1) vars))
@@ -122,7 +110,7 @@ formals-next params i d done new whole below is rest =
     append-assoc done (map (λ name. name.text) (param_of (get_or params i d)).names) left ∙
     ap (λ l. done ++ l) (sym (texts-more (get_or params i d).by_ref
     (param_of (get_or params i d)).names (formal_names (map param_of (drop (i + 1) params))))) ∙
-    sym (ap (λ l. done ++ texts (map param_of l)) (left-from params i d below)) ∙ rest
+    sym (ap (λ l. done ++ texts (map param_of l)) (drop_more params i d below)) ∙ rest
   where
     left : List (List ℕ)
     left = texts (map param_of (drop (i + 1) params))
@@ -142,7 +130,7 @@ values-next known values store defines i d value old new whole same below is add
     (is ∙ sym (value-found values text) ∙
     ap (λ all. value_or (pos 0) (outcome_of (pos 0) all text)) (sym same)) ∙
     sym (ap (λ l. with_values known (framed old store) (map define_of l))
-    (left-from defines i d below)) ∙ rest
+    (drop_more defines i d below)) ∙ rest
   where
     text : List ℕ
     text = (get_or defines i d).name.text.now
@@ -185,7 +173,7 @@ heads-next known storages at count decls i d item done new whole below here coun
     ap (λ x. done ++ all_names_at known storages at
     (decl_of x ∷ map decl_of (drop (i + 1) decls))) here ∙
     sym (ap (λ l. done ++ all_names_at known storages at (map decl_of l))
-    (left-from decls i d below)) ∙ rest
+    (drop_more decls i d below)) ∙ rest
   where
     left : ℕ → List HeadNames
     left n = all_names_at known storages n (map decl_of (drop (i + 1) decls))
@@ -204,7 +192,7 @@ decls-next known storages at count decls i d item old new whole below here count
     ap (λ x. with_decls_at known storages at old (decl_of x ∷ map decl_of (drop (i + 1) decls)))
     here ∙
     sym (ap (λ l. with_decls_at known storages at old (map decl_of l))
-    (left-from decls i d below)) ∙ rest
+    (drop_more decls i d below)) ∙ rest
 
 -- how many there are, where one is named
 pub count-item : {A B C : Type 0} (f : B → List C) (g : A → B) (xs : List A) (i : ℕ) (d item : A)
@@ -220,10 +208,6 @@ pub no-actuals : (frame : Frame) (formals : List (List ℕ)) → with_actuals fr
 no-actuals frame [] = refl
 no-actuals frame (formal ∷ formals) = refl
 
-none-left : {A : Type 0} (xs : List A) → length xs ≡ 0 → xs ≡ []
-none-left [] h = refl
-none-left (x ∷ xs) h = cc
-
 pub ended : (names : List (Bor (List ℕ))) (i : ℕ) (frame : Frame) (items : List Handed) →
     length items ≡ 0 →
     frame
@@ -231,7 +215,7 @@ pub ended : (names : List (Bor (List ℕ))) (i : ℕ) (frame : Frame) (items : L
 ended names i frame items none =
     sym (no-actuals frame (map (λ name. name.now) (drop i names))) ∙
     ap (λ l. with_actuals frame (map (λ name. name.now) (drop i names)) (map handed_of l))
-    (sym (none-left items none))
+    (sym (nil_from_length items none))
 
 pub handed-next : (names : List (Bor (List ℕ))) (i : ℕ) (d : Bor (List ℕ)) (handed : Handed)
     (items rest : List Handed) (old new whole : Frame) → i < length names →
@@ -243,7 +227,7 @@ handed-next names i d handed items rest old new whole below taken is before =
     ap (λ frame. with_actuals frame (map (λ name. name.now) (drop (i + 1) names))
     (map handed_of rest)) is ∙
     sym (ap₂ (λ l all. with_actuals old (map (λ name. name.now) l) (map handed_of all))
-    (left-from names i d below) taken) ∙ before
+    (drop_more names i d below) taken) ∙ before
 
 pub first-holds : {A : Type 0} (P : A → Type 0) (xs ys : List A) (x : A) → All P xs →
     xs ≡ x ∷ ys → P x

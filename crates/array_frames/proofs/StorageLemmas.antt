@@ -2,7 +2,7 @@
 -- within the limit.
 use Rattle.std.proofs.Common.{◌≡◌, ℕ, zero, suc, ◌+◌, ◌≤◌, ◌<◌, pos, List, [], ◌∷◌, ◌++◌, map, flat_map, length, drop, Option, Some, None, All, slice_index_or, refl, sym, ap, ap₂, ◌∙◌, subst, arith}
 use Rattle.std.specs.List.{AllByRecursion}
-use Rattle.std.proofs.lemmas.List.{drop-drop, drop-map, length-append, length-map}
+use Rattle.std.proofs.lemmas.List.{drop-drop, drop-map, length-append, length-map, append-nil}
 use Rattle.std.proofs.lemmas.List.Elements.{All-from_recursion, recursion_from_All}
 use Rattle.std.proofs.Math.Seq.{drop-append_seam}
 use Rattle.zpl_region.specs.declared.regions.Region.{Region}
@@ -47,10 +47,6 @@ over-append known borders (x ∷ xs) ys =
 append-assoc : {A : Type 0} (xs ys zs : List A) → (xs ++ ys) ++ zs ≡ xs ++ (ys ++ zs)
 append-assoc [] ys zs = refl
 append-assoc (x ∷ xs) ys zs = ap (λ l. x ∷ l) (append-assoc xs ys zs)
-
-append-nothing : {A : Type 0} (xs : List A) → xs ++ [] ≡ xs
-append-nothing [] = refl
-append-nothing (x ∷ xs) = ap (λ l. x ∷ l) (append-nothing xs)
 
 -- those of the first of two lists, and of the second behind them
 pub first-stand : (known : Known) (borders : List Border) (storages : List Region) (at : ℕ)
@@ -263,5 +259,5 @@ all-stand known borders storages decls is = record {
     whole : StandAt known borders storages 0 (globals ++ locals)
     whole = record {
       rest = [];
-      stand = sym is ∙ sym (append-nothing (storages_over known borders (globals ++ locals)));
+      stand = sym is ∙ sym (append-nil (storages_over known borders (globals ++ locals)));
     }

@@ -1,7 +1,7 @@
 -- A program of the grammar without faults has brackets with one to three dimensions.
-use Rattle.std.proofs.Common.{◌≡◌, ℕ, suc, ◌≤◌, nat_le, Bool, true, false, ◌&&◌, List, [], ◌∷◌, All, refl, arith}
+use Rattle.std.proofs.Common.{◌≡◌, ℕ, suc, ◌≤◌, nat_le, true, List, [], ◌∷◌, All, arith}
 use Rattle.std.specs.List.{AllByRecursion, list_all}
-use Rattle.std.proofs.lemmas.Bool.{leb-true}
+use Rattle.std.proofs.lemmas.Bool.{leb-true, and_parts}
 use Rattle.std.proofs.lemmas.List.Elements.{All-from_recursion}
 use Rattle.zpl_tree.specs.Grammar.{HasDims, IsBracket, IsDecl, IsInner, IsProgram, IsRegion, IsVar}
 use Rattle.zpl_tree.specs.Syntax.{Inner, Rexpr, Dims, DimTexts, NoDim, ThenDim, Bracket, NoBracket}
@@ -23,10 +23,6 @@ HasFitRegions (Constant constants) = Unit {0}
 HasFitRegions (Directions directions) = Unit {0}
 HasFitRegions (Vars vars) = Unit {0}
 HasFitRegions (Defined procedure) = Unit {0}
-
-both-true : (a b : Bool) → a && b ≡ true → (a ≡ true) × (b ≡ true)
-both-true true b h = (refl, h)
-both-true false b h = cc
 
 some-dims : (dims : DimTexts) → HasDims dims → 1 ≤ dims_count dims
 some-dims NoDim h = absurd h
@@ -50,7 +46,7 @@ fit-vars : (vars : List VarDef) → AllByRecursion IsVar vars → are_few_vars v
     AllByRecursion (λ var. IsFitShape var.shape) vars
 fit-vars [] is few = tt
 fit-vars (var ∷ vars) is few =
-    let each = both-true (is_few_bracket var.shape) (are_few_vars vars) few in
+    let each = and_parts (is_few_bracket var.shape) (are_few_vars vars) few in
     (fit-shape var.shape is.0.1 each.0, fit-vars vars is.1 each.1)
 
 fit-regions : (regions : List RegionDef) → AllByRecursion IsRegion regions →
@@ -59,7 +55,7 @@ fit-regions : (regions : List RegionDef) → AllByRecursion IsRegion regions →
 fit-regions [] is few = tt
 fit-regions (region ∷ regions) is few =
     let each =
-    both-true (is_few region.body) (list_all (λ region. is_few region.body) regions) few in
+    and_parts (is_few region.body) (list_all (λ region. is_few region.body) regions) few in
     (fit-inner region.body is.0.0 each.0, fit-regions regions is.1 each.1)
 
 fit-decl : (decl : Decl) → IsDecl decl → is_few_decl decl ≡ true → IsFitDecl decl
@@ -88,7 +84,7 @@ each-decl : (P : Decl → Type 0) → ((decl : Decl) → IsDecl decl → is_few_
     AllByRecursion P decls
 each-decl P turn [] is few = tt
 each-decl P turn (decl ∷ decls) is few =
-    let each = both-true (is_few_decl decl) (list_all is_few_decl decls) few in
+    let each = and_parts (is_few_decl decl) (list_all is_few_decl decls) few in
     (turn decl is.0 each.0, each-decl P turn decls is.1 each.1)
 
 pub fit-variables : (program : Program) → IsProgram program → IsFaultless program →

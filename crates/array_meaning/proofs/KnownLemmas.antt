@@ -3,6 +3,7 @@
 use Rattle.std.proofs.Common.{◌≡◌, ℕ, ℤ, List, [], ◌∷◌, ◌++◌, map, All, refl, sym, ap, ap₂, ◌∙◌, subst}
 use Rattle.std.specs.List.{AllByRecursion, flat_map}
 use Rattle.std.proofs.lemmas.List.Elements.{All-from_recursion, recursion_from_All}
+use Rattle.std.proofs.lemmas.List.{append-nil}
 use Rattle.zpl_region.specs.declared.regions.Region.{Region}
 use Rattle.zpl_region.proofs.TestLemmas.{is_within_limit_iff}
 use Rattle.zpl_tree.specs.Syntax.{RegionDef, Decl, Config, Constant, Regions, Directions, Vars}
@@ -26,7 +27,6 @@ use Rattle.array_terms.specs.Sound.{IsSmall}
 use Rattle.array_places.specs.Sound.{IsRanked}
 use Rattle.array_statements.specs.of_array_regions.Fit.{IsFitInner}
 use Rattle.array_statements.proofs.of_array_regions.RegionLemmas.{small-within}
-use Rattle.array_frames.proofs.LoopLemmas.{append-nothing}
 use Rattle.array_frames.proofs.RankLemmas.{HasRank, behind-ranked, inner-ranked}
 use Rattle.array_frames.proofs.SmallLemmas.{has-count}
 use Rattle.array_meaning.proofs.FitLemmas.{HasFitRegions}
@@ -90,10 +90,10 @@ known-told follow program settings bound binds =
     let direction_texts = flat_map direction_names program.decls in
     ap (λ all. known_with all known.regions known.directions)
     (table-is known.values [] value_texts bound.values (follow.values program settings)
-    (append-nothing (map (λ one. one.outcome) known.values) ∙ binds.values)) ∙
+    (append-nil (map (λ one. one.outcome) known.values) ∙ binds.values)) ∙
     (ap (λ all. known_with (told value_texts bound.values) all known.directions)
     (table-is known.regions [] region_texts bound.regions (follow.regions program settings)
-    (append-nothing (map (λ one. one.outcome) known.regions) ∙ binds.regions)) ∙
+    (append-nil (map (λ one. one.outcome) known.regions) ∙ binds.regions)) ∙
     ap (known_with (told value_texts bound.values) (told region_texts bound.regions))
     (table-is known.directions (map (vector_of known.values) (vectors_in program))
     direction_texts bound.vectors (follow.directions program settings) binds.vectors))

@@ -3,6 +3,7 @@ use Rattle.std.proofs.Common.{◌≡◌, ℕ, suc, ◌<◌, ◌≤◌, true, fal
 use Rattle.std.specs.Prelude.{flat_map, slice_get}
 use Rattle.std.specs.Option.{option_or}
 use Rattle.std.specs.Str.{bytes_eq}
+use Rattle.std.proofs.lemmas.List.{map-append}
 use Rattle.zpl_region.specs.declared.regions.Region.{Region}
 use Rattle.zpl_tree.specs.Syntax.{Name, Expr, Number, Truth, Coord, Named, Shifted, Around, Remap, Call, Paren, Neg, Not, Abs, Pair, Reduce, Scan, Flood, Exprs, NoExpr, ThenExpr, Base, Bracket, NoBracket, Bracketed, Param, Program}
 use Rattle.zpl_names.specs.Kinds as kind
@@ -331,10 +332,6 @@ parameter_of scope param name = record {
 abbrev pub parameters_of : Scope → List Param → List Parameter
 parameters_of scope params = flat_map (λ param. map (parameter_of scope param) param.names) params
 
-map_both : {A B : Type 0} (f : A → B) (xs ys : List A) → map f (xs ++ ys) ≡ map f xs ++ map f ys
-map_both f [] ys = refl
-map_both f (x ∷ xs) ys = ap (λ rest. f x ∷ rest) (map_both f xs ys)
-
 map_twice : {A B C : Type 0} (f : B → C) (g : A → B) (xs : List A) →
     map f (map g xs) ≡ map (λ x. f (g x)) xs
 map_twice f g [] = refl
@@ -345,7 +342,7 @@ pub each_of : {B : Type 0} (f : Parameter → B) (scope : Scope) (params : List 
     flat_map (λ param. map (λ name. f (parameter_of scope param name)) param.names) params
 each_of f scope [] = refl
 each_of f scope (param ∷ params) =
-    map_both f (map (parameter_of scope param) param.names) (parameters_of scope params)
+    map-append f (map (parameter_of scope param) param.names) (parameters_of scope params)
     ∙ ap (λ front. front ++ map f (parameters_of scope params))
     (map_twice f (parameter_of scope param) param.names)
     ∙ ap (λ rest. map (λ name. f (parameter_of scope param name)) param.names ++ rest)

@@ -3,6 +3,7 @@ use Rattle.std.proofs.Common.{◌≡◌, ℕ, ◌<◌, ◌≤◌, Bool, true, fa
 use Rattle.std.specs.Prelude.{Contains, filter_map, flat_map, slice_get}
 use Rattle.std.proofs.lemmas.Option.{slice_get_within}
 use Rattle.std.specs.Str.{bytes_eq}
+use Rattle.std.proofs.lemmas.Bool.{not-false}
 use Rattle.zpl_region.specs.declared.regions.Region.{Region}
 use Rattle.zpl_tree.specs.Grammar.{IsProgram}
 use Rattle.zpl_tree.specs.Syntax.{Name, Base, Inner, Bracket, NoBracket, Bracketed, Param, VarDef, Decl, Config, Constant, Regions, Directions, Vars, Defined, Program}
@@ -23,7 +24,6 @@ use Rattle.zpl_meaning.specs.Context.{Setup}
 use Rattle.zpl_meaning.specs.Store.{ArrayAt, thing_of}
 use Rattle.zpl_meaning.specs.Variables.{Frame, empty_frame, with_declarations}
 use Rattle.zpl_meaning.proofs.NamesLemmas.{routine_sound, IsSound}
-use Rattle.zpl_meaning.proofs.ProperLemmas.{not_false}
 use Rattle.zpl_meaning.proofs.VisitLemmas.{find_among, none_there}
 use Rattle.lowering_fits.specs.of_zpl_lowering.Where.{Stored, Numbers, Next, Where}
 use Rattle.lowering_fits.specs.of_zpl_lowering.Statement.{Calling, given_to}
@@ -161,7 +161,7 @@ module _ (Sound : ℕ → Region → Region → Type 0) where
       no_params =
           entry_bare routine
           (ap is_entry (sym is)
-          ∙ not_false (is_entry (entry_of program))
+          ∙ not-false (is_entry (entry_of program))
           (no_place (not (is_entry (entry_of program))) program.name.at
           (none_there (no_entry program) (λ at c. clean NoEntry at c))))
 

@@ -3,6 +3,7 @@ use Rattle.std.proofs.Common.{◌≡◌, ℕ, Bool, true, false, not, ◌&&◌, 
 use Rattle.std.specs.Prelude.{flat_map, slice_get}
 use Rattle.std.specs.List.{list_any}
 use Rattle.std.proofs.lemmas.Slice.Eq.{bytes_eq-Decides}
+use Rattle.std.proofs.lemmas.Bool.{not-true, or_parts}
 use Rattle.zpl_region.specs.declared.regions.Region.{Region}
 use Rattle.zpl_nums.specs.declared.operators.Op.{Op}
 use Rattle.zpl_tree.specs.Syntax.{Name, Expr, Number, Truth, Coord, Named, Shifted, Around, Remap, Call, Paren, Neg, Not, Abs, Pair, Reduce, Scan, Flood, Program}
@@ -170,14 +171,6 @@ module _ (w : Where) (number : ℕ) where
 
 -- ---- plain targets
 
-not_true : (b : Bool) → not b ≡ true → b ≡ false
-not_true true e = cc
-not_true false e = refl
-
-or_false : (a b : Bool) → (a || b) ≡ false → (a ≡ false) × (b ≡ false)
-or_false true b e = cc
-or_false false b e = (refl, e)
-
 same_array : (array : ExpandedArray) → is_same_array array array ≡ true
 same_array array =
     ap (λ b. b && (array.variable == array.variable)) ((bytes_eq-Decides array.path array.path).1 refl)
@@ -209,7 +202,7 @@ module _ (program : Program) (instance : Instance) (w : Where) (number : ℕ) (a
   value_apart (Not at operand) e = value_apart operand e
   value_apart (Abs at operand) e = value_apart operand e
   value_apart (Pair at op left right) e =
-      let none = or_false (reads_shifted program instance array left)
+      let none = or_parts (reads_shifted program instance array left)
       (reads_shifted program instance array right) e in
       (value_apart left none.0, value_apart right none.1)
   value_apart (Number at value) e = tt
@@ -232,7 +225,7 @@ plain_target : (program : Program) (instance : Instance) (found : Option Expande
 plain_target program instance None value e = cc
 plain_target program instance (Some array) value e =
     let parts = two_true (is_plain_value value) (not (reads_shifted program instance array value)) e
-    in (array, refl, parts.0, not_true (reads_shifted program instance array value) parts.1)
+    in (array, refl, parts.0, not-true (reads_shifted program instance array value) parts.1)
   where
     two_true : (a b : Bool) → (a && b) ≡ true → (a ≡ true) × (b ≡ true)
     two_true true b e = (refl, e)

@@ -4,6 +4,7 @@ use Rattle.std.proofs.Common.{◌≡◌, Bool, true, false, not, ◌&&◌, cond,
 use Rattle.std.specs.List.{cons_option, filter_map}
 use Rattle.std.specs.Option.{option_or}
 use Rattle.std.proofs.lemmas.List.Elements.{recursion_from_All}
+use Rattle.std.proofs.lemmas.Bool.{and_parts, not-true, not-false}
 use Rattle.zpl_tree.specs.Grammar.{IsProgram}
 use Rattle.zpl_tree.specs.Syntax.{Name, Expr, Number, Truth, Coord, Named, Shifted, Around, Remap, Call, Paren, Neg, Not, Abs, Pair, Reduce, Scan, Flood, Exprs, NoExpr, ThenExpr, Base, Decl, Config, Constant, Regions, Directions, Vars, Defined, Program}
 use Rattle.zpl_names.specs.Kinds as kind
@@ -22,9 +23,7 @@ use Rattle.zpl_names.proofs.NameLemmas.{no_place, empty_parts}
 use Rattle.zpl_names.proofs.DeclaredLemmas.{known_scope}
 use Rattle.zpl_meaning.proofs.DepthLemmas.{Each}
 use Rattle.zpl_meaning.proofs.NamesLemmas.{globals_shaped, routine_sound, IsSound}
-use Rattle.zpl_meaning.proofs.ProperLemmas.{not_false}
 use Rattle.zpl_meaning.proofs.VisitLemmas.{AllOwn, all_own}
-use Rattle.zpl_meaning.proofs.StatementLemmas.{and_true, not_true}
 use Rattle.lowering_fits.proofs.of_lower_numbers.SiteLemmas.{IsIn, Told, sites_told}
 use Rattle.lowering_fits.proofs.of_lower_numbers.NameLemmas.{OptFirm, firm_kind, array_actual, value_actual, array_here, value_here, procedure_here, Taken, split_actual}
 use Rattle.array_numbers.specs.Numbering.{IsTaken, AreTaken}
@@ -105,7 +104,7 @@ module _ (program : Program) (caller : Instance)
       value_actual (kind_of (scope_of program caller.routine) name) (firm name)
       (subst (λ thing. is_above_zero (first_rank (value_rank thing) (Some 0)) ≡ false)
       (value_here program caller.routine reach k name here)
-      (not_true _ (and_true _ _ fit).0))
+      (not-true _ (and_parts _ _ fit).0))
   is_taken (ScalarFormal false base) (Number at value) fit free here = tt
   is_taken (ScalarFormal true base) (Number at value) fit free here = absurd (true≢false (sym fit))
   is_taken (ArrayFormal by_ref base shape) (Number at value) fit free here = absurd (true≢false (sym fit))
@@ -159,7 +158,7 @@ module _ (program : Program) (caller : Instance)
   are_taken [] (ThenExpr actual rest) fit free clean = absurd (true≢false (sym fit))
   are_taken (formal ∷ formals) NoExpr fit free clean = absurd (true≢false (sym fit))
   are_taken (formal ∷ formals) (ThenExpr actual rest) fit free clean =
-      let fits_are = and_true (fits reach formal actual) (all_fit reach formals rest) fit in
+      let fits_are = and_parts (fits reach formal actual) (all_fit reach formals rest) fit in
       let parts = split_actual reach actual rest clean in
       let none = empty_parts (fixed_actual reach formal actual) (fixed_actuals reach formals rest)
       free in (
@@ -224,7 +223,7 @@ module _ (program : Program) (grammar : IsProgram program) (clean : IsFaultless 
             (option_or (kind_in reach.scope.own name.text)
             (kind_in reach.scope.globals name.text)) found.0 found.1;
         taken = are_taken program caller firm_of reach k found.0.formals actuals
-            (not_false (all_fit reach found.0.formals actuals)
+            (not-false (all_fit reach found.0.formals actuals)
             (no_place (not (all_fit reach found.0.formals actuals)) name.at
             (subst (λ thing. at_if (is_procedure thing &&
             not (all_fit reach (formals_in thing) actuals)) name.at ≡ []) found.1 none.fitting)))

@@ -1,19 +1,16 @@
 -- Turns of loops, one at a time.
-use Rattle.std.proofs.Common.{◌≡◌, ℕ, zero, suc, ◌+◌, ◌-◌, ◌<◌, ◌≤◌, Bool, true, false, List, refl, sym, ap, ◌∙◌, arith}
+use Rattle.std.proofs.Common.{◌≡◌, ℕ, zero, suc, ◌+◌, ◌-◌, ◌<◌, Bool, true, List, refl, sym, ap, ◌∙◌, arith}
 use Rattle.std.specs.Prelude.{Result, Ok, Err, IsErrAnd}
 use Rattle.zpl_nums.specs.declared.ends.TrapKind.{TrapKind}
 use Rattle.zpl_meaning.specs.Computed.{Computed, Gives, Traps}
 use Rattle.array_points.specs.declared.cuts.Halt.{Halt}
-use Rattle.array_points.specs.declared.cuts.Halt.TheVariants.{Trap, More}
+use Rattle.array_points.specs.declared.cuts.Halt.TheVariants.{Trap}
 use Rattle.array_points.specs.declared.owns.Own.{Own}
 use Rattle.array_points.specs.Run.{Choice, Taken, choice_of, course_of}
 use Rattle.array_points.specs.Run.{Course, Goes, Halts, course_then, on_test, repeat_run, wants_more, while_run}
 
 one_less : (turns i : ℕ) → i < turns → turns - i ≡ suc (turns - (i + 1))
 one_less turns i h = omega arith
-
-none_left : (turns i : ℕ) → turns ≤ i → turns - i ≡ zero
-none_left turns i h = omega arith
 
 -- what a `?` passes on
 pub passed : (r : Result (Unit {0}) Halt) (halt : Halt) (owns : List Own) (course : Course) →
@@ -34,12 +31,6 @@ module _ (test : List Own → Computed Bool) (body : List Own → Course) (owns 
   while_trap (suc turns) kind h =
       ap (λ c. on_test c (λ own. course_then (body own) (while_run turns test body)) Goes owns) h
 
-  pub while_leave : (turns : ℕ) → test owns ≡ Gives false →
-      while_run turns test body owns ≡ Goes owns
-  while_leave zero h = ap (λ c. on_test c wants_more Goes owns) h
-  while_leave (suc turns) h =
-      ap (λ c. on_test c (λ own. course_then (body own) (while_run turns test body)) Goes owns) h
-
   pub while_turn : (turns i : ℕ) (course : Course) → i < turns → test owns ≡ Gives true →
       body owns ≡ course →
       while_run (turns - i) test body owns
@@ -50,17 +41,6 @@ module _ (test : List Own → Computed Bool) (body : List Own → Course) (owns 
       (while_run (turns - (i + 1)) test body)) Goes owns) holds
       ∙ ap (λ c. course_then c (while_run (turns - (i + 1)) test body)) is)
 
-  pub while_wants : (turns i : ℕ) → turns ≤ i → test owns ≡ Gives true →
-      while_run (turns - i) test body owns ≡ Halts More
-  while_wants turns i h holds =
-      ap (λ n. while_run n test body owns) (none_left turns i h)
-      ∙ ap (λ c. on_test c wants_more Goes owns) holds
-
-  pub while_first : (turns : ℕ) →
-      while_run (turns - 0) test body owns ≡ while_run turns test body owns
-  while_first turns =
-      let same : turns - 0 ≡ turns = omega arith in ap (λ n. while_run n test body owns) same
-
   -- a test after a turn
   pub repeat_turn : (turns i : ℕ) (course : Course) → i < turns → body owns ≡ course →
       repeat_run (turns - i) test body owns
@@ -70,19 +50,3 @@ module _ (test : List Own → Computed Bool) (body : List Own → Course) (owns 
       ap (λ n. repeat_run n test body owns) (one_less turns i h)
       ∙ ap (λ c. course_then c
       (λ own. on_test (test own) Goes (repeat_run (turns - (i + 1)) test body) own)) is
-
-  pub repeat_wants : (turns i : ℕ) → turns ≤ i →
-      repeat_run (turns - i) test body owns ≡ Halts More
-  repeat_wants turns i h = ap (λ n. repeat_run n test body owns) (none_left turns i h)
-
-  pub repeat_first : (turns : ℕ) →
-      repeat_run (turns - 0) test body owns ≡ repeat_run turns test body owns
-  repeat_first turns =
-      let same : turns - 0 ≡ turns = omega arith in ap (λ n. repeat_run n test body owns) same
-
--- what a turn comes to goes on with the test
-pub after_turn : (test : List Own → Computed Bool) (next : List Own → Course) (owns : List Own)
-    (value : Computed Bool) → test owns ≡ value →
-    course_then (Goes owns) (λ own. on_test (test own) Goes next own)
-    ≡ on_test value Goes next owns
-after_turn test next owns value h = ap (λ c. on_test c Goes next owns) h

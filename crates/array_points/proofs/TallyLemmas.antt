@@ -222,20 +222,6 @@ tally-more course keep t rest trapped arrays = by (keep t) refl
     by true e = rw e (again (tally_with t (course t) trapped arrays))
     by false e = rw e refl
 
-pub tally-kept : (course : List ℤ → Course) (keep : List ℤ → Bool) (t : List ℤ)
-    (trapped : Option TrapKind) (arrays : List Array) → keep t ≡ true →
-    tally course (filter keep (t ∷ [])) trapped arrays ≡ tally_with t (course t) trapped arrays
-tally-kept course keep t trapped arrays e = rw e (by (tally_with t (course t) trapped arrays))
-  where
-    by : (runs : Tally) → tally_then runs (tally course []) ≡ runs
-    by (Counts first left) = refl
-    by Wants = refl
-
-pub tally-masked : (course : List ℤ → Course) (keep : List ℤ → Bool) (t : List ℤ)
-    (trapped : Option TrapKind) (arrays : List Array) → keep t ≡ false →
-    tally course (filter keep (t ∷ [])) trapped arrays ≡ Counts trapped arrays
-tally-masked course keep t trapped arrays e = rw e refl
-
 -- what cuts one tuple's run cuts all
 pub tallies-cut : (r : Result (Option TrapKind) Cut) (cut : Cut) (left arrays : List Array)
     (runs all : Tally) (next : Option TrapKind → List Array → Tally) →
@@ -266,20 +252,6 @@ no-tuple-at ts i e = rw add-one (by ts i e)
     by (t ∷ ts) (suc i) e = by ts i e
 
 -- ---- all runs
-
-abbrev pub trap_end : ℕ → Option TrapKind → End
-trap_end line None = ends.Done
-trap_end line (Some kind) = ends.Trap kind line
-
-worse-none : (line : ℕ) (trapped : Option TrapKind) →
-    worse (trap_end line trapped) ends.Done ≡ trap_end line trapped
-worse-none line None = refl
-worse-none line (Some kind) = refl
-
-worse-more : (line : ℕ) (trapped : Option TrapKind) (rest : End) →
-    worse (trap_end line trapped) (worse ends.More rest) ≡ ends.More
-worse-more line None rest = refl
-worse-more line (Some kind) rest = refl
 
 worse-trap : (line : ℕ) (first kind : TrapKind) (rest : End) →
     worse (ends.Trap first line) (worse (ends.Trap kind line) rest)

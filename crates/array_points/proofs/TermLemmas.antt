@@ -1,5 +1,6 @@
 -- Elementwise expressions as terms: they have no trap of regions, conform, and have a field.
-use Rattle.std.proofs.Common.{◌≡◌, ℕ, Bool, true, false, ◌&&◌, ℤ, pos, List, [], ◌∷◌, length, Option, Some, None, refl, sym, ap, ap₂, ◌∙◌, subst}
+use Rattle.std.proofs.Common.{◌≡◌, ℕ, true, false, ◌&&◌, ℤ, pos, List, [], ◌∷◌, length, Option, Some, None, refl, sym, ap, ap₂, ◌∙◌, subst}
+use Rattle.std.proofs.lemmas.Bool.{and_parts}
 use Rattle.zpl_nums.specs.declared.operators.Op.{Op}
 use Rattle.zpl_nums.specs.declared.operators.UnaryOp.{UnaryOp}
 use Rattle.zpl_nums.specs.declared.operators.UnaryOp.TheVariants as unary
@@ -110,10 +111,6 @@ abbrev binary_field : Op → Field → Field → Field
 binary_field op one other t =
     both_then (one t) (other t) (λ first second. given (applied op first second))
 
-and_both : (a b : Bool) → (a && b) ≡ true → (a ≡ true) × (b ≡ true)
-and_both true b h = (refl, h)
-and_both false b h = let no : false ≡ true = h in cc
-
 pub term_of_elementwise : (place : Place) (rank : Rank) (expr : Expr) →
     is_elementwise expr ≡ true → HasTerm place rank expr
 term_of_elementwise place rank (Number at value) h = (
@@ -212,7 +209,7 @@ term_of_elementwise place rank (Abs at operand) h =
       },
     )
 term_of_elementwise place rank (Pair at op left right) h =
-    let both = and_both (is_elementwise left) (is_elementwise right) h in
+    let both = and_parts (is_elementwise left) (is_elementwise right) h in
     let one = term_of_elementwise place rank left both.0 in
     let other = term_of_elementwise place rank right both.1 in (
       Binary op one.0 other.0,

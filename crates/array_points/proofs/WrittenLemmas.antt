@@ -1,7 +1,7 @@
 -- The places of the arrays that are written: each is there, and each target is among them.
-use Rattle.std.proofs.Common.{◌≡◌, ℕ, ◌<◌, ◌≤◌, Bool, true, false, ◌||◌, List, [], ◌∷◌, ◌++◌, Option, Some, None, refl, sym, ap, ◌∙◌, subst, arith}
+use Rattle.std.proofs.Common.{◌≡◌, ℕ, ◌<◌, ◌≤◌, Bool, true, false, ◌||◌, List, [], ◌∷◌, ◌++◌, Option, Some, None, refl, sym, ◌∙◌, subst, arith}
 use Rattle.std.specs.Prelude.{nat_eq, nat_lt, if◌then◌else◌}
-use Rattle.std.proofs.lemmas.Bool.{eq-eqb, eqb-true, lt-ltb, ltb-true}
+use Rattle.std.proofs.lemmas.Bool.{eq-eqb, eqb-true, lt-ltb, ltb-true, or_left, or_right, or_from}
 use Rattle.std.proofs.lemmas.List.Folds.{list_any-append}
 use Rattle.zpl_tree.specs.Syntax.{Name, Stmt, Prefixed, Stmts, NoStmt, ThenStmt, Form, Assign, Invoke}
 use Rattle.zpl_tree.specs.Syntax.{Block, If, While, Repeat, For, Border, Write, Return, Arm, Tested}
@@ -22,16 +22,6 @@ among_more : (places : List ℕ) (place p : ℕ) →
     is_among (places ++ place ∷ []) p ≡ (is_among places p || (nat_eq place p || false))
 among_more places place p = list_any-append (λ other. nat_eq other p) places (place ∷ [])
 
-or_true : (a b : Bool) → a ≡ true → (a || b) ≡ true
-or_true a b h = ap (λ x. x || b) h
-
-or_right : (a b : Bool) → b ≡ true → (a || b) ≡ true
-or_right true b h = refl
-or_right false b h = h
-
-or_none : (a b : Bool) → a ≡ false → b ≡ false → (a || b) ≡ false
-or_none a b h k = ap (λ x. x || b) h ∙ k
-
 -- the places that are there stay
 kept-place : (count : ℕ) (places : List ℕ) (place p : ℕ) → is_among places p ≡ true →
     is_among (with_place count places place) p ≡ true
@@ -43,7 +33,7 @@ kept-place count places place p h = by (nat_lt place count) refl (is_among place
     by true e true f = rw (e, f) h
     by true e false f =
         rw (e, f) (among_more places place p
-        ∙ or_true (is_among places p) (nat_eq place p || false) h)
+        ∙ or_left (is_among places p) (nat_eq place p || false) h)
 
 -- one below the count is among them then
 has-place : (count : ℕ) (places : List ℕ) (place : ℕ) → place < count →
@@ -57,7 +47,7 @@ has-place count places place below = by (nat_lt place count) refl (is_among plac
     by true e false f =
         rw (e, f) (among_more places place place
         ∙ or_right (is_among places place) (nat_eq place place || false)
-        (or_true (nat_eq place place) false (eq-eqb place place refl)))
+        (or_left (nat_eq place place) false (eq-eqb place place refl)))
 
 -- none at or behind the count comes among them
 below-place : (count : ℕ) (places : List ℕ) (place : ℕ) → AreBelow count places →
@@ -75,8 +65,8 @@ below-place count places place below p above =
     by true e true f = rw (e, f) (below p above)
     by true e false f =
         rw (e, f) (among_more places place p
-        ∙ or_none (is_among places p) (nat_eq place p || false) (below p above)
-        (or_none (nat_eq place p) false
+        ∙ or_from (is_among places p) (nat_eq place p || false) (below p above)
+        (or_from (nat_eq place p) false
         (other (nat_eq place p) refl (ltb-true place count e)) refl))
 
 -- ---- what a name stands for

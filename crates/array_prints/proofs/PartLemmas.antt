@@ -1,7 +1,6 @@
 -- Parts of a row, one after another.
-use Rattle.std.proofs.Common.{◌≡◌, ℕ, zero, suc, ◌+◌, ◌-◌, ◌*◌, ◌<◌, ◌≤◌, Bool, List, [], ◌∷◌, ◌++◌, length, map, take, drop, get_or, drop-cons, refl, sym, ap, ◌∙◌, ℤ, pos, arith, append_assoc, append-nil}
+use Rattle.std.proofs.Common.{◌≡◌, ℕ, zero, suc, ◌+◌, ◌-◌, ◌*◌, ◌<◌, ◌≤◌, Bool, List, [], ◌∷◌, ◌++◌, length, map, take, drop, get_or, drop-cons, sym, ap, ◌∙◌, ℤ, pos, arith, append_assoc, append-nil}
 use Rattle.std.specs.List.{join_with_byte}
-use Rattle.std.proofs.lemmas.List.{drop_all}
 use Rattle.array_prints.specs.RowText.{line_text, parts_text, value_text}
 
 -- ---- the values of a line
@@ -19,18 +18,11 @@ pub line_starts : (truth : Bool) (values : List ℤ) → 0 < length values
 line_starts truth [] some = absurd (omega arith)
 line_starts truth (value ∷ values) some = joined_with (value_text truth) value values
 
-pub line_none : (truth : Bool) (values : List ℤ) → length values ≡ 0 → line_text truth values ≡ []
-line_none truth [] none = refl
-line_none truth (value ∷ values) none = absurd (omega (arith, none))
-
 pub rest_more : (text : ℤ → List ℕ) (values : List ℤ) (i : ℕ) → i < length values
     → rest_text text (drop i values) ≡ (32 ∷ text (get_or values i (pos 0))) ++ rest_text text (drop (i + 1) values)
 rest_more text values i within =
     let more : suc i ≡ i + 1 = omega arith in
     ap (rest_text text) (drop-cons values i (pos 0) within) ∙ ap (λ n. (32 ∷ text (get_or values i (pos 0))) ++ rest_text text (drop n values)) more
-
-pub rest_ends : (text : ℤ → List ℕ) (values : List ℤ) (i : ℕ) → length values ≤ i → rest_text text (drop i values) ≡ []
-rest_ends text values i past = ap (rest_text text) (drop_all i values past)
 
 -- what was appended, and what is left
 pub line_step : (text : ℤ → List ℕ) (values : List ℤ) (i : ℕ) (before spaced after whole : List ℕ) → i < length values

@@ -85,9 +85,6 @@ no_text truth r e steps none =
 pub line_case : (truth : Bool) (rank : ℕ) (dims : List Dim) (values : List ℤ) → rank ≡ 1 → row_text truth rank dims values ≡ line_text truth values
 line_case truth rank dims values is = ap (λ n. row_text truth n dims values) is
 
-one_of_padding : (d : Dim) → d ≡ padding → coordinate_count d * 1 ≡ 1
-one_of_padding d is = ap (λ e. coordinate_count e * 1) is
-
 plane_dims : (dims : List Dim) (blank : Dim) → length dims ≡ 3 → drop 2 dims ≡ replicate 1 padding
     → dims ≡ get_or dims 0 blank ∷ get_or dims 1 blank ∷ padding ∷ []
 plane_dims [] blank long is = absurd (omega (arith, long))

@@ -1,8 +1,9 @@
 -- Vectors are near.
-use Rattle.std.proofs.Common.{◌≡◌, ℕ, ℤ, Bool, true, false, ◌&&◌, List, [], ◌∷◌, All, refl, sym, subst, arith}
+use Rattle.std.proofs.Common.{◌≡◌, ℕ, ℤ, true, List, [], ◌∷◌, All, refl, sym, subst, arith}
 use Rattle.std.specs.List.{AllByRecursion, list_all}
 use Rattle.std.proofs.lemmas.Int.{ints}
 use Rattle.std.proofs.lemmas.List.Elements.{All-from_recursion}
+use Rattle.std.proofs.lemmas.Bool.{and_parts}
 use Rattle.zpl_region.specs.Dim.{IsUpTo}
 use Rattle.zpl_tree.specs.Syntax.{Dir, NamedDir, Vector}
 use Rattle.array_places.specs.of_zpl_binding.Outcome.{Outcome, Gives, Computed}
@@ -20,14 +21,10 @@ near-part part h =
     let bounds = component part h in
     (omega (arith, ints, bounds.0, bounds.1), omega (arith, ints, bounds.0, bounds.1))
 
-and-true : (a b : Bool) → a && b ≡ true → (a ≡ true) × (b ≡ true)
-and-true true b h = (refl, h)
-and-true false b h = cc
-
 near-parts : (parts : List ℤ) → list_all is_component parts ≡ true → AllByRecursion (IsUpTo 41) parts
 near-parts [] h = tt
 near-parts (part ∷ rest) h =
-    let both = and-true (is_component part) (list_all is_component rest) h in
+    let both = and_parts (is_component part) (list_all is_component rest) h in
     (near-part part both.0, near-parts rest both.1)
 
 pub near-vector : (vector : List ℤ) → IsVector vector → IsNear vector

@@ -3,6 +3,8 @@ use Rattle.std.proofs.Common.{◌≡◌, refl, sym, ◌∙◌, ap, subst, arith,
 use Rattle.std.proofs.Common.{◌&&◌, List, [], ◌∷◌, ◌++◌, ℤ, pos, Option, Some, append-nil}
 use Rattle.std.specs.Prelude.{flat_map, replicate, slice_get}
 use Rattle.std.specs.List.{list_all}
+use Rattle.std.proofs.lemmas.Bool.{and_parts}
+use Rattle.std.proofs.lemmas.List.Folds.{list_all-append}
 use Rattle.zpl_nums.specs.declared.ends.TrapKind.TheVariants.{OutsideStorage}
 use Rattle.zpl_nums.specs.Integer.{IsInteger}
 use Rattle.zpl_region.specs.declared.regions.Region.{Region}
@@ -57,7 +59,7 @@ use Rattle.array_runs.specs.Gates.{IsThere, holds, gate}
 use Rattle.array_runs.specs.Integers.{GivesIntegers}
 use Rattle.array_runs.proofs.IntegerLemmas.{array_integers, written_integers}
 use Rattle.array_runs.proofs.StoredLemmas.{IsFound, index_of_found}
-use Rattle.array_runs.proofs.PartLemmas.{IsPart, operands, store, all_append, both_true}
+use Rattle.array_runs.proofs.PartLemmas.{IsPart, operands, store}
 use Rattle.array_runs.proofs.ElementLemmas.{all_members, element_part, holding_is}
 use Rattle.array_runs.proofs.MaskLemmas.{IsMasking}
 use Rattle.array_runs.proofs.TargetLemmas.{covers_matching, matches_row, flat_member}
@@ -69,7 +71,7 @@ each_read : (f : Read → Bool) (words : Words) → Every (λ one. list_all f (w
     → list_all f (flat_map word_reads words) ≡ true
 each_read f [] h = refl
 each_read f (one ∷ words) h =
-    all_append f (word_reads one) (flat_map word_reads words)
+    list_all-append f (word_reads one) (flat_map word_reads words)
     ∙ ap (λ b. b && list_all f (flat_map word_reads words)) h.0
     ∙ each_read f words h.1
 
@@ -78,7 +80,7 @@ pub all_read : (f : Read → Bool) (exprs : List Words)
     → list_all f (flat_map (λ expr. flat_map word_reads expr) exprs) ≡ true
 all_read f [] h = refl
 all_read f (words ∷ exprs) h =
-    all_append f (flat_map word_reads words) (flat_map (λ expr. flat_map word_reads expr) exprs)
+    list_all-append f (flat_map word_reads words) (flat_map (λ expr. flat_map word_reads expr) exprs)
     ∙ ap (λ b. b && list_all f (flat_map (λ expr. flat_map word_reads expr) exprs))
     (each_read f words h.0)
     ∙ all_read f exprs h.1
@@ -199,12 +201,12 @@ module _ (tables : Tables) (n : ℕ) (spots : List Spot) (w : Where) (line : ℕ
 
   pub all_is : holding all ≡ (meant_own && refers seen term)
   all_is =
-      all_append (holds tables now) own
+      list_all-append (holds tables now) own
       ((referred w.numbers one ++ []) ++ mask_reference w.numbers over.slot mask)
-      ∙ ap (λ b. holding own && b) (all_append (holds tables now) (referred w.numbers one ++ [])
+      ∙ ap (λ b. holding own && b) (list_all-append (holds tables now) (referred w.numbers one ++ [])
       (mask_reference w.numbers over.slot mask)
       ∙ ap (λ b. b && holding (mask_reference w.numbers over.slot mask))
-      (all_append (holds tables now) (referred w.numbers one) []))
+      (list_all-append (holds tables now) (referred w.numbers one) []))
       ∙ ap (λ b. b && ((holding (referred w.numbers one) && true)
       && holding (mask_reference w.numbers over.slot mask))) own_part.gate
       ∙ ap (λ b. is_within seen region target && ((b && true)
@@ -216,17 +218,17 @@ module _ (tables : Tables) (n : ℕ) (spots : List Spot) (w : Where) (line : ℕ
   parts : holding all ≡ true → (holding own ≡ true) × (holding (referred w.numbers one) ≡ true)
       × (holding (mask_reference w.numbers over.slot mask) ≡ true)
   parts e =
-      let first = both_true (holding own)
+      let first = and_parts (holding own)
       (holding ((referred w.numbers one ++ []) ++ mask_reference w.numbers over.slot mask))
-      (sym (all_append (holds tables now) own
+      (sym (list_all-append (holds tables now) own
       ((referred w.numbers one ++ []) ++ mask_reference w.numbers over.slot mask)) ∙ e) in
-      let second = both_true (holding (referred w.numbers one ++ []))
+      let second = and_parts (holding (referred w.numbers one ++ []))
       (holding (mask_reference w.numbers over.slot mask))
-      (sym (all_append (holds tables now) (referred w.numbers one ++ [])
+      (sym (list_all-append (holds tables now) (referred w.numbers one ++ [])
       (mask_reference w.numbers over.slot mask)) ∙ first.1) in (
         first.0,
-        (both_true (holding (referred w.numbers one)) true
-            (sym (all_append (holds tables now) (referred w.numbers one) []) ∙ second.0)).0,
+        (and_parts (holding (referred w.numbers one)) true
+            (sym (list_all-append (holds tables now) (referred w.numbers one) []) ∙ second.0)).0,
         second.1,
       )
 

@@ -5,6 +5,7 @@ use Rattle.std.specs.Prelude.{◌==◌, slice_get, cond}
 use Rattle.std.specs.List.{list_all}
 use Rattle.std.specs.Ordering.{int_eq}
 use Rattle.std.proofs.lemmas.Bool.Decides.{Decides-int_eq, Decides-eqb}
+use Rattle.std.proofs.lemmas.Bool.{and_parts}
 use Rattle.zpl_nums.specs.declared.ends.End.TheVariants.{Trap}
 use Rattle.zpl_nums.specs.declared.ends.TrapKind.TheVariants.{OutsideStorage}
 use Rattle.zpl_region.specs.declared.regions.Region.{Region}
@@ -28,23 +29,19 @@ use Rattle.array_runs.specs.Gates.{IsThere, lies, holds, gate}
 
 -- ---- each different reference once
 
-both_true : (a b : Bool) → (a && b) ≡ true → (a ≡ true) × (b ≡ true)
-both_true true b e = (refl, e)
-both_true false b e = absurd (let bad : false ≡ true = e in cc)
-
 same_vector : (v w : List ℤ) → is_same_vector v w ≡ true → v ≡ w
 same_vector [] [] e = refl
 same_vector [] (d ∷ w) e = absurd (let bad : false ≡ true = e in cc)
 same_vector (d ∷ v) [] e = absurd (let bad : false ≡ true = e in cc)
 same_vector (d ∷ v) (f ∷ w) e =
-    let parts = both_true (int_eq d f) (is_same_vector v w) e in
+    let parts = and_parts (int_eq d f) (is_same_vector v w) e in
     ap (λ x. x ∷ v) ((Decides-int_eq d f).0 parts.0) ∙ ap (λ x. f ∷ x) (same_vector v w parts.1)
 
 same_reference : (x y : Reference) → is_same x y ≡ true → x ≡ y
 same_reference x y e =
-    let outer = both_true ((x.slot == y.slot) && (x.array == y.array))
+    let outer = and_parts ((x.slot == y.slot) && (x.array == y.array))
     (is_same_vector x.shift y.shift) e in
-    let inner = both_true (x.slot == y.slot) (x.array == y.array) outer.0 in
+    let inner = and_parts (x.slot == y.slot) (x.array == y.array) outer.0 in
     ap (λ (k : ℕ). record x { slot = k }) ((Decides-eqb x.slot y.slot).0 inner.0)
     ∙ ap (λ (k : ℕ). record x { slot = y.slot; array = k }) ((Decides-eqb x.array y.array).0 inner.1)
     ∙ ap (λ (v : List ℤ). record y { shift = v }) (same_vector x.shift y.shift outer.1)

@@ -1,8 +1,10 @@
 -- Expressions without operators over regions: what their code reads, and what it gives at a tuple.
-use Rattle.std.proofs.Common.{◌≡◌, refl, sym, ◌∙◌, ap, subst, arith, ℕ, zero, suc, ◌+◌, ◌<◌, Bool, true, false}
-use Rattle.std.proofs.Common.{◌&&◌, List, [], ◌∷◌, ◌++◌, length, ℤ, pos, Option, Some, None, inl, inr}
+use Rattle.std.proofs.Common.{◌≡◌, refl, sym, ◌∙◌, ap, subst, arith, ℕ, zero, suc, ◌+◌, ◌<◌, Bool, true}
+use Rattle.std.proofs.Common.{◌&&◌, List, [], ◌∷◌, ◌++◌, length, ℤ, pos, Option, Some, None}
 use Rattle.std.specs.Prelude.{◌-◌, slice_get, slice_index_or}
 use Rattle.std.specs.List.{AllZip, list_all}
+use Rattle.std.proofs.lemmas.Bool.{and_parts}
+use Rattle.std.proofs.lemmas.List.Folds.{list_all-append}
 use Rattle.zpl_nums.specs.declared.operators.Op.{Op}
 use Rattle.zpl_nums.specs.declared.operators.UnaryOp.{UnaryOp}
 use Rattle.zpl_nums.specs.declared.operators.UnaryOp.TheVariants as unary
@@ -11,7 +13,6 @@ use Rattle.zpl_nums.specs.UnaryOp.{applied_unary}
 use Rattle.zpl_region.specs.declared.regions.Region.{Region}
 use Rattle.zpl_region.specs.Dim.{IsCoordinate}
 use Rattle.zpl_region.specs.Region.{IsMember}
-use Rattle.zpl_region.proofs.ListLemmas.{Among}
 use Rattle.array_puts.specs.of_zpl_meaning.Computed as mean
 use Rattle.array_puts.specs.of_zpl_meaning.Computed.{both_then, computed_then}
 use Rattle.array_puts.specs.of_zpl_meaning.Store.{Store, scalar_at}
@@ -74,28 +75,6 @@ both_still f one other a b h k = record {
       ap (λ c. code.then_do c (does tables n other.code)) (h.still tables n whole)
       ∙ k.still tables n whole;
 }
-
--- ---- tests of lists
-
-pub all_append : {A : Type 0} (f : A → Bool) (xs ys : List A)
-    → list_all f (xs ++ ys) ≡ (list_all f xs && list_all f ys)
-all_append f [] ys = refl
-all_append f (x ∷ xs) ys = by (f x) (all_append f xs ys)
-  where
-    by : (b : Bool) → list_all f (xs ++ ys) ≡ (list_all f xs && list_all f ys)
-        → (b && list_all f (xs ++ ys)) ≡ ((b && list_all f xs) && list_all f ys)
-    by true e = e
-    by false e = refl
-
-pub both_true : (a b : Bool) → (a && b) ≡ true → (a ≡ true) × (b ≡ true)
-both_true true b e = (refl, e)
-both_true false b e = absurd (let bad : false ≡ true = e in cc)
-
-all_among : {A : Type 0} (f : A → Bool) (xs : List A) → ((x : A) → Among xs x → f x ≡ true)
-    → list_all f xs ≡ true
-all_among f [] h = refl
-all_among f (x ∷ xs) h =
-    ap (λ b. b && list_all f xs) (h x (inl refl)) ∙ all_among f xs (λ y k. h y (inr k))
 
 -- ---- under a region, in a state
 
@@ -226,8 +205,8 @@ module _ (tables : Tables) (spots : List Spot) (w : Where) (line : ℕ) (now : W
   binary_part op one other a b left right h k =
       let parts : holding (referred w.numbers (slate.Binary op one other)) ≡ true
       → (holding (referred w.numbers one) ≡ true) × (holding (referred w.numbers other) ≡ true) =
-      λ e. both_true (holding (referred w.numbers one)) (holding (referred w.numbers other))
-      (sym (all_append (holds tables now) (referred w.numbers one) (referred w.numbers other)) ∙ e) in
+      λ e. and_parts (holding (referred w.numbers one)) (holding (referred w.numbers other))
+      (sym (list_all-append (holds tables now) (referred w.numbers one) (referred w.numbers other)) ∙ e) in
       record {
         conforming_is = ap (λ rows. rows ++ conforming line other) h.conforming_is
             ∙ k.conforming_is;
@@ -239,7 +218,7 @@ module _ (tables : Tables) (spots : List Spot) (w : Where) (line : ℕ) (now : W
             (k.hoists (hoist.behind free (hoisted w.numbers line free one)));
         there = every_append (IsThere tables now) (referred w.numbers one)
             (referred w.numbers other) h.there k.there;
-        gate = all_append (holds tables now) (referred w.numbers one) (referred w.numbers other)
+        gate = list_all-append (holds tables now) (referred w.numbers one) (referred w.numbers other)
             ∙ ap (λ c. c && holding (referred w.numbers other)) h.gate
             ∙ ap (λ c. refers store a && c) k.gate;
         field = λ t. both_then (h.field t) (k.field t) (λ x y. mean.given (applied op x y));

@@ -1,13 +1,14 @@
 -- The arrays of the store are those of the state, with their storages; and what is read of one under
 -- a region.
 use Rattle.std.proofs.Common.{◌≡◌, refl, sym, ◌∙◌, ap, subst, arith, ℕ, zero, suc, Bool, true, false}
-use Rattle.std.proofs.Common.{◌&&◌, List, [], ◌∷◌, length, map, ℤ, pos, ◌+ℤ◌, All, Some}
+use Rattle.std.proofs.Common.{List, [], ◌∷◌, length, map, ℤ, pos, ◌+ℤ◌, All, Some}
 use Rattle.std.specs.Prelude.{not, slice_get, slice_index_or}
 use Rattle.std.specs.List.{AllZip}
 use Rattle.std.specs.Ordering.{int_eq}
 use Rattle.std.proofs.lemmas.Int.{ints}
 use Rattle.std.proofs.lemmas.List.Elements.{All-cons, All-nil}
 use Rattle.std.proofs.lemmas.Bool.Decides.{Decides-int_eq}
+use Rattle.std.proofs.lemmas.Bool.{and_parts}
 use Rattle.zpl_region.specs.declared.dims.Dim.{Dim}
 use Rattle.zpl_region.specs.declared.regions.Region.{Region}
 use Rattle.zpl_region.specs.Dim.{HasStep}
@@ -171,10 +172,6 @@ false_zero d e = (Decides-int_eq d (pos 0)).0 (twice (int_eq d (pos 0)) e)
     twice true e = refl
     twice false e = e
 
-and_true : (a b : Bool) → (a && b) ≡ true → (a ≡ true) × (b ≡ true)
-and_true true b e = (refl, e)
-and_true false b e = absurd (let bad : false ≡ true = e in cc)
-
 add_none : (x : ℤ) → x +ℤ pos 0 ≡ x
 add_none x = omega (arith, ints)
 
@@ -182,7 +179,7 @@ pub zeros_move : (shift t : List ℤ) → is_unmoved shift ≡ true → moved_by
 zeros_move [] t e = refl
 zeros_move (d ∷ shift) [] e = refl
 zeros_move (d ∷ shift) (x ∷ t) e =
-    let both = and_true (not (not (int_eq d (pos 0)))) (is_unmoved shift) e in
+    let both = and_parts (not (not (int_eq d (pos 0)))) (is_unmoved shift) e in
     ap (λ (y : ℤ). (x +ℤ y) ∷ moved_by shift t) (false_zero d both.0)
     ∙ ap (λ (y : ℤ). y ∷ moved_by shift t) (add_none x)
     ∙ ap (λ u. x ∷ u) (zeros_move shift t both.1)

@@ -16,7 +16,7 @@ use Rattle.zpl_arrays.specs.Scan.{is_up_along, scanned, scanned_along}
 use Rattle.zpl_binding.specs.Vectors.{three_components}
 use Rattle.zpl_meaning.specs.Computed.{Computed, Gives, Traps, both_then, computed_then, provided}
 use Rattle.zpl_meaning.specs.Context.{Over}
-use Rattle.zpl_meaning.specs.Fields.{coordinate_of, has_target, is_kept_in, target_of}
+use Rattle.zpl_meaning.specs.Fields.{has_target, is_kept_in, target_of}
 use Rattle.zpl_meaning.specs.Store.{Store, array_at}
 use Rattle.zpl_meaning.specs.Term.{Term, Terms, Folded, Remapped, Scanned}
 use Rattle.array_totals.specs.Total.{Total, array_of_total, arrays_of_totals, computed_map, divides_by_zero, kept_values, scan_total, sure, total_of, totals_of, values_if}
@@ -47,13 +47,6 @@ no_place a (d ∷ dims) is h = ap (λ (ds : List Dim). has_place (record { rank 
 
 pub nothing_nowhere : (a : Array) → length a.storage.dims ≡ 3 → element a [] ≡ pos 0
 nothing_nowhere a h = ap (λ b. if b then get_or a.values (place_among a.storage.dims []) (pos 0) else pos 0) (no_place a a.storage.dims refl h)
-
-pub coordinate_nowhere : (k : ℕ) → coordinate_of k [] ≡ pos 0
-coordinate_nowhere k = by (k - 1)
-  where
-    by : (n : ℕ) → get_or [] n (pos 0) ≡ pos 0
-    by zero = refl
-    by (suc n) = refl
 
 -- ---- folds
 

@@ -1,17 +1,15 @@
 -- Lemmas on values that stand by themselves.
 use Rattle.std.proofs.Common.{◌≡◌, ℕ, Bool, true, false, ◌&&◌, ◌||◌, All, List, [], ◌∷◌, ◌++◌, map, length, ℤ, pos, refl, sym, ◌∙◌, ap, subst}
-use Rattle.zpl_nums.specs.declared.operators.Op.{Op}
-use Rattle.zpl_nums.specs.declared.operators.UnaryOp.{UnaryOp}
 use Rattle.zpl_nums.specs.declared.folds.Fold.{Fold}
 use Rattle.zpl_region.specs.declared.regions.Region.{Region}
 use Rattle.zpl_region.specs.Dim.{HasStep}
 use Rattle.zpl_region.specs.Region.{members}
 use Rattle.zpl_arrays.specs.Array.{Array, element}
 use Rattle.zpl_arrays.specs.Fold.{reduced}
-use Rattle.zpl_meaning.specs.Computed.{Computed, Gives, Traps, both_then, computed_then}
+use Rattle.zpl_meaning.specs.Computed.{Computed, Gives, Traps}
 use Rattle.zpl_meaning.specs.Store.{Store}
-use Rattle.zpl_meaning.specs.Term.{Term, Unary, Binary}
-use Rattle.array_totals.specs.Total.{Total, computed_map, pair_total, sure, total_of, unary_total}
+use Rattle.zpl_meaning.specs.Term.{Term}
+use Rattle.array_totals.specs.Total.{Total, computed_map, sure, total_of}
 use Rattle.value_rows.specs.Row.{folded_row}
 use Rattle.value_rows.proofs.FoldLemmas.{reduction_is}
 use Rattle.array_stops.specs.declared.stops.Stop.{Stop}
@@ -19,7 +17,7 @@ use Rattle.array_stops.specs.declared.stops.Stop.TheVariants.{Trap, NoMemory}
 use Rattle.array_stops.specs.Answer.{Stops}
 use Rattle.array_values.proofs.TermLemmas.{IsOperand, array_seen, over_array, over_gives}
 use Rattle.array_scalars.specs.declared.scalars.Scalar.{Scalar}
-use Rattle.array_scalars.specs.Scalar.{pair_scalar, scalar_in, scalar_of, scalar_with, unary_scalar}
+use Rattle.array_scalars.specs.Scalar.{scalar_in, scalar_of, scalar_with}
 
 -- the total of which it is the value
 pub record IsScalar (store : Store) (term : Term) (scalar : Scalar) : Type 0 where
@@ -36,48 +34,6 @@ scalar_told store term scalar e = by (total_of store term) refl e
     by : (c : Computed Total) → total_of store term ≡ c → computed_map scalar_of c ≡ Gives scalar → IsScalar store term scalar
     by (Gives total) is h = record { total = total; is = is; value = same_scalar (scalar_of total) scalar h }
     by (Traps kind) is h = absurd (cc)
-
-pub unary_is : (op : UnaryOp) (store : Store) (operand : Term) (scalar : Scalar) → scalar_in store operand ≡ Gives scalar → scalar_in store (Unary op operand) ≡ Gives (unary_scalar op scalar)
-unary_is op store operand scalar e =
-    let w = scalar_told store operand scalar e in
-    ap (λ c. computed_map scalar_of (computed_then c (λ t. Gives (unary_total op t)))) w.is
-    ∙ ap (λ s. Gives (unary_scalar op s)) w.value
-
-pub unary_stops : (stop : Stop) (op : UnaryOp) (store : Store) (operand : Term) → Stops stop (scalar_in store operand) → Stops stop (scalar_in store (Unary op operand))
-unary_stops NoMemory op store operand h = tt
-unary_stops (Trap kind) op store operand h = by (total_of store operand) h
-  where
-    by : (c : Computed Total) → computed_map scalar_of c ≡ Traps kind → computed_map scalar_of (computed_then c (λ t. Gives (unary_total op t))) ≡ Traps kind
-    by (Gives total) e = absurd (cc)
-    by (Traps k) e = let same : k ≡ kind = cc in ap Traps same
-
-pub pair_is : (op : Op) (store : Store) (left right : Term) (one other : Scalar) → scalar_in store left ≡ Gives one → scalar_in store right ≡ Gives other
-    → scalar_in store (Binary op left right) ≡ Gives (pair_scalar op one other)
-pair_is op store left right one other e f =
-    let v = scalar_told store left one e in
-    let w = scalar_told store right other f in
-    ap (λ c. computed_map scalar_of (both_then c (total_of store right) (λ a b. Gives (pair_total op a b)))) v.is
-    ∙ (ap (λ c. computed_map scalar_of (both_then (Gives v.total) c (λ a b. Gives (pair_total op a b)))) w.is
-    ∙ (ap (λ s. Gives (pair_scalar op s (scalar_of w.total))) v.value ∙ ap (λ s. Gives (pair_scalar op one s)) w.value))
-
-pub left_stops : (stop : Stop) (op : Op) (store : Store) (left right : Term) → Stops stop (scalar_in store left) → Stops stop (scalar_in store (Binary op left right))
-left_stops NoMemory op store left right h = tt
-left_stops (Trap kind) op store left right h = by (total_of store left) h
-  where
-    by : (c : Computed Total) → computed_map scalar_of c ≡ Traps kind → computed_map scalar_of (both_then c (total_of store right) (λ a b. Gives (pair_total op a b))) ≡ Traps kind
-    by (Gives total) e = absurd (cc)
-    by (Traps k) e = let same : k ≡ kind = cc in ap Traps same
-
-pub right_stops : (stop : Stop) (op : Op) (store : Store) (left right : Term) (one : Scalar) → scalar_in store left ≡ Gives one → Stops stop (scalar_in store right)
-    → Stops stop (scalar_in store (Binary op left right))
-right_stops NoMemory op store left right one e h = tt
-right_stops (Trap kind) op store left right one e h =
-    let v = scalar_told store left one e in
-    ap (λ c. computed_map scalar_of (both_then c (total_of store right) (λ a b. Gives (pair_total op a b)))) v.is ∙ by v.total (total_of store right) h
-  where
-    by : (t : Total) (c : Computed Total) → computed_map scalar_of c ≡ Traps kind → computed_map scalar_of (both_then (Gives t) c (λ a b. Gives (pair_total op a b))) ≡ Traps kind
-    by t (Gives total) i = absurd (cc)
-    by t (Traps k) i = let same : k ≡ kind = cc in ap Traps same
 
 -- ---- reductions
 

@@ -43,11 +43,6 @@ pub returned_err : (fault : MeanFault) (outcome : Outcome) (earlier store left :
 returned_err fault outcome earlier store left before after old new runs =
     record { ran = runs.ran; counts = runs.counts; stops = runs.stops }
 
-pub call_none : (setup : Setup) (n depth : ℕ) (called : Called) (store : Store) → depth ≡ 0 →
-    call_at setup n depth called store ≡ goes_on store
-call_none setup n depth called store none =
-    ap (λ d. call_at setup n d called store) none
-
 pub call_nothing : (setup : Setup) (n depth : ℕ) (called : Called) (store : Store) →
     routine_named setup.program called.name ≡ None →
     call_at setup n depth called store ≡ goes_on store

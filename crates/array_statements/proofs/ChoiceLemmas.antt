@@ -1,44 +1,26 @@
 -- Prefixes, tests and arms, one after the other.
-use Rattle.std.proofs.Common.{◌≡◌, ◌<◌, ◌+◌, ℕ, zero, suc, Bool, ℤ, List, [], ◌∷◌, length, map, drop, get_or, refl, sym, ◌∙◌, ap, subst, arith}
-use Rattle.zpl_nums.specs.Integer.{is_true}
-use Rattle.zpl_nums.specs.declared.ends.TrapKind.{TrapKind}
+use Rattle.std.proofs.Common.{◌≡◌, ◌<◌, ◌+◌, ℕ, zero, suc, List, [], ◌∷◌, length, map, drop, get_or, refl, sym, ◌∙◌, ap, subst, arith}
+use Rattle.std.proofs.lemmas.List.{drop_more}
 use Rattle.zpl_nums.specs.declared.ends.End.{End}
-use Rattle.zpl_nums.specs.declared.ends.End.TheVariants as end
 use Rattle.zpl_tree.specs.Syntax.{Expr, Prefix, Stmts, Arms, ThenArm, Tested}
-use Rattle.zpl_tree.specs.View.{arms_of, expr_of, inner_of, prefix_of, stmts_of}
+use Rattle.zpl_tree.specs.View.{arms_of, expr_of, prefix_of, stmts_of}
 use Rattle.zpl_tree.specs.declared.statements.Prefix.{Prefix as CodePrefix}
 use Rattle.zpl_tree.specs.declared.statements.Arm.{Arm as CodeArm, out-Arm}
 use Rattle.zpl_tree.proofs.Views.{arm_of-parts}
-use Rattle.zpl_meaning.specs.Computed.{Gives, Traps}
+use Rattle.zpl_meaning.specs.Computed.{Gives}
 use Rattle.zpl_meaning.specs.Store.{Store}
 use Rattle.zpl_meaning.specs.Context.{Over, Place}
 use Rattle.zpl_meaning.specs.Regions.{over_in, under_prefix}
 use Rattle.zpl_meaning.specs.Calls.{Called}
-use Rattle.zpl_meaning.specs.Outcome.{Outcome, ends, with_value, choose, Test, tested}
+use Rattle.zpl_meaning.specs.Outcome.{Outcome, ends, with_value, Test, tested}
 use Rattle.zpl_meaning.specs.Statement.{Context, line_of, under, test_of, arms_at, exec_all, exec_arms}
 use Rattle.zpl_meaning.specs.Visited.{IsUnder}
-use Rattle.array_steps.specs.of_array_regions.Fit.{IsFitInner}
 use Rattle.array_statements.specs.Arms.{offset_or}
 use Rattle.array_statements.specs.Choices.{context_at, Leads}
 use Rattle.array_statements.specs.declared.choices.Truth.TheVariants as truth
 use Rattle.array_statements.specs.Fit.{AreFitPrefixes, AreFitTests}
 use Rattle.array_statements.specs.Runs.{IsAs}
-use Rattle.array_statements.proofs.RunLemmas.{as_both, as_self}
-
-pub drop_next : {X : Type 0} (xs : List X) (k : ℕ) (d : X) → k < length xs →
-    drop k xs ≡ get_or xs k d ∷ drop (k + 1) xs
-drop_next [] k d less = absurd (omega (arith, less))
-drop_next (x ∷ xs) zero d less = refl
-drop_next (x ∷ xs) (suc k) d less =
-    let later : suc (k + 1) ≡ suc k + 1 = omega arith in
-    subst (λ n. drop k xs ≡ get_or xs k d ∷ drop n (x ∷ xs)) later
-    (drop_next xs k d (omega (arith, less)))
-
-pub any_default : {X : Type 0} (xs : List X) (k : ℕ) (d e : X) → k < length xs →
-    get_or xs k d ≡ get_or xs k e
-any_default [] k d e less = absurd (omega (arith, less))
-any_default (x ∷ xs) zero d e less = refl
-any_default (x ∷ xs) (suc k) d e less = any_default xs k d e (omega (arith, less))
+use Rattle.array_statements.proofs.RunLemmas.{as_both}
 
 pub drop_end : {X : Type 0} (xs : List X) (k : ℕ) → (k < length xs → ⊥) → drop k xs ≡ []
 drop_end [] zero past = refl
@@ -57,15 +39,6 @@ pub record Along (prefixes rest : List Prefix) (place here : Place) (store : Sto
   pub setup : here.setup ≡ place.setup
   pub fit : AreFitPrefixes rest
 
-pub along_begin : (prefixes : List Prefix) (place : Place) (store : Store) →
-    AreFitPrefixes prefixes → Along prefixes prefixes place place store
-along_begin prefixes place store fit = record {
-  reaches = λ call next. refl;
-  under = λ last is. is;
-  setup = refl;
-  fit = fit;
-}
-
 pub along_next : (prefixes rest : List Prefix) (prefix : Prefix) (place here : Place) (store : Store)
     (over : Over) → over_in here store prefix ≡ Gives over →
     Along prefixes (prefix ∷ rest) place here store →
@@ -80,26 +53,11 @@ along_next prefixes rest prefix place here store over gives along = record {
   fit = along.fit.1;
 }
 
-pub along_trap : (prefixes rest : List Prefix) (prefix : Prefix) (place here : Place) (store : Store)
-    (kind : TrapKind) → over_in here store prefix ≡ Traps kind →
-    Along prefixes (prefix ∷ rest) place here store →
-    (call : Called → Store → Outcome) (next : Context → Outcome) →
-    under (context_at place call) prefixes store next ≡
-    ends store (end.Trap kind (line_of place prefix.at))
-along_trap prefixes rest prefix place here store kind traps along call next =
-    along.reaches call next
-    ∙ ap
-    (λ computed. with_value computed store (line_of here prefix.at) (λ over.
-    under (context_at (under_prefix here prefix over) call) rest store next)) traps
-    ∙ ap
-    (λ setup. ends store (end.Trap kind (line_of (record place { setup = setup }) prefix.at)))
-    along.setup
-
 -- the same by numbers, as slices have them
 module _ (all : List CodePrefix) (k : ℕ) (d : CodePrefix) (less : k < length all) where
   prefixes_next : map prefix_of (drop k all) ≡
       prefix_of (get_or all k d) ∷ map prefix_of (drop (k + 1) all)
-  prefixes_next = ap (map prefix_of) (drop_next all k d less)
+  prefixes_next = ap (map prefix_of) (drop_more all k d less)
 
   along_here : (place here : Place) (store : Store) →
       Along (map prefix_of all) (map prefix_of (drop k all)) place here store →
@@ -107,11 +65,6 @@ module _ (all : List CodePrefix) (k : ℕ) (d : CodePrefix) (less : k < length a
       place here store
   along_here place here store along =
       subst (λ rest. Along (map prefix_of all) rest place here store) prefixes_next along
-
-  pub along_fit : (place here : Place) (store : Store) →
-      Along (map prefix_of all) (map prefix_of (drop k all)) place here store →
-      IsFitInner (inner_of (get_or all k d).region)
-  along_fit place here store along = (along_here place here store along).fit.0
 
   pub along_step : (place here after : Place) (store : Store) (over : Over) →
       over_in here store (prefix_of (get_or all k d)) ≡ Gives over →
@@ -123,16 +76,6 @@ module _ (all : List CodePrefix) (k : ℕ) (d : CodePrefix) (less : k < length a
       (along_next (map prefix_of all) (map prefix_of (drop (k + 1) all)) (prefix_of (get_or all k d))
       place here store over gives (along_here place here store along))
 
-  pub along_cut : (place here : Place) (store : Store) (kind : TrapKind) →
-      over_in here store (prefix_of (get_or all k d)) ≡ Traps kind →
-      Along (map prefix_of all) (map prefix_of (drop k all)) place here store →
-      (call : Called → Store → Outcome) (next : Context → Outcome) →
-      under (context_at place call) (map prefix_of all) store next ≡
-      ends store (end.Trap kind (line_of place (get_or all k d).at))
-  along_cut place here store kind traps along =
-      along_trap (map prefix_of all) (map prefix_of (drop (k + 1) all)) (prefix_of (get_or all k d))
-      place here store kind traps (along_here place here store along)
-
 pub along_end : (all : List CodePrefix) (k : ℕ) (place here : Place) (store : Store) →
     (k < length all → ⊥) →
     Along (map prefix_of all) (map prefix_of (drop k all)) place here store →
@@ -140,40 +83,6 @@ pub along_end : (all : List CodePrefix) (k : ℕ) (place here : Place) (store : 
 along_end all k place here store past along =
     subst (λ rest. Along (map prefix_of all) (map prefix_of rest) place here store)
     (drop_end all k past) along
-
--- ---- tests
-
-pub tested_gives : (test : Test) (store : Store) (value : ℤ) (is : Bool) →
-    test.value store ≡ Gives value → is_true value ≡ is → (one other : Store → Outcome) →
-    IsAs (tested test one other store) (choose is one other store)
-tested_gives test store value is gives says one other =
-    let same : with_value (test.value store) store test.line
-    (λ value. choose (is_true value) one other store) ≡ choose is one other store =
-    ap
-    (λ computed. with_value computed store test.line
-    (λ value. choose (is_true value) one other store)) gives
-    ∙ ap (λ b. choose b one other store) says in
-    record {
-      ending = ap (λ o. o.ending) same;
-      store = ap (λ o. o.store) same;
-      bytes = ap (λ o. o.bytes) same;
-    }
-
-pub tested_traps : (test : Test) (store : Store) (kind : TrapKind) →
-    test.value store ≡ Traps kind → (one other : Store → Outcome) →
-    IsAs (tested test one other store) (ends store (end.Trap kind test.line))
-tested_traps test store kind traps one other =
-    let same : with_value (test.value store) store test.line
-    (λ value. choose (is_true value) one other store) ≡
-    ends store (end.Trap kind test.line) =
-    ap
-    (λ computed. with_value computed store test.line
-    (λ value. choose (is_true value) one other store)) traps in
-    record {
-      ending = ap (λ o. o.ending) same;
-      store = ap (λ o. o.store) same;
-      bytes = ap (λ o. o.bytes) same;
-    }
 
 -- ---- arms
 
@@ -191,13 +100,6 @@ pub record Left (place : Place) (store : Store) (at : ℕ) (arms : List CodeArm)
         (arms_of (drop k arms)) last store)
     pub fit : AreFitTests (arms_of (drop k arms))
 
-pub left_begin : (place : Place) (store : Store) (at : ℕ) (arms : List CodeArm) →
-    AreFitTests (arms_of arms) → Left place store at arms 0
-left_begin place store at arms fit = record {
-  comes = λ call n last. as_self (exec_arms (context_at place call) n at (arms_of arms) last store);
-  fit = fit;
-}
-
 -- an arm in front of the rest
 module _ (arms : List CodeArm) (k : ℕ) (d : CodeArm) (less : k < length arms) where
   abbrev the : CodeArm
@@ -211,7 +113,7 @@ module _ (arms : List CodeArm) (k : ℕ) (d : CodeArm) (less : k < length arms) 
 
   pub arms_next : arms_of (drop k arms) ≡
       ThenArm (Tested (out-Arm the).at text body) (arms_of (drop (k + 1) arms))
-  arms_next = ap arms_of (drop_next arms k d less)
+  arms_next = ap arms_of (drop_more arms k d less)
       ∙ ap (λ arm. ThenArm arm (arms_of (drop (k + 1) arms))) (arm_of-parts the)
 
   offset_next : (at : ℕ) → (m : ℕ) → m ≡ k →
@@ -284,13 +186,3 @@ module _ (arms : List CodeArm) (k : ℕ) (d : CodeArm) (less : k < length arms) 
       (leads (exec_all (context_at place call) n body)
       (exec_arms (context_at place call) n (arms_at (arms_of (drop (k + 1) arms)))
       (arms_of (drop (k + 1) arms)) last))
-
-pub left_last : (place : Place) (store : Store) (at : ℕ) (arms : List CodeArm) (k : ℕ) →
-    (k < length arms → ⊥) → Left place store at arms k →
-    (call : Called → Store → Outcome) (n : ℕ) (last : Store → Outcome) →
-    IsAs (exec_arms (context_at place call) n at (arms_of arms) last store) (last store)
-left_last place store at arms k past left call n last =
-    subst
-    (λ rest. IsAs (exec_arms (context_at place call) n at (arms_of arms) last store)
-    (exec_arms (context_at place call) n (offset_at k at (arms_of rest)) (arms_of rest) last store))
-    (drop_end arms k past) (left.comes call n last)

@@ -14,7 +14,7 @@ use Rattle.zpl_meaning.specs.Context.{Place, Setup, reach_of}
 use Rattle.zpl_meaning.specs.Calls.{Called}
 use Rattle.zpl_meaning.specs.Outcome.{Outcome, ends, then_do}
 use Rattle.zpl_meaning.specs.Statement.{Context, under, step_expr, exec, exec_all, exec_form}
-use Rattle.zpl_meaning.specs.Visited.{IsVisited, IsUnder, list_of, arms_parts, else_parts}
+use Rattle.zpl_meaning.specs.Visited.{IsVisited, list_of, arms_parts, else_parts}
 use Rattle.std.proofs.lemmas.List.Elements.{Contains-append_left, Contains-append_right}
 use Rattle.meaning_ranks.specs.Ranked.{IsRankedStmt, IsRankedForm, IsRankedTested, IsPointFormOf}
 use Rattle.array_points.specs.Elementwise.{IsElementwiseForm}
@@ -31,21 +31,14 @@ use Rattle.array_statements.specs.Running.{IsHere, AreVisited}
 use Rattle.array_statements.specs.Runs.{Faults, IsAs, Runs}
 use Rattle.array_statements.proofs.FitLemmas.{elementwise_form, fit_expr, fit_items, fit_prefixes, fit_tests, ranked_under}
 use Rattle.array_statements.proofs.RunLemmas.{Goes, Told, as_equal, goes_as, left_as, left_so, quiet, runs_as, wanting}
-use Rattle.array_statements.proofs.StatementLemmas.{all_next, exec_inner, exec_stopped}
-use Rattle.array_statements.proofs.VisitLemmas.{arm_part, visited_all, visited_at, visited_part}
+use Rattle.array_statements.proofs.StatementLemmas.{all_next, exec_inner}
+use Rattle.array_statements.proofs.VisitLemmas.{arm_part, visited_all, visited_part}
 
 abbrev pub AllRanked : Setup → Type 0
 AllRanked setup = (place : Place) (stmt : Stmt) → IsVisited setup place stmt →
     IsRankedStmt place stmt
 
 -- ---- what is asked
-
-pub here_is : (setup other : Setup) (place inner : Place) (at : ℕ) (prefixes : List Prefix)
-    (form : Form) → other ≡ setup → IsVisited setup place (Prefixed at prefixes form) →
-    IsUnder prefixes place inner → IsHere other inner form
-here_is setup other place inner at prefixes form same visited under =
-    subst (λ s. IsHere s inner form) (sym same)
-    (record { place = place; at = at; prefixes = prefixes; visited = visited; under = under })
 
 pub prefixes_fit : (setup : Setup) (place : Place) (at : ℕ) (prefixes : List Prefix) (form : Form) →
     AllRanked setup → IsVisited setup place (Prefixed at prefixes form) → AreFitPrefixes prefixes
@@ -187,19 +180,6 @@ exec_runs result place inner call other n at prefixes form store left before aft
     (λ c. Runs result (exec_form (context_at inner c) n at form store) left before after old new)
     same runs)
 
-pub exec_ends : (place : Place) (call : Called → Store → Outcome) (n at : ℕ)
-    (prefixes : List Prefix) (form : Form) (store : Store) (ending : End) (told : Told)
-    (count : Faults) →
-    ((call : Called → Store → Outcome) (next : Context → Outcome) →
-    under (context_at place call) prefixes store next ≡ ends store ending) →
-    Runs (Ok ending) (exec (context_at place call) n (Prefixed at prefixes form) store) store told
-    told count count
-exec_ends place call n at prefixes form store ending told count reaches =
-    quiet (Ok ending) _ store told count
-    (left_as (Ok ending) _ (ends store ending) store
-    (exec_stopped place call n at prefixes form store ending (reaches call))
-    (left_so ending store))
-
 pub goes_next : (whole : Outcome) (context : Context) (n : ℕ) (body : List CodeStmt) (k : ℕ)
     (d : CodeStmt) (store : Store) (before now : Told) (old new : Faults) → k < length body →
     Goes whole (exec_all context n (stmts_of (drop k body)) store) before now old new →
@@ -208,27 +188,6 @@ pub goes_next : (whole : Outcome) (context : Context) (n : ℕ) (body : List Cod
     (exec_all context n (stmts_of (drop (k + 1) body)))) before now old new
 goes_next whole context n body k d store before now old new less goes =
     goes_as whole _ _ before now old new (as_equal _ _ (all_next context n body k d store less)) goes
-
--- a statement of a row, and those behind it
-pub all_step : (whole : Outcome) (context : Context) (n : ℕ) (body : List CodeStmt) (k : ℕ)
-    (stmt : CodeStmt) (store : Store) (before now : Told) (old new : Faults) → k < length body →
-    stmt ≡ get_or body k stmt →
-    Goes whole (exec_all context n (stmts_of (drop k body)) store) before now old new →
-    Goes whole
-    (then_do (exec context n (stmt_of stmt) store)
-    (exec_all context n (stmts_of (drop (k + 1) body)))) before now old new
-all_step whole context n body k stmt store before now old new less is goes =
-    subst
-    (λ s. Goes whole
-    (then_do (exec context n (stmt_of s) store)
-    (exec_all context n (stmts_of (drop (k + 1) body)))) before now old new) (sym is)
-    (goes_next whole context n body k stmt store before now old new less goes)
-
-pub visited_item : (setup : Setup) (here : Place) (body : List CodeStmt) (k : ℕ)
-    (stmt : CodeStmt) → k < length body → stmt ≡ get_or body k stmt →
-    AreVisited setup here (stmts_of body) → IsVisited setup here (stmt_of stmt)
-visited_item setup here body k stmt less is all =
-    subst (λ s. IsVisited setup here (stmt_of s)) (sym is) (visited_at setup here body k stmt less all)
 
 -- a form in memory
 pub form_runs : (result : Result End MeanFault) (context : Context) (n at : ℕ) (form plain : Form)

@@ -1,6 +1,6 @@
 -- What ranks that agree say of a statement: its brackets have one to three dimensions, and it is
 -- elementwise where it is shattered.
-use Rattle.std.proofs.Common.{◌≡◌, ℕ, zero, suc, Bool, true, false, List, [], ◌∷◌, Option, Some, None, sym, subst, arith}
+use Rattle.std.proofs.Common.{ℕ, zero, suc, true, false, List, [], ◌∷◌, Option, Some, None, sym, subst, arith}
 use Rattle.zpl_nums.specs.declared.operators.Op.{Op}
 use Rattle.zpl_tree.specs.Syntax.{Name, Expr, Number, Truth, Coord, Named, Shifted, Around, Remap, Call, Paren, Neg, Not, Abs, Pair, Reduce, Scan, Flood, Exprs, NoExpr, ThenExpr, Inner, Rexpr, Dims, NoBracket, Bracketed, Prefix, Item, Str, Value, Stmt, Prefixed, Stmts, NoStmt, ThenStmt, Form, Assign, Invoke, Block, If, While, Repeat, For, Border, Write, Return, Arm, Tested, Arms, NoArm, ThenArm, Otherwise, NoElse, Else}
 use Rattle.std.specs.List.{All}
@@ -17,7 +17,7 @@ use Rattle.zpl_meaning.specs.Points.{assigned_expr}
 use Rattle.zpl_meaning.specs.Regions.{under_prefix, under_source}
 use Rattle.zpl_meaning.specs.Settled.{source_rank}
 use Rattle.zpl_meaning.specs.Visited.{IsUnder, Itself, Behind}
-use Rattle.meaning_ranks.specs.Ranked.{IsRegionOf, IsOfRank, AreOfRank, IsRankedAssign, IsRankedForm, IsRankedUnder, IsRankedTested, HasRankedTests, AreRankedTests, AreRankedItems, IsPointOf, ArePointsOf, IsPointFormOf, ArePointArmsOf, IsPointArmOf, IsPointElseOf, AreShapedActuals}
+use Rattle.meaning_ranks.specs.Ranked.{IsRegionOf, IsOfRank, AreOfRank, IsRankedAssign, IsRankedForm, IsRankedUnder, AreRankedTests, AreRankedItems, IsPointOf, ArePointsOf, IsPointFormOf, ArePointArmsOf, IsPointArmOf, IsPointElseOf, AreShapedActuals}
 use Rattle.array_steps.specs.of_array_regions.Fit.{IsFitCount, IsFitInner}
 use Rattle.array_steps.specs.of_array_settling.Fit.{IsFit, AreFit}
 use Rattle.array_points.specs.Elementwise.{IsElementwise, AreElementwise, IsElementwiseForm, AreElementwiseArms, IsElementwiseArm, IsElementwiseElse}
@@ -147,12 +147,6 @@ fit_items place (Value expr ∷ items) is = (
   fit_expr place (rank_in place Printed expr) expr is.0,
   fit_items place items is.1,
 )
-
--- a statement with tests that isn't shattered
-pub whole_tests : (split : Bool) (place : Place) (form : Form) → split ≡ false →
-    IsRankedTested split place form → HasRankedTests place form
-whole_tests split place form whole is =
-    subst (λ b. IsRankedTested b place form) whole is
 
 -- ---- shattered statements
 

@@ -44,12 +44,6 @@ module _ (test : Test) (body : Store → Outcome) (store : Store) where
 
   -- ---- `repeat`
 
-  pub repeat_more : (left : ℕ) → left ≡ 0 →
-      IsAs (repeat_turns left test body store) (wants_more store)
-  repeat_more left none =
-      subst (λ n. IsAs (repeat_turns n test body store) (wants_more store)) (sym none)
-      (as_self (wants_more store))
-
   pub repeat_turn : (left rest : ℕ) → left ≡ suc rest →
       IsAs (repeat_turns left test body store)
       (then_do (body store) (tested test goes_on (repeat_turns rest test body)))

@@ -279,21 +279,6 @@ done_is end.Done is = refl
 done_is (end.Trap kind line) is = absurd (let no : false ≡ true = is in cc)
 done_is end.More is = absurd (let no : false ≡ true = is in cc)
 
--- the second part goes on with nothing printed
-pub then_goes : (first : Outcome) (next : Store → Outcome) (store left : Store)
-    (before after : Told) (old new : Faults) → next store ≡ ends left end.Done →
-    Runs (Ok end.Done) first store before after old new →
-    Runs (Ok end.Done) (then_do first next) left before after old new
-then_goes first next store left before after old new same runs =
-    goes_end (Ok end.Done) (then_do first next) (next store) left before after after old new new
-    (goes_then (then_do first next) first next store before before after old old new runs
-    (goes_begin (then_do first next) before old))
-    (quiet (Ok end.Done) (next store) left after new (record {
-      ends = ap (λ o. o.ending) same;
-      leaves = ap (λ o. o.store) same;
-      nothing = ap (λ o. o.bytes) same;
-    }))
-
 -- a loop goes on with the rest where its turn does
 pub goes_done : (whole first : Outcome) (next : Store → Outcome) (store : Store) (ending : End)
     (before now later : Told) (old new last : Faults) → is_done ending ≡ true →

@@ -1,31 +1,30 @@
 -- What statements come to.
-use Rattle.std.proofs.Common.{◌≡◌, ◌<◌, ◌+◌, ℕ, true, false, pos, List, [], ◌∷◌, length, map, drop, get_or, Option, Some, None, Ok, Err, refl, sym, ap, subst}
+use Rattle.std.proofs.Common.{◌≡◌, ◌<◌, ◌+◌, ℕ, false, pos, List, [], ◌∷◌, length, map, drop, get_or, Option, Some, None, Ok, Err, refl, sym, ap, subst}
+use Rattle.std.proofs.lemmas.List.{drop_more}
 use Rattle.zpl_nums.specs.declared.operators.Op.{Op}
-use Rattle.zpl_nums.specs.declared.ends.End.{End}
 use Rattle.zpl_nums.specs.declared.ends.Border.{Border as BorderKind}
 use Rattle.zpl_nums.specs.declared.ends.TrapKind.{TrapKind}
 use Rattle.zpl_nums.specs.declared.ends.End.TheVariants as end
-use Rattle.zpl_tree.specs.Syntax.{Name, Expr, Number, Truth, Coord, Named, Shifted, Around, Remap, Call, Paren, Neg, Not, Abs, Pair, Reduce, Scan, Flood, Exprs, ForHead, Prefix, Prefixed, Stmts, Form, Assign, Invoke, Block, If, While, Repeat, For, Border, Write, Return, Arms, Otherwise}
+use Rattle.zpl_tree.specs.Syntax.{Name, Expr, Number, Truth, Coord, Named, Shifted, Around, Remap, Call, Paren, Neg, Not, Abs, Pair, Reduce, Scan, Flood, Exprs, ForHead, Prefix, Prefixed, Stmts, Form, If, While, Repeat, For, Arms, Otherwise}
 use Rattle.zpl_tree.specs.View.{name_of, stmt_of, stmts_of}
 use Rattle.zpl_tree.specs.declared.names.Name.{Name as CodeName}
 use Rattle.zpl_tree.specs.declared.statements.Stmt.{Stmt as CodeStmt}
 use Rattle.zpl_names.specs.Sites.{Assigned, is_shattered}
-use Rattle.zpl_meaning.specs.Computed.{Computed, Gives, Traps}
+use Rattle.zpl_meaning.specs.Computed.{Computed, Traps}
 use Rattle.zpl_meaning.specs.Store.{Store, thing_of, scalar_at, cut_back}
 use Rattle.zpl_meaning.specs.Context.{Place, reach_of}
 use Rattle.zpl_meaning.specs.Calls.{Called, Handed, actuals_in}
 use Rattle.zpl_meaning.specs.Outcome.{Outcome, ends, goes_on, with_value, choose, counting, then_do, while_turns, repeat_turns}
 use Rattle.zpl_meaning.specs.Points.{assigned_expr, shattered}
 use Rattle.zpl_meaning.specs.Variables.{with_new_scalar}
-use Rattle.zpl_meaning.specs.Statement.{Context, Start, line_of, under, nodes_under, test_of, assign, assign_to, assign_call, invoke, with_result, border_thing, borders, more_borders, head_value, for_from, exec, exec_all, exec_form, exec_arms, exec_otherwise}
+use Rattle.zpl_meaning.specs.Statement.{Context, line_of, under, nodes_under, test_of, assign, assign_to, assign_call, invoke, with_result, border_thing, borders, more_borders, head_value, for_from, exec, exec_all, exec_form, exec_arms, exec_otherwise}
 use Rattle.array_statements.specs.Choices.{context_at}
 use Rattle.array_stops.specs.declared.stops.Stop.{Stop}
 use Rattle.array_stops.specs.declared.stops.Stop.TheVariants as stop
 use Rattle.array_steps.specs.Steps.{Does}
 use Rattle.array_statements.specs.Endings.{stopped}
-use Rattle.array_statements.specs.Runs.{HasLeft, IsAs, Leaves}
-use Rattle.array_statements.proofs.ChoiceLemmas.{drop_end, drop_next}
-use Rattle.array_statements.proofs.RunLemmas.{as_both, as_equal, as_self, left_as, left_so}
+use Rattle.array_statements.specs.Runs.{IsAs, Leaves}
+use Rattle.array_statements.proofs.RunLemmas.{as_both, as_equal, left_as, left_so}
 
 as_counted : (steps : ℕ) (outcome other : Outcome) → outcome ≡ other →
     IsAs (counting steps outcome) other
@@ -47,15 +46,6 @@ exec_inner place inner call n at prefixes form store reaches =
     as_counted (1 + nodes_under prefixes form) _ _
     (reaches (λ inner. exec_form inner n at form store))
 
-pub exec_stopped : (place : Place) (call : Called → Store → Outcome) (n at : ℕ)
-    (prefixes : List Prefix) (form : Form) (store : Store) (ending : End) →
-    ((next : Context → Outcome) →
-    under (context_at place call) prefixes store next ≡ ends store ending) →
-    IsAs (exec (context_at place call) n (Prefixed at prefixes form) store) (ends store ending)
-exec_stopped place call n at prefixes form store ending reaches =
-    as_counted (1 + nodes_under prefixes form) _ _
-    (reaches (λ inner. exec_form inner n at form store))
-
 -- ---- one after the other
 
 pub all_next : (context : Context) (n : ℕ) (body : List CodeStmt) (k : ℕ) (d : CodeStmt)
@@ -64,38 +54,9 @@ pub all_next : (context : Context) (n : ℕ) (body : List CodeStmt) (k : ℕ) (d
     then_do (exec context n (stmt_of (get_or body k d)) store)
     (exec_all context n (stmts_of (drop (k + 1) body)))
 all_next context n body k d store less =
-    ap (λ all. exec_all context n (stmts_of all) store) (drop_next body k d less)
-
-pub all_end : (context : Context) (n : ℕ) (body : List CodeStmt) (k : ℕ) (store : Store) →
-    (k < length body → ⊥) → exec_all context n (stmts_of (drop k body)) store ≡ goes_on store
-all_end context n body k store past =
-    ap (λ all. exec_all context n (stmts_of all) store) (drop_end body k past)
+    ap (λ all. exec_all context n (stmts_of all) store) (drop_more body k d less)
 
 -- ---- shattered or not
-
-pub split_as : (context : Context) (n at : ℕ) (form : Form) (store : Store) →
-    is_shattered (reach_of context.place) form ≡ true →
-    exec_form context n at form store ≡
-    shattered context.place (line_of context.place at) n form store
-split_as context n at (If arms otherwise) store is =
-    ap
-    (λ b. choose b (shattered context.place (line_of context.place at) n (If arms otherwise))
-    (exec_arms context n at arms (exec_otherwise context n otherwise)) store) is
-split_as context n at (While test body) store is =
-    ap
-    (λ b. choose b (shattered context.place (line_of context.place at) n (While test body))
-    (while_turns n (test_of context.place test at) (exec_all context n body)) store) is
-split_as context n at (Repeat body until test) store is =
-    ap
-    (λ b. choose b (shattered context.place (line_of context.place at) n (Repeat body until test))
-    (repeat_turns n (test_of context.place test until) (exec_all context n body)) store) is
-split_as context n at (Assign name op value) store is = absurd (let no : false ≡ true = is in cc)
-split_as context n at (Invoke name actuals) store is = absurd (let no : false ≡ true = is in cc)
-split_as context n at (Block body) store is = absurd (let no : false ≡ true = is in cc)
-split_as context n at (For head body) store is = absurd (let no : false ≡ true = is in cc)
-split_as context n at (Border kind names) store is = absurd (let no : false ≡ true = is in cc)
-split_as context n at (Write line items) store is = absurd (let no : false ≡ true = is in cc)
-split_as context n at (Return value) store is = absurd (let no : false ≡ true = is in cc)
 
 pub whole_if : (context : Context) (n at : ℕ) (arms : Arms) (otherwise : Otherwise) (store : Store) →
     is_shattered (reach_of context.place) (If arms otherwise) ≡ false →
@@ -127,25 +88,11 @@ whole_repeat context n at until test body store is =
 
 -- ---- simple statements
 
-pub gives_value : {A : Type 0} (computed : Computed A) (value : A) (store : Store) (line : ℕ)
-    (next : A → Outcome) → computed ≡ Gives value →
-    with_value computed store line next ≡ next value
-gives_value computed value store line next gives =
-    ap (λ c. with_value c store line next) gives
-
 pub traps_value : {A : Type 0} (computed : Computed A) (kind : TrapKind) (store : Store) (line : ℕ)
     (next : A → Outcome) → computed ≡ Traps kind →
     with_value computed store line next ≡ ends store (end.Trap kind line)
 traps_value computed kind store line next traps =
     ap (λ c. with_value c store line next) traps
-
-pub left_equal : (outcome : Outcome) (ending : End) (store : Store) →
-    outcome ≡ ends store ending → HasLeft outcome ending store
-left_equal outcome ending store same = record {
-  ends = ap (λ o. o.ending) same;
-  leaves = ap (λ o. o.store) same;
-  nothing = ap (λ o. o.bytes) same;
-}
 
 -- an assignment of no call
 abbrev pub IsNoCall : Option Op → Expr → Type 0
@@ -187,7 +134,7 @@ pub borders_next : (place : Place) (kind : BorderKind) (names : List CodeName) (
 borders_next place kind names k d line store after less does =
     subst
     (λ all. IsAs (borders place kind (map name_of all) line store)
-    (borders place kind (map name_of (drop (k + 1) names)) line after)) (sym (drop_next names k d less))
+    (borders place kind (map name_of (drop (k + 1) names)) line after)) (sym (drop_more names k d less))
     (as_both _ _ _ (as_equal _ _ (ap (λ o. then_do o (more_borders place kind (map name_of (drop (k + 1) names)) line)) does))
     (more (drop (k + 1) names)))
   where
@@ -207,15 +154,8 @@ pub borders_trap : (place : Place) (kind : BorderKind) (names : List CodeName) (
 borders_trap place kind names k d line store after trap less does =
     subst
     (λ all. IsAs (borders place kind (map name_of all) line store)
-    (ends after (end.Trap trap line))) (sym (drop_next names k d less))
+    (ends after (end.Trap trap line))) (sym (drop_more names k d less))
     (as_equal _ _ (ap (λ o. then_do o (more_borders place kind (map name_of (drop (k + 1) names)) line)) does))
-
-pub borders_end : (place : Place) (kind : BorderKind) (names : List CodeName) (k line : ℕ)
-    (store : Store) → (k < length names → ⊥) →
-    IsAs (borders place kind (map name_of (drop k names)) line store) (goes_on store)
-borders_end place kind names k line store past =
-    subst (λ all. IsAs (borders place kind (map name_of all) line store) (goes_on store))
-    (sym (drop_end names k past)) (as_self (goes_on store))
 
 -- ---- calls
 
@@ -226,14 +166,6 @@ called_with place name handed result = record {
   currents = place.currents;
   result = result;
 }
-
-pub invoke_gives : (context : Context) (name : Name) (actuals : Exprs) (line : ℕ) (store : Store)
-    (handed : List Handed) → actuals_in context.place store name actuals ≡ Gives handed →
-    invoke context name actuals line store ≡
-    context.call (called_with context.place name handed 0) store
-invoke_gives context name actuals line store handed gives =
-    gives_value (actuals_in context.place store name actuals) handed store line
-    (λ handed. context.call (called_with context.place name handed 0) store) gives
 
 pub invoke_traps : (context : Context) (name : Name) (actuals : Exprs) (line : ℕ) (store : Store)
     (kind : TrapKind) → actuals_in context.place store name actuals ≡ Traps kind →
@@ -254,15 +186,6 @@ called_first context name handed store =
     context.call (called_with context.place name handed (length store.scalars))
     (with_new_scalar store (pos 0))
 
-pub assign_call_gives : (context : Context) (target name : Name) (actuals : Exprs) (line : ℕ)
-    (store : Store) (handed : List Handed) →
-    actuals_in context.place store name actuals ≡ Gives handed →
-    assign_call context target name actuals line store ≡
-    then_do (called_first context name handed store) (taken context target store)
-assign_call_gives context target name actuals line store handed gives =
-    gives_value (actuals_in context.place store name actuals) handed store line
-    (λ handed. then_do (called_first context name handed store) (taken context target store)) gives
-
 pub assign_call_traps : (context : Context) (target name : Name) (actuals : Exprs) (line : ℕ)
     (store : Store) (kind : TrapKind) →
     actuals_in context.place store name actuals ≡ Traps kind →
@@ -272,16 +195,6 @@ assign_call_traps context target name actuals line store kind traps =
     (λ handed. then_do (called_first context name handed store) (taken context target store)) traps
 
 -- ---- `for`
-
-pub for_gives : (context : Context) (n at : ℕ) (head : ForHead) (body : Stmts) (store : Store)
-    (start : Start) → head_value context.place store head ≡ Gives start →
-    exec_form context n at (For head body) store ≡
-    for_from n (thing_of context.place.environment head.name.text) start
-    (exec_all context n body) store
-for_gives context n at head body store start gives =
-    gives_value (head_value context.place store head) start store (line_of context.place at)
-    (λ start. for_from n (thing_of context.place.environment head.name.text) start
-    (exec_all context n body) store) gives
 
 pub for_traps : (context : Context) (n at : ℕ) (head : ForHead) (body : Stmts) (store : Store)
     (kind : TrapKind) → head_value context.place store head ≡ Traps kind →

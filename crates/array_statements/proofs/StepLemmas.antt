@@ -107,14 +107,6 @@ module _ (context : Context) (n : ℕ) (body : List CodeStmt) (k : ℕ) (d : Cod
         (exec_all context n (stmts_of (drop (k + 1) body))) left fault before now later old new last
         runs (goes_next whole context n body k d store before now old new less goes)
 
-    pub all_ended : (ending : End) → is_done ending ≡ false →
-        Runs (Ok ending) (exec context n (stmt_of (get_or body k d)) store) left now later new last →
-        Runs (Ok ending) whole left before later old last
-    all_ended ending done runs =
-        goes_ended whole (exec context n (stmt_of (get_or body k d)) store)
-        (exec_all context n (stmts_of (drop (k + 1) body))) left ending before now later old new last
-        done runs (goes_next whole context n body k d store before now old new less goes)
-
 -- ---- `while`
 
 module _ (test : Test) (body : Store → Outcome) (whole : Outcome) (store : Store) (left : ℕ)

@@ -1,8 +1,9 @@
 -- The text of items by the values of those that are expressions.
-use Rattle.std.proofs.Common.{◌≡◌, ℕ, zero, suc, ◌+◌, ◌<◌, length, drop, drop-cons, get_or, All, Bool, true, false, ◌||◌, ℤ, List, [], ◌∷◌, ◌++◌, map, Option, Some, None, if◌then◌else◌, refl, sym, ◌∙◌, ap, subst, append_assoc, append-nil, arith}
+use Rattle.std.proofs.Common.{◌≡◌, ℕ, zero, suc, ◌+◌, ◌<◌, length, drop, get_or, All, Bool, true, false, ◌||◌, ℤ, List, [], ◌∷◌, ◌++◌, map, Option, Some, None, if◌then◌else◌, refl, sym, ◌∙◌, ap, subst, append_assoc, append-nil}
 use Rattle.std.specs.List.{AllByRecursion, list_any}
 use Rattle.std.proofs.Math.Path.{fun_ext}
 use Rattle.std.proofs.lemmas.List.Elements.{All-from_recursion}
+use Rattle.std.proofs.lemmas.List.{drop_more}
 use Rattle.zpl_nums.specs.declared.ends.TrapKind.{TrapKind}
 use Rattle.zpl_nums.specs.declared.ends.TrapKind.TheVariants.{DivideByZero}
 use Rattle.zpl_text.specs.Escapes.{unescaped}
@@ -294,16 +295,6 @@ module _ (place : Place) (store : Store) (line : Bool) (items : List Item) where
       by (Gives totals) i = absurd (cc)
       by (Traps k) i = let same : k ≡ kind = cc in ap Traps same
 
-  pub checks_stop : (stop : Stop) →
-      Stops stop (checked_each place store (printed_exprs place items)) →
-      Stops stop (print_text place store line items)
-  checks_stop NoMemory h = tt
-  checks_stop (Trap kind) h =
-      by_checked
-      ∙ ap
-      (λ c. computed_then (computed_then c (fields_of store))
-      (λ fields. computed_then (items_text place items fields) after)) h
-
 -- ---- one term
 
 map_stops : {A B C : Type 0} (stop : Stop) (f : A → B) (g : A → C) (c : Computed A) →
@@ -429,12 +420,6 @@ expr_at_zero place before expr text rank c text_is rank_is none =
 
 -- ---- the expressions of items
 
-left_from : {X : Type 0} (xs : List X) (i : ℕ) (d : X) → i < length xs →
-    drop i xs ≡ get_or xs i d ∷ drop (i + 1) xs
-left_from xs i d below =
-    let next : suc i ≡ i + 1 = omega arith in
-    drop-cons xs i d below ∙ ap (λ n. get_or xs i d ∷ drop n xs) next
-
 one_first : (place : Place) (item : Item) (items : List Item) →
     printed_exprs place (item ∷ items)
     ≡ printed_exprs place (item ∷ []) ++ printed_exprs place items
@@ -452,7 +437,7 @@ exprs_next place items i d done new whole below new_is rest =
     ap (λ l. l ++ printed_exprs place left) new_is
     ∙ (append_assoc done (printed_exprs place (item ∷ [])) (printed_exprs place left)
     ∙ (ap (λ l. done ++ l) (sym (one_first place item left))
-    ∙ (ap (λ l. done ++ printed_exprs place (map item_of l)) (sym (left_from items i d below))
+    ∙ (ap (λ l. done ++ printed_exprs place (map item_of l)) (sym (drop_more items i d below))
     ∙ rest)))
 
 pub fit_of : (place : Place) (items : List Item) (exprs : List PlacedInMemory) →

@@ -1,7 +1,6 @@
 -- Lemmas on places of tuples in a storage.
-use Rattle.std.proofs.Common.{◌≡◌, ℕ, ◌+◌, ◌*◌, ◌↔◌, IsTrue, Bool, true, false, if◌then◌else◌, Some, None, All, List, [], ◌∷◌, length, get_or, ℤ, refl, sym, ◌∙◌, ap, subst}
+use Rattle.std.proofs.Common.{◌≡◌, ℕ, ◌+◌, ◌*◌, ◌↔◌, IsTrue, Bool, true, false, Some, None, All, List, [], ◌∷◌, length, get_or, ℤ, refl, sym, ◌∙◌, ap, subst}
 use Rattle.std.specs.List.{AllZip}
-use Rattle.std.specs.Prelude.{is_some}
 use Rattle.std.proofs.lemmas.Bool.{and_from}
 use Rattle.std.proofs.lemmas.List.Elements.{All-head, All-tail}
 use Rattle.zpl_meaning.specs.of_zpl_region.declared.dims.Dim.{Dim}
@@ -64,11 +63,3 @@ no_place storage t flat b is e told none = by (has_place storage t) refl
         let here : IsMember storage flat = subst (IsMember storage) (sym e) (flattened_member storage.dims t (has_steps storage.dims is.dims) has) in
         absurd (let yes : b ≡ true = told.1 here in cc)
     by false has = rw has refl
-
--- there is a place where the storage has one
-pub some_place : (storage : Region) (t : List ℤ) → is_some (place_in storage t) ≡ has_place storage t
-some_place storage t = by (has_place storage t) refl
-  where
-    by : (test : Bool) → has_place storage t ≡ test → is_some (place_in storage t) ≡ has_place storage t
-    by true has = ap (λ b. is_some (if b then Some (place_among storage.dims t) else None)) has ∙ sym has
-    by false has = ap (λ b. is_some (if b then Some (place_among storage.dims t) else None)) has ∙ sym has

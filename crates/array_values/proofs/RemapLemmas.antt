@@ -1,5 +1,5 @@
 -- Lemmas on the rows of indices, and on what they read.
-use Rattle.std.proofs.Common.{◌≡◌, ℕ, Bool, true, false, ◌||◌, All, inl, inr, List, [], ◌∷◌, ◌++◌, map, length, ℤ, refl, sym, ◌∙◌, ap, subst, append_assoc, append-nil, Result}
+use Rattle.std.proofs.Common.{◌≡◌, ℕ, Bool, true, false, ◌||◌, All, inl, inr, List, [], ◌∷◌, ◌++◌, map, length, ℤ, refl, sym, ◌∙◌, ap, subst, Result}
 use Rattle.std.specs.List.{flat_map, list_all, list_any}
 use Rattle.std.proofs.lemmas.Simd.{map-map}
 use Rattle.std.proofs.lemmas.List.Folds.{flat_map-map}
@@ -16,18 +16,17 @@ use Rattle.array_stops.specs.of_zpl_meaning.Computed.{Computed, Gives, Traps, bo
 use Rattle.array_stops.specs.of_zpl_meaning.Fields.{has_target, is_kept_in, target_of}
 use Rattle.array_stops.specs.of_zpl_meaning.Store.{Store, array_at}
 use Rattle.array_stops.specs.of_zpl_meaning.Context.{Over}
-use Rattle.array_stops.specs.of_zpl_meaning.Term.{Term, Terms, ThenTerm, Remapped}
+use Rattle.array_stops.specs.of_zpl_meaning.Term.{Terms, Remapped}
 use Rattle.row_stacks.specs.of_array_totals.Total.{Total, array_of_total, arrays_of_totals, computed_map, divides_by_zero, kept_value, kept_values, sure, total_of, totals_of, values_if}
 use Rattle.row_stacks.specs.of_value_rows.Row.{cleared}
 use Rattle.row_stacks.proofs.of_value_rows.RowLemmas.{rows_masked}
 use Rattle.remap_rows.specs.Remap.{all_placed, remapped}
 use Rattle.remap_rows.proofs.RemapLemmas.{all_are_placed, remaps_are}
 use Rattle.array_stops.specs.declared.stops.Stop.{Stop}
-use Rattle.array_stops.specs.declared.stops.Stop.TheVariants.{Trap, NoMemory}
-use Rattle.array_stops.specs.Answer.{Answers, Stops}
+use Rattle.array_stops.specs.Answer.{Answers}
 use Rattle.array_values.specs.Row.{Indexed, any_kept, bad_in, index_values, indexed_in, indexed_of, indexed_with, row_in, row_of, row_under, row_with}
 use Rattle.array_values.proofs.RowLemmas.{any_is}
-use Rattle.array_values.proofs.TermLemmas.{array_seen, row_told, sure_row}
+use Rattle.array_values.proofs.TermLemmas.{array_seen, sure_row}
 
 -- ---- what the rows of indices tell of their terms
 
@@ -57,56 +56,6 @@ indexed_told store inside here over kept region terms rows at missed e = by (tot
           misses = sym (ap (λ (r : Indexed). r.misses) same);
         }
     by (Traps kind) is h = absurd (cc)
-
-same_three : (a b c d : List ℤ) (m n : Bool) → a ≡ b → c ≡ d → m ≡ n → indexed_with a c m ≡ indexed_with b d n
-same_three a b c d m n p q r = ap (λ l. indexed_with l c m) p ∙ (ap (λ l. indexed_with b l m) q ∙ ap (indexed_with b d) r)
-
-pub indexed_none : (inside here : List ℤ) (over : Region) (kept : List Bool) (region : Region) → indexed_of inside here over kept region [] ≡ indexed_with inside here false
-indexed_none inside here over kept region = same_three (inside ++ []) inside (here ++ []) here false false (append-nil inside) (append-nil here) refl
-
-pub indexed_more : (store : Store) (inside here : List ℤ) (over : Region) (kept : List Bool) (region : Region) (first : Term) (rest : Terms) (now next at rows all : List ℤ) (row : List ℤ) (one others : Bool)
-    → row_in store inside over kept first ≡ Gives (row_with now one)
-    → ((b l : List ℤ) → length b ≡ length inside → now ≡ b ++ l → next ≡ b ++ cleared l kept)
-    → ((l : List ℤ) → next ≡ inside ++ l → at ≡ here ++ row_under over l region)
-    → indexed_in store next at over kept region rest ≡ Gives (indexed_with rows all others)
-    → indexed_in store inside here over kept region (ThenTerm first rest) ≡ Gives (indexed_with rows all (one || others))
-indexed_more store inside here over kept region first rest now next at rows all row one others e cleared_is under f =
-    let v = row_told store inside over kept first now one e in
-    let w = indexed_told store next at over kept region rest rows all others f in
-    let iv = index_values over kept v.total in
-    let next_is : next ≡ inside ++ iv = cleared_is inside (map v.total.value (members over)) refl v.values in
-    let at_is = under iv next_is in
-    ap (λ c. computed_map (indexed_of inside here over kept region) (both_then c (totals_of store rest) (λ t ts. Gives (t ∷ ts)))) v.is
-    ∙ (ap (λ c. computed_map (indexed_of inside here over kept region) (both_then (Gives v.total) c (λ t ts. Gives (t ∷ ts)))) w.is
-    ∙ ap Gives (sym (same_three rows (inside ++ flat_map (index_values over kept) (v.total ∷ w.totals)) all
-    (here ++ flat_map (λ total. row_under over (index_values over kept total) region) (v.total ∷ w.totals)) (one || others) (list_any (bad_in over kept) (v.total ∷ w.totals))
-    (w.inside_is ∙ (ap (λ l. l ++ flat_map (index_values over kept) w.totals) next_is ∙ append_assoc inside iv (flat_map (index_values over kept) w.totals)))
-    (w.here_is ∙ (ap (λ l. l ++ flat_map (λ total. row_under over (index_values over kept total) region) w.totals) at_is
-    ∙ append_assoc here (row_under over iv region) (flat_map (λ total. row_under over (index_values over kept total) region) w.totals)))
-    (ap (λ b. b || others) v.misses ∙ ap (λ b. bad_in over kept v.total || b) w.misses))))
-
-pub first_stops : (stop : Stop) (store : Store) (inside here : List ℤ) (over : Region) (kept : List Bool) (region : Region) (first : Term) (rest : Terms)
-    → Stops stop (row_in store inside over kept first) → Stops stop (indexed_in store inside here over kept region (ThenTerm first rest))
-first_stops NoMemory store inside here over kept region first rest h = tt
-first_stops (Trap kind) store inside here over kept region first rest h = by (total_of store first) h
-  where
-    by : (c : Computed Total) → computed_map (row_of inside over kept) c ≡ Traps kind
-        → computed_map (indexed_of inside here over kept region) (both_then c (totals_of store rest) (λ t ts. Gives (t ∷ ts))) ≡ Traps kind
-    by (Gives total) e = absurd (cc)
-    by (Traps k) e = let same : k ≡ kind = cc in ap Traps same
-
-pub rest_stops : (stop : Stop) (store : Store) (inside here next at : List ℤ) (over : Region) (kept : List Bool) (region : Region) (first : Term) (rest : Terms) (now : List ℤ) (one : Bool)
-    → row_in store inside over kept first ≡ Gives (row_with now one)
-    → Stops stop (indexed_in store next at over kept region rest) → Stops stop (indexed_in store inside here over kept region (ThenTerm first rest))
-rest_stops NoMemory store inside here next at over kept region first rest now one e h = tt
-rest_stops (Trap kind) store inside here next at over kept region first rest now one e h =
-    let v = row_told store inside over kept first now one e in
-    ap (λ c. computed_map (indexed_of inside here over kept region) (both_then c (totals_of store rest) (λ t ts. Gives (t ∷ ts)))) v.is ∙ by v.total (totals_of store rest) h
-  where
-    by : (t : Total) (c : Computed (List Total)) → computed_map (indexed_of next at over kept region) c ≡ Traps kind
-        → computed_map (indexed_of inside here over kept region) (both_then (Gives t) c (λ u us. Gives (u ∷ us))) ≡ Traps kind
-    by t (Gives totals) i = absurd (cc)
-    by t (Traps k) i = let same : k ≡ kind = cc in ap Traps same
 
 -- ---- the arrays of indices
 

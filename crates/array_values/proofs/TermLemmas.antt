@@ -1,6 +1,6 @@
 -- Lemmas on the rows of terms, from those of their operands.
 use Rattle.std.proofs.Common.{◌≡◌, ◌+◌, Bool, true, false, ◌||◌, All, List, ◌++◌, map, length, ℤ, refl, sym, ◌∙◌, ap, subst, append_assoc, Result, Option, Some, None, unsigned_abs}
-use Rattle.std.proofs.lemmas.List.{length-append, length-map}
+use Rattle.std.proofs.lemmas.List.{length-map}
 use Rattle.zpl_nums.specs.declared.operators.Op.{Op}
 use Rattle.zpl_nums.specs.declared.operators.UnaryOp.{UnaryOp}
 use Rattle.zpl_nums.specs.declared.folds.Fold.{Fold}
@@ -45,13 +45,6 @@ row_told store before region kept term now missed e = by (total_of store term) r
         record { total = total; is = is; values = sym (ap (λ (r : Row). r.values) same); misses = sym (ap (λ (r : Row). r.misses) same) }
     by (Traps kind) is h = absurd (cc)
 
-pub row_long : (store : Store) (before : List ℤ) (region : Region) (kept : List Bool) (term : Term) (now : List ℤ) (missed : Bool)
-    → row_in store before region kept term ≡ Gives (row_with now missed) → length now ≡ length before + length (members region)
-row_long store before region kept term now missed e =
-    let w = row_told store before region kept term now missed e in
-    ap length w.values
-    ∙ (length-append before (map w.total.value (members region)) ∙ ap (λ n. length before + n) (length-map (members region) w.total.value))
-
 same_with : (a b : List ℤ) (m n : Bool) → a ≡ b → m ≡ n → row_with a m ≡ row_with b n
 same_with a b m n p q = ap (λ l. row_with l m) p ∙ ap (row_with b) q
 
@@ -69,15 +62,6 @@ unary_row op store before region kept operand now new missed e applied =
     ap (λ c. computed_map (row_of before region kept) (computed_then c (λ t. Gives (unary_total op t)))) w.is
     ∙ ap Gives (sym (same_with new (before ++ map total.value (members region)) missed (bad_in region kept total)
     (applied before (map w.total.value (members region)) refl w.values ∙ ap (λ l. before ++ l) (rows_of_unary op w.total (members region))) w.misses))
-
-pub unary_stops : (stop : Stop) (op : UnaryOp) (store : Store) (before : List ℤ) (region : Region) (kept : List Bool) (operand : Term)
-    → Stops stop (row_in store before region kept operand) → Stops stop (row_in store before region kept (Unary op operand))
-unary_stops NoMemory op store before region kept operand h = tt
-unary_stops (Trap kind) op store before region kept operand h = by (total_of store operand) h
-  where
-    by : (c : Computed Total) → computed_map (row_of before region kept) c ≡ Traps kind → computed_map (row_of before region kept) (computed_then c (λ t. Gives (unary_total op t))) ≡ Traps kind
-    by (Gives total) e = absurd (cc)
-    by (Traps k) e = let same : k ≡ kind = cc in ap Traps same
 
 pub pair_row : (op : Op) (store : Store) (before : List ℤ) (region : Region) (kept : List Bool) (left right : Term) (mid now new : List ℤ) (one other missed : Bool) → length kept ≡ length (members region)
     → row_in store before region kept left ≡ Gives (row_with mid one) → row_in store mid region kept right ≡ Gives (row_with now other)
@@ -100,27 +84,6 @@ pair_row op store before region kept left right mid now new one other missed lon
     ∙ (ap (λ b. (bad_in region kept v.total || b) || missed) w.misses
     ∙ (ap (λ b. (bad_in region kept v.total || bad_in region kept w.total) || b) (divisors before (map v.total.value ms) (map w.total.value ms) refl size is)
     ∙ sym (any_pair op v.total w.total kept ms)))))))
-
-pub left_stops : (stop : Stop) (op : Op) (store : Store) (before : List ℤ) (region : Region) (kept : List Bool) (left right : Term)
-    → Stops stop (row_in store before region kept left) → Stops stop (row_in store before region kept (Binary op left right))
-left_stops NoMemory op store before region kept left right h = tt
-left_stops (Trap kind) op store before region kept left right h = by (total_of store left) h
-  where
-    by : (c : Computed Total) → computed_map (row_of before region kept) c ≡ Traps kind → computed_map (row_of before region kept) (both_then c (total_of store right) (λ a b. Gives (pair_total op a b))) ≡ Traps kind
-    by (Gives total) e = absurd (cc)
-    by (Traps k) e = let same : k ≡ kind = cc in ap Traps same
-
-pub right_stops : (stop : Stop) (op : Op) (store : Store) (before mid : List ℤ) (region : Region) (kept : List Bool) (left right : Term) (one : Bool)
-    → row_in store before region kept left ≡ Gives (row_with mid one)
-    → Stops stop (row_in store mid region kept right) → Stops stop (row_in store before region kept (Binary op left right))
-right_stops NoMemory op store before mid region kept left right one e h = tt
-right_stops (Trap kind) op store before mid region kept left right one e h =
-    let v = row_told store before region kept left mid one e in
-    ap (λ c. computed_map (row_of before region kept) (both_then c (total_of store right) (λ a b. Gives (pair_total op a b)))) v.is ∙ by v.total (total_of store right) h
-  where
-    by : (t : Total) (c : Computed Total) → computed_map (row_of mid region kept) c ≡ Traps kind → computed_map (row_of before region kept) (both_then (Gives t) c (λ a b. Gives (pair_total op a b))) ≡ Traps kind
-    by t (Gives total) i = absurd (cc)
-    by t (Traps k) i = let same : k ≡ kind = cc in ap Traps same
 
 -- ---- operands over a region
 

@@ -1,6 +1,6 @@
 -- Lemmas on the array that a write makes.
 use Rattle.std.proofs.Common.{◌≡◌, ℕ, ◌<◌, Bool, true, false, ◌&&◌, ◌||◌, if◌then◌else◌, All, Option, Some, None, List, [], ◌∷◌, length, length-set, get_or, get_or-set_same, get_or-set_other, map, set, ℤ, pos, eqb, inl, inr, refl, sym, ◌∙◌, ap, subst, arith, slice_get}
-use Rattle.std.proofs.lemmas.Bool.{and_from, and_parts, eq-eqb, eqb-true}
+use Rattle.std.proofs.lemmas.Bool.{and_from, and_parts, eq-eqb, eqb-true, or_right}
 use Rattle.std.proofs.lemmas.Option.{slice_get_within}
 use Rattle.array_lines.specs.of_zpl_region.declared.regions.Region.{Region}
 use Rattle.array_lines.specs.of_zpl_region.Dim.{HasStep}
@@ -34,10 +34,6 @@ is_hit storage is_in p t = is_member storage t && (is_in t && eqb (place_among s
 abbrev hit : Region → (List ℤ → Bool) → ℕ → List (List ℤ) → Bool
 hit storage is_in p [] = false
 hit storage is_in p (t ∷ ts) = is_hit storage is_in p t || hit storage is_in p ts
-
-or_right : (a b : Bool) → b ≡ true → (a || b) ≡ true
-or_right true b h = refl
-or_right false b h = h
 
 hit_true : (storage : Region) (is_in : List ℤ → Bool) (p : ℕ) (ts : List (List ℤ)) (t : List ℤ) → Among ts t → is_hit storage is_in p t ≡ true → hit storage is_in p ts ≡ true
 hit_true storage is_in p [] t h e = absurd h

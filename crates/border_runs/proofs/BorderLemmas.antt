@@ -452,11 +452,6 @@ module _ (tables : Tables) (n : ℕ) (sight : Sight) (w : Where) (line : ℕ) (n
       at_base : slice_get begun.slots edge.slot ≡ Some base
       at_base = get_some begun.slots edge.slot (omega (arith, slot_below, room))
 
-      abbrev outcome : Bool → Outcome
-      outcome b =
-          out.then_do (border_thing kind (Some own) (thing_of at.environment name.text) line store)
-          (more_borders at kind names line)
-
       conforming : border_conforms edge.shift base ≡ true
           → Agrees Like n 0 (borders at kind (name ∷ names) line store)
           (rows (behind (name ∷ names)) begun)

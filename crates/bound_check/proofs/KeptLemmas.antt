@@ -116,10 +116,6 @@ module _ (tables : Tables) (n : ℕ) where
   }
 
   -- ---- and so it does behind each row
-  kept_slot : (whole next : Whole) (slot : ℕ) (region : Region)
-      → slice_get whole.slots slot ≡ slice_get next.slots slot
-      → slice_get next.slots slot ≡ Some region → slice_get whole.slots slot ≡ Some region
-  kept_slot whole next slot region same is = same ∙ is
 
   not_same : (slot other : ℕ) → not (other == slot) ≡ true → thing.Slot slot ≡ thing.Slot other → ⊥
   not_same slot other e is =

@@ -6,6 +6,7 @@ use Rattle.std.specs.Option.{option_map}
 use Rattle.std.specs.List.{AllByRecursion, list_all}
 use Rattle.std.proofs.lemmas.List.Elements.{All-from_recursion}
 use Rattle.std.proofs.lemmas.List.Folds.{list_all-append}
+use Rattle.std.proofs.lemmas.Bool.{and_from}
 use Rattle.flat_passes.specs.of_row_runs.Segments.{news}
 use Rattle.flat_passes.specs.of_row_runs.Cut.{Stretch, all_rows, as_list, moved_by, segments_by}
 use Rattle.flat_passes.proofs.of_row_runs.CutLemmas.{cut_rows}
@@ -17,9 +18,6 @@ use Rattle.flat_passes.specs.of_code_parts.Stretch.{ends_stretch, is_goal}
 use Rattle.flat_passes.specs.Rewritten.{stretches_of, with_moved_goal}
 use Rattle.flat_passes.proofs.StretchLemmas.{HoldsOf, IsCut, all_cut, news_hold}
 use Rattle.bound_check.specs.Checked.{checked, stays}
-
-both : (a b : Bool) → a ≡ true → b ≡ true → (a && b) ≡ true
-both a b one other = rw one other
 
 left_of : (a b : Bool) → (a && b) ≡ true → a ≡ true
 left_of true b e = refl
@@ -54,17 +52,17 @@ module _ (tables : Tables) (slot array : ℕ) (shift : List ℤ) where
           → list_all test (cond b (row ∷ filter (stays tables) rows) (filter (stays tables) rows))
           ≡ true → list_all test (row ∷ rows) ≡ true
       by later true is e =
-          both (test row) (list_all test rows)
+          and_from (test row) (list_all test rows)
           (left_of (test row) (list_all test (filter (stays tables) rows)) e)
           (later (right_of (test row) (list_all test (filter (stays tables) rows)) e))
-      by later false is e = both (test row) (list_all test rows) (left_out row is) (later e)
+      by later false is e = and_from (test row) (list_all test rows) (left_out row is) (later e)
 
   of_last : (moved : ℕ → ℕ) (last : Option Instr)
       → list_all test (as_list (option_map (with_moved_goal moved) last)) ≡ true
       → list_all test (as_list last) ≡ true
   of_last moved None e = refl
   of_last moved (Some row) e =
-      both (test row) true
+      and_from (test row) true
       (sym (retargeted moved row) ∙ left_of (test (with_moved_goal moved row)) true e) refl
 
   -- rows one behind the other
@@ -81,9 +79,9 @@ module _ (tables : Tables) (slot array : ℕ) (shift : List ℤ) where
       sym (list_all-append test front last)
       ∙ left_of (list_all test (front ++ last)) (list_all test rest) outer in
       list_all-append test (old_front ++ old_last) old_rest
-      ∙ both (list_all test (old_front ++ old_last)) (list_all test old_rest)
+      ∙ and_from (list_all test (old_front ++ old_last)) (list_all test old_rest)
       (list_all-append test old_front old_last
-      ∙ both (list_all test old_front) (list_all test old_last)
+      ∙ and_from (list_all test old_front) (list_all test old_last)
       (first (left_of (list_all test front) (list_all test last) inner))
       (second (right_of (list_all test front) (list_all test last) inner)))
       (third (right_of (list_all test (front ++ last)) (list_all test rest) outer))

@@ -8,8 +8,8 @@ use Rattle.std.specs.Option.{IfSome, IsSomeAnd}
 use Rattle.std.proofs.lemmas.Option.{slice_get_within}
 use Rattle.std.specs.List.{AllByRecursion, list_all}
 use Rattle.std.proofs.lemmas.List.{get_or-replicate, get_or-set_other, get_or-set_same}
-use Rattle.std.proofs.lemmas.List.{drop_all, drop_more, get_or-map, length-map, length-replicate}
-use Rattle.std.proofs.lemmas.List.{length-set, map-set, set_past}
+use Rattle.std.proofs.lemmas.List.{drop_all, get_or-map, length-map, length-replicate}
+use Rattle.std.proofs.lemmas.List.{length-set, map-set}
 use Rattle.std.proofs.lemmas.List.Elements.{All-from_recursion, recursion_from_All}
 use Rattle.std.proofs.lemmas.List.Folds.{list_all-append}
 use Rattle.zpl_region.specs.declared.regions.Region.{Region}
@@ -49,12 +49,6 @@ pub all_noted_length : (slots : ℕ) (code : List Instr) → length (all_noted s
 all_noted_length slots code =
     let none : List (Option Region) = [] in
     noted_from_length (replicate slots none) code ∙ length-replicate slots none
-
--- a write past all slots is noted nowhere
-pub past_all : (lists : List (List (Option Region))) (slot : ℕ) (region : Option Region)
-    → length lists ≤ slot → with_write lists slot region ≡ lists
-past_all lists slot region past =
-    set_past lists slot (slice_index_or lists slot [] ++ region ∷ []) past
 
 noted_at : (lists : List (List (Option Region))) (write : Option Write) (slot : ℕ)
     → slot < length lists
@@ -126,22 +120,6 @@ noted_all code at lists whole past before =
     ap (noted_from lists) (sym (drop_all at code past)) ∙ before
 
 -- a walk that tests each element, one on, where one fails, and at the end
-module _ {X : Type 0} (pass : X → Bool) (xs : List X) (at : ℕ) (whole : Bool)
-    (before : list_all pass (drop at xs) ≡ whole) where
-  pub all_more : (d : X) → at < length xs → pass (get_or xs at d) ≡ true
-      → list_all pass (drop (at + 1) xs) ≡ whole
-  all_more d less e =
-      ap (λ b. b && list_all pass (drop (at + 1) xs)) (sym e)
-      ∙ (ap (list_all pass) (sym (drop_more xs at d less)) ∙ before)
-
-  pub all_stop : (d : X) → at < length xs → pass (get_or xs at d) ≡ false → false ≡ whole
-  all_stop d less e =
-      ap (λ b. b && list_all pass (drop (at + 1) xs)) (sym e)
-      ∙ (ap (list_all pass) (sym (drop_more xs at d less)) ∙ before)
-
-  pub all_end : length xs ≤ at → true ≡ whole
-  all_end past = ap (list_all pass) (sym (drop_all at xs past)) ∙ before
-
 -- ---- a check by what is written
 module _ (tables : Tables) (slot array : ℕ) (shift : List ℤ) (stored : ArrayRow)
     (there : slice_get tables.arrays array ≡ Some stored) where
@@ -263,8 +241,3 @@ pub is_stored : (tables : Tables) (slot array line : ℕ) (shift : List ℤ) (ro
     → row.stored ≡ true
 is_stored tables slot array line shift row fits there =
     subst (λ o. IsSomeAnd o (λ (r : ArrayRow). r.stored ≡ true)) there fits.fit.2
-
-pub not_absent : (tables : Tables) (slot array line : ℕ) (shift : List ℤ)
-    → FitsInstr tables (instr.Need slot array shift line) → slice_get tables.arrays array ≡ None → ⊥
-not_absent tables slot array line shift fits none =
-    subst (λ o. IsSomeAnd o (λ (r : ArrayRow). r.stored ≡ true)) none fits.fit.2

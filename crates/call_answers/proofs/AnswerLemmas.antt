@@ -2,7 +2,6 @@
 use Rattle.std.proofs.Common.{◌≡◌, ◌≢◌, ℕ, ◌⊎◌, refl, sym, ◌∙◌, ap, inl, inr, arith}
 use Rattle.exec_claims.specs.of_call_claims.Decided.{IsDecided}
 use Rattle.exec_claims.specs.of_call_claims.declared.status.TheConstants.{PUT_FAILED, REFUSED, UNBOUND}
-use Rattle.exec_claims.specs.of_call_claims.declared.status.TheConstants.{USAGE}
 use Rattle.call_answers.specs.Answers.{status_of, stop_status}
 use Rattle.call_answers.specs.declared.answers.Answer.{Answer}
 use Rattle.call_answers.specs.declared.answers.Answer.TheVariants as answer
@@ -48,11 +47,6 @@ build_refuses build.TooManyStatements = inl refl
 build_refuses build.TooManyNodes = inl refl
 build_refuses build.TooMuchStorage = inr refl
 
--- so it is no other
-pub build_not : (f : BuildFault) (n : ℕ) → n ≢ REFUSED → n ≢ UNBOUND → build_status f ≢ n
-build_not f n other also e = elim (build_refuses f)
-    [ inl is ↦ other (sym e ∙ is) | inr is ↦ also (sym e ∙ is) ]
-
 -- the status of a failed put is that answer's alone
 pub failed_of : (a : Answer) → status_of a ≡ PUT_FAILED → a ≡ answer.PutFailed
 failed_of answer.PutFailed e = refl
@@ -69,23 +63,6 @@ failed_of (answer.BadItem at) e = absurd (omega arith)
 failed_of (answer.Unsound at) e = absurd (omega arith)
 failed_of answer.CheckLimit e = absurd (omega arith)
 failed_of answer.NoMemory e = absurd (omega arith)
-
--- and so is that of words that are no command
-pub usage_of : (a : Answer) → status_of a ≡ USAGE → a ≡ answer.Usage
-usage_of answer.Usage e = refl
-usage_of (answer.Stopped s report) e = absurd ((stopped_other s).usage e)
-usage_of answer.PutFailed e = absurd (omega arith)
-usage_of (answer.Unreadable file) e = absurd (omega arith)
-usage_of (answer.TooLong file) e = absurd (omega arith)
-usage_of (answer.Refused refusal line) e = absurd (omega arith)
-usage_of (answer.Unbound fault) e = absurd (omega arith)
-usage_of (answer.Unbuilt fault) e = absurd ((build_other fault).usage e)
-usage_of (answer.BadLine line) e = absurd (omega arith)
-usage_of (answer.BadTable line) e = absurd (omega arith)
-usage_of (answer.BadItem at) e = absurd (omega arith)
-usage_of (answer.Unsound at) e = absurd (omega arith)
-usage_of answer.CheckLimit e = absurd (omega arith)
-usage_of answer.NoMemory e = absurd (omega arith)
 
 -- an answer is a failed put, want of memory, or decided
 pub data Kind (a : Answer) : Type 0 where

@@ -8,7 +8,7 @@ use Rattle.exec_claims.specs.of_call_claims.Answer.{CountsFetches, CountsPuts, I
 use Rattle.exec_claims.specs.of_call_claims.Decided.{IsDecided}
 use Rattle.exec_claims.specs.of_call_claims.Stream.{Stream}
 use Rattle.exec_claims.specs.of_call_claims.Texts.{no_memory_text}
-use Rattle.exec_claims.specs.of_call_claims.declared.status.TheConstants.{DONE, NO_MEMORY, PUT_FAILED, UNREADABLE, USAGE}
+use Rattle.exec_claims.specs.of_call_claims.declared.status.TheConstants.{DONE, NO_MEMORY, PUT_FAILED, UNREADABLE}
 use Rattle.call_answers.specs.Answers.{status_of, told_of}
 use Rattle.call_answers.specs.Stops.{CallStopsAtFault}
 use Rattle.call_answers.specs.Told.{IsAnswerOf, IsHalfTold}
@@ -44,16 +44,6 @@ module _ (a : Answer) (status : ℕ) (errs : Stream) (is : IsAnswerOf a status e
   not_done failed done =
       let no : answer.PutFailed ≡ answer.Stopped stop.Done None = sym failed ∙ (is.told.quiet done ∙ done) in
       absurd cc
-
-  -- no other status is told than that of the work, or of want of memory
-  pub status_known : status_of a ≢ USAGE → status ≢ USAGE
-  status_known other e = elim (failed_or is.answer) [
-    | inl failed ↦ omega (arith, is.is, ap status_of failed, e)
-    | inr told ↦ elim (is.told.same told) [
-      | inl same ↦ other (sym (ap status_of same) ∙ (sym is.is ∙ e))
-      | inr none ↦ omega (arith, is.is, ap status_of none, e)
-    ]
-  ]
 
   -- the count of failed fetches, and that of failed puts
   told_unread : status ≡ UNREADABLE → (is.answer ≡ a) ⊎ (is.answer ≡ answer.NoMemory)

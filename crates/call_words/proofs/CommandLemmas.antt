@@ -58,13 +58,6 @@ module _ (name file : List ℕ) (more : List (List ℕ)) where
   abbrev words : List (List ℕ)
   words = name ∷ file ∷ more
 
-  -- what doesn't ask for anything
-  pub asks_nothing : ((asked : Asked) → ¬ AskFor more asked) → IsNoCommand words
-  asks_nothing none = no_command words (λ w place next worded second takes.
-      let same : name ∷ file ∷ more ≡ name_of w ∷ place ∷ worded.more = worded.split in
-      let mores : worded.more ≡ more = cc in
-      none next (subst (λ ws. AskFor ws next) mores worded.are))
-
   -- and what has a name that is none
   pub no_name : ((v : Verb) → name ≢ name_of v) → IsNoCommand words
   no_name none = no_command words (λ w place next worded second takes.

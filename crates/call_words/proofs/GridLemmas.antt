@@ -61,16 +61,6 @@ neither text alone before factors (last_factor {n = n} is) = alone n is
 neither text alone before factors (one_factor {front = front} {rest = rest} {n = n} split is more) =
     before n rest (record { front = front; split = split; factor = is })
 
-some_factors : (text factors : List ℕ) → AreFactors text factors → 1 ≤ length factors
-some_factors text factors (last_factor is) = omega arith
-some_factors text factors (one_factor split is more) = omega arith
-
-pub not_one : (text : List ℕ) → ((n : ℕ) → ¬ IsFactor text n)
-    → (factors : List ℕ) → length factors ≤ 1 → ¬ AreFactors text factors
-not_one text alone factors few (last_factor {n = n} is) = alone n is
-not_one text alone factors few (one_factor {rest = rest} {factors = others} split is more) =
-    omega (arith, few, some_factors rest others more)
-
 pub one_told : (before text : List ℕ) (n most : ℕ) (grid : List ℕ) → IsFactor text n
     → 1 ≤ most → grid ≡ grid_of (before ++ n ∷ []) → TellsGrid before text most grid
 one_told before text n most grid is some same =

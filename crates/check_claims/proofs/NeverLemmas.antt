@@ -1,6 +1,7 @@
 -- A run of code that is checked first is never stuck, and never are all its processors idle.
 use Rattle.std.proofs.Common.{◌≡◌, ℕ, IsTrue, List, All, length, Option, Some, None, refl, sym, subst}
 use Rattle.std.proofs.Common.{arith}
+use Rattle.std.proofs.lemmas.List.Elements.{All-weaker}
 use Rattle.node_form.specs.declared.arrays.ArrayRow.{ArrayRow}
 use Rattle.node_form.specs.declared.arrays.Item.{Item}
 use Rattle.node_form.specs.declared.instructions.Instr.{Instr}
@@ -33,9 +34,6 @@ use Rattle.exec_claims.specs.Cause.Cause.{no_memory, exec}
 use Rattle.exec_claims.specs.declared.status.TheConstants.{STUCK}
 
 -- ---- tables as memory holds them have three dimensions
-all_of : {X : Type 0} (P Q : X → Type 0) → ((x : X) → P x → Q x) → (xs : List X) → All P xs
-    → All Q xs
-all_of P Q to xs all k d inside = to _ (all k d inside)
 
 typed_word : (w : ExprOp) → TypedWord w → IsTypedWord w
 typed_word (word.Const value) is = tt
@@ -82,13 +80,13 @@ typed_row (instr.Remap array slot from parts) is = tt
 
 are_typed : (code : Tables) → IsTyped code → AreTyped code
 are_typed code is = record {
-  arrays = all_of TypedArray IsTypedArray (λ row one. one.three) code.arrays is.arrays;
-  exprs = all_of (All TypedWord) (All IsTypedWord)
-      (λ words all. all_of TypedWord IsTypedWord typed_word words all) code.exprs is.exprs;
-  exchanges = all_of (All TypedItem) (All IsTypedItem)
-      (λ items all. all_of TypedItem IsTypedItem (λ item one. one.shift.0) items all)
+  arrays = All-weaker TypedArray IsTypedArray (λ row one. one.three) code.arrays is.arrays;
+  exprs = All-weaker (All TypedWord) (All IsTypedWord)
+      (λ words all. All-weaker TypedWord IsTypedWord typed_word words all) code.exprs is.exprs;
+  exchanges = All-weaker (All TypedItem) (All IsTypedItem)
+      (λ items all. All-weaker TypedItem IsTypedItem (λ item one. one.shift.0) items all)
       code.exchanges is.exchanges;
-  code = all_of TypedInstr IsTypedRow typed_row code.code is.code;
+  code = All-weaker TypedInstr IsTypedRow typed_row code.code is.code;
 }
 
 -- ---- what checked code and listings are known for

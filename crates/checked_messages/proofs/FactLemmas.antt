@@ -2,11 +2,12 @@
 use Rattle.std.proofs.Common.{◌≡◌, ◌⊎◌, refl, sym, ◌∙◌, ap, subst, inl, inr, ℕ, ◌==◌, Bool, true}
 use Rattle.std.proofs.Common.{false}
 use Rattle.std.proofs.Common.{◌&&◌, List, [], ◌∷◌, ℤ, map, Option, Some, None, eqb-true, true≢false}
-use Rattle.std.specs.Prelude.{◌||◌, Contains, if◌then◌else◌, slice_get}
+use Rattle.std.specs.Prelude.{Contains, if◌then◌else◌, slice_get}
 use Rattle.std.specs.List.{list_any}
 use Rattle.std.specs.Option.{IsSomeAnd}
 use Rattle.std.proofs.lemmas.Bool.Decides.{Decides-int_eq}
 use Rattle.std.proofs.lemmas.Slice.Eq.{slice_eq-Decides}
+use Rattle.std.proofs.lemmas.Bool.{and_parts, or_cases}
 use Rattle.zpl_nums.specs.declared.ends.Border.{Border as Edge}
 use Rattle.zpl_nums.specs.declared.ends.Border.TheVariants.{Reflect, Wrap}
 use Rattle.zpl_region.specs.declared.regions.Region.{Region}
@@ -28,7 +29,7 @@ use Rattle.grid_meaning.specs.State.{IsSlot}
 use Rattle.checked_rows.specs.of_plan_meaning.Abreast.{Abreast}
 use Rattle.checked_rows.specs.of_needs_runs.Agree.{HasLayout}
 use Rattle.checked_rows.proofs.of_needs_runs.FlatLemmas.{three}
-use Rattle.checked_rows.proofs.of_needs_runs.HoldsLemmas.{both_parts, some_processors}
+use Rattle.checked_rows.proofs.of_needs_runs.HoldsLemmas.{some_processors}
 use Rattle.checked_rows.proofs.of_needs_runs.SlotLemmas.{zip_back, zip_there}
 use Rattle.checked_rows.specs.of_node_check.Demand.{do_agree, has_border, is_held, is_kind, is_side_form, is_stored}
 use Rattle.checked_rows.specs.of_node_check.Demand.{is_stored_row}
@@ -42,10 +43,6 @@ use Rattle.checked_rows.proofs.of_node_check.ToldLemmas.{one_region, stands}
 use Rattle.checked_messages.specs.Going.{StandAlike}
 use Rattle.checked_messages.proofs.OwnLemmas.{HoldsOver, places_held}
 
-or_cases : (a b : Bool) → (a || b) ≡ true → (a ≡ true) ⊎ (b ≡ true)
-or_cases true b e = inl refl
-or_cases false b e = inr e
-
 same_vector : (one other : List ℤ) → is_vector one other ≡ true → one ≡ other
 same_vector one other e = (slice_eq-Decides Decides-int_eq one other _ refl).0 e
 
@@ -53,8 +50,8 @@ same_vector one other e = (slice_eq-Decides Decides-int_eq one other _ refl).0 e
 held_is : (slot array : ℕ) (shift : List ℤ) (fact : Fact) → tells_held slot array shift fact ≡ true
     → fact ≡ Held slot array shift
 held_is slot array shift (Held other of by) e =
-    let (one, more) = both_parts (other == slot) (of == array && is_vector by shift) e in
-    let (two, last) = both_parts (of == array) (is_vector by shift) more in
+    let (one, more) = and_parts (other == slot) (of == array && is_vector by shift) e in
+    let (two, last) = and_parts (of == array) (is_vector by shift) more in
     ap (λ s. Held s of by) (eqb-true other slot one)
     ∙ (ap (λ a. Held slot a by) (eqb-true of array two)
     ∙ ap (Held slot array) (same_vector by shift last))
@@ -73,8 +70,8 @@ kind_is same.Flood same.Part e = absurd (true≢false (sym e))
 agree_is : (kind : SameKind) (target source : ℕ) (fact : Fact)
     → tells_agree kind target source fact ≡ true → fact ≡ Agree target source kind
 agree_is kind target source (Agree one other by) e =
-    let (first, more) = both_parts (one == target) (other == source && is_kind by kind) e in
-    let (second, last) = both_parts (other == source) (is_kind by kind) more in
+    let (first, more) = and_parts (one == target) (other == source && is_kind by kind) e in
+    let (second, last) = and_parts (other == source) (is_kind by kind) more in
     ap (λ t. Agree t other by) (eqb-true one target first)
     ∙ (ap (λ s. Agree target s by) (eqb-true other source second)
     ∙ ap (Agree target source) (kind_is by kind last))
@@ -87,7 +84,7 @@ agree_is kind target source (Border other by) e = absurd (true≢false (sym e))
 border_is : (slot : ℕ) (shift : List ℤ) (fact : Fact) → tells_border slot shift fact ≡ true
     → fact ≡ Border slot shift
 border_is slot shift (Border other by) e =
-    let (one, last) = both_parts (other == slot) (is_vector by shift) e in
+    let (one, last) = and_parts (other == slot) (is_vector by shift) e in
     ap (λ s. Border s by) (eqb-true other slot one) ∙ ap (Border slot) (same_vector by shift last)
 border_is slot shift (Held other of by) e = absurd (true≢false (sym e))
 border_is slot shift (Uniform scalar) e = absurd (true≢false (sym e))
@@ -116,9 +113,9 @@ made_is form from shift (Made by slot other vector) wanted h =
         → In (if b then slot ∷ [] else []) wanted
         → Made by slot other vector ≡ Made form wanted from shift
     at true e (inl is) =
-        let (one, more) = both_parts (is_side_form by form) (other == from && is_vector vector
+        let (one, more) = and_parts (is_side_form by form) (other == from && is_vector vector
         shift) e in
-        let (two, last) = both_parts (other == from) (is_vector vector shift) more in
+        let (two, last) = and_parts (other == from) (is_vector vector shift) more in
         ap (λ f. Made f slot other vector) (form_is by form one)
         ∙ (ap (λ s. Made form s other vector) is
         ∙ (ap (λ s. Made form wanted s vector) (eqb-true other from two)
@@ -164,7 +161,7 @@ module _ (code : Tables) (all : Abreast) (facts : List Fact) (told : AreTold cod
           (subst (Contains facts) (held_is slot array shift one.x one.passes)
           (contained facts one.x one.there)) refl region here
       by (inr more) =
-          let (stored, any) = both_parts (is_stored code array) _ more in
+          let (stored, any) = and_parts (is_stored code array) _ more in
           let one = one_passes (passes code array shift) (regions_of facts slot) any in
           by_region stored (subst (λ r. passes code array shift r ≡ true)
           (one_region code all facts told slot one.x region

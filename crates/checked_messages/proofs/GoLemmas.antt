@@ -4,6 +4,7 @@ use Rattle.std.proofs.Common.{◌==◌, nat_le, Bool, true, false, ◌&&◌, Lis
 use Rattle.std.proofs.Common.{Option, Some, None, is_some, eq-eqb}
 use Rattle.std.specs.Prelude.{is_none, option_and_then, unwrap_or}
 use Rattle.std.specs.List.{list_all}
+use Rattle.std.proofs.lemmas.Bool.{and_from}
 use Rattle.zpl_region.proofs.ListLemmas.{Among}
 use Rattle.grid_links.specs.Machine.{Goes as Moves}
 use Rattle.grid_paths.specs.Tree.{times}
@@ -24,7 +25,7 @@ use Rattle.checked_rows.specs.of_plan_meaning.Messages.{receivers}
 use Rattle.checked_rows.specs.of_plan_meaning.Messages.{senders, started, starts_alone, to_of, took, words_of}
 use Rattle.checked_rows.proofs.of_plan_meaning.ThereLemmas.{there_is}
 use Rattle.checked_rows.proofs.of_plan_orders.DeliverLemmas.{alone_of, receivers_of, senders_of}
-use Rattle.checked_rows.proofs.of_needs_runs.HoldsLemmas.{both_true, every_all}
+use Rattle.checked_rows.proofs.of_needs_runs.HoldsLemmas.{every_all}
 use Rattle.message_runs.proofs.DeliverLemmas.{all_pass, few_is}
 use Rattle.checked_messages.specs.Going.{GoesOn, KeepsShare}
 use Rattle.checked_messages.proofs.HeldLemmas.{ReadsAll}
@@ -191,7 +192,7 @@ module _ (code : Tables) (row : ℕ → Collective) (all : Abreast) (State : ℕ
         && nat_le (times q (to_of code row before p)) 1)
         (λ q b. ap₂ (λ to from. (times q to == times p from) && nat_le (times q to) 1) (to_same p a)
         (from_same q b)
-        ∙ both_true (times q (to p) == times p (from q)) (nat_le (times q (to p)) 1)
+        ∙ and_from (times q (to p) == times p (from q)) (nat_le (times q (to p)) 1)
         (eq-eqb (times q (to p)) (times p (from q)) (partners.both_ways p q a b))
         (few_is (times q (to p)) (partners.once p q a b))))
 
@@ -211,9 +212,9 @@ module _ (code : Tables) (row : ℕ → Collective) (all : Abreast) (State : ℕ
           next = next_with code row before heard [];
           goes =
               ap (λ b. go_where b (bytes code row before heard) (next_with code row before heard
-              [])) (both_true (is_quiet all && are_partners code (to_of code row before)
+              [])) (and_from (is_quiet all && are_partners code (to_of code row before)
               (from_of code row before)) (every code (does_well code row before heard))
-              (both_true (is_quiet all) (are_partners code (to_of code row before)
+              (and_from (is_quiet all) (are_partners code (to_of code row before)
               (from_of code row before)) (ap are_none quiet)
               (partners_are acts.to acts.from to_is from_is partners))
               (all_well heard hears));
@@ -247,10 +248,10 @@ module _ (code : Tables) (row : ℕ → Collective) (all : Abreast) (State : ℕ
           goes =
               ap (λ b. go_where b (bytes code row before heard)
               (next_with code row before heard flights))
-              (both_true (is_roomy links (length all.flights)
+              (and_from (is_roomy links (length all.flights)
               && every_two code (λ p q. nat_le (times q (to_of code row before p)) 1))
               (every code (does_well code row before heard))
-              (both_true (is_roomy links (length all.flights))
+              (and_from (is_roomy links (length all.flights))
               (every_two code (λ p q. nat_le (times q (to_of code row before p)) 1)) roomy
               (every_all code (λ p. every code (λ q. nat_le (times q (to_of code row before p)) 1))
               (λ p a. every_all code (λ q. nat_le (times q (to_of code row before p)) 1)
@@ -278,10 +279,10 @@ module _ (code : Tables) (row : ℕ → Collective) (all : Abreast) (State : ℕ
           goes =
               ap (λ fs. finished_in code row all exchange fs) first
               ∙ ap (λ b. go_where b (bytes code row before heard) (of_processors code all behind))
-              (both_true (flight.exchange == exchange
+              (and_from (flight.exchange == exchange
               && are_partners code flight.to (from_of code row before))
               (every code (does_well code row before heard))
-              (both_true (flight.exchange == exchange)
+              (and_from (flight.exchange == exchange)
               (are_partners code flight.to (from_of code row before))
               (eq-eqb flight.exchange exchange same)
               (every_all code
@@ -294,7 +295,7 @@ module _ (code : Tables) (row : ℕ → Collective) (all : Abreast) (State : ℕ
               let is = partners p q a b in
               ap (λ from. (times q (flight.to p) == times p from) && nat_le (times q
               (flight.to p)) 1) (from_is q b)
-              ∙ both_true (times q (flight.to p) == times p (acts.from q))
+              ∙ and_from (times q (flight.to p) == times p (acts.from q))
               (nat_le (times q (flight.to p)) 1)
               (eq-eqb (times q (flight.to p)) (times p (acts.from q)) is.0)
               (few_is (times q (flight.to p)) is.1)))))

@@ -6,6 +6,7 @@ use Rattle.std.specs.Prelude.{drop, slice_get}
 use Rattle.std.specs.List.{filter_map, flat_map, list_any}
 use Rattle.std.specs.Option.{IsNone, IsSomeAnd, IfSome}
 use Rattle.std.proofs.lemmas.List.Elements.{All-head, All-tail}
+use Rattle.std.proofs.lemmas.Bool.{and_parts}
 use Rattle.zpl_nums.specs.declared.ends.Border.{Border as Edge}
 use Rattle.zpl_nums.specs.declared.folds.Fold.{Fold}
 use Rattle.zpl_region.specs.Region.{inside_of, outside_of}
@@ -31,7 +32,6 @@ use Rattle.checked_rows.specs.of_plan_meaning.Abreast.{Abreast}
 use Rattle.checked_rows.specs.of_plan_meaning.Messages.{delivered, remapped}
 use Rattle.checked_rows.specs.of_needs_runs.Agree.{HasLayout}
 use Rattle.checked_rows.proofs.of_needs_runs.FlatLemmas.{are_blocks, fit}
-use Rattle.checked_rows.proofs.of_needs_runs.HoldsLemmas.{both_parts}
 use Rattle.message_runs.proofs.OwnLemmas.{all_among}
 use Rattle.checked_rows.specs.of_node_check.Demand.{are_none, are_held, do_agree, has_border, has_own, is_held}
 use Rattle.checked_rows.specs.of_node_check.Demand.{slots_made}
@@ -127,11 +127,11 @@ module _ (code : Tables) (layout : HasLayout code) (all : Abreast) (alike : Stan
       → GoesOn code all [] (delivered code (λ p. delivery.flooded code p array target from source)
       all)
   flood_met array target from source fits e =
-      let (front, reads) = both_parts (are_none opened && do_agree facts same.Flood target source
+      let (front, reads) = and_parts (are_none opened && do_agree facts same.Flood target source
       && are_held code facts opened target (array ∷ [])) _ e in
-      let (first, sets) = both_parts (are_none opened && do_agree facts same.Flood target source) _
+      let (first, sets) = and_parts (are_none opened && do_agree facts same.Flood target source) _
       front in
-      let (none, agree) = both_parts (are_none opened) (do_agree facts same.Flood target source)
+      let (none, agree) = and_parts (are_none opened) (do_agree facts same.Flood target source)
       first in
       let (one, two, its, other) = fits.fit in
       let dest = in_slot code all facts told layout alike fits.rank target one in
@@ -149,11 +149,11 @@ module _ (code : Tables) (layout : HasLayout code) (all : Abreast) (alike : Stan
       → GoesOn code all [] (delivered code (λ p. delivery.parted code p array target f from source)
       all)
   part_met array target f from source fits e =
-      let (front, reads) = both_parts (are_none opened && do_agree facts same.Part target source
+      let (front, reads) = and_parts (are_none opened && do_agree facts same.Part target source
       && are_held code facts opened target (array ∷ [])) _ e in
-      let (first, sets) = both_parts (are_none opened && do_agree facts same.Part target source) _
+      let (first, sets) = and_parts (are_none opened && do_agree facts same.Part target source) _
       front in
-      let (none, agree) = both_parts (are_none opened) (do_agree facts same.Part target source)
+      let (none, agree) = and_parts (are_none opened) (do_agree facts same.Part target source)
       first in
       let (one, two, its, other) = fits.fit in
       let dest = in_slot code all facts told layout alike fits.rank target one in
@@ -167,10 +167,10 @@ module _ (code : Tables) (layout : HasLayout code) (all : Abreast) (alike : Stan
       → FitsInstr code (instr.Edge kind array slot shift) → Owns (instr.Edge kind array slot shift)
       → GoesOn code all [] (delivered code (λ p. delivery.edged code p kind array slot shift) all)
   edge_met kind array slot shift three fits e =
-      let (front, inner) = both_parts (are_none opened && has_border facts slot shift
+      let (front, inner) = and_parts (are_none opened && has_border facts slot shift
       && list_any (is_held code facts array unmoved) (slots_made facts Of slot shift)) _ e in
-      let (first, outer) = both_parts (are_none opened && has_border facts slot shift) _ front in
-      let (none, border) = both_parts (are_none opened) (has_border facts slot shift) first in
+      let (first, outer) = and_parts (are_none opened && has_border facts slot shift) _ front in
+      let (none, border) = and_parts (are_none opened) (has_border facts slot shift) first in
       let (one, its, _) = fits.fit in
       let in_it = in_slot code all facts told layout alike fits.rank slot one in
       let region = in_it.region in
@@ -202,7 +202,7 @@ module _ (code : Tables) (layout : HasLayout code) (all : Abreast) (alike : Stan
       → GoesOn code all []
       (delivered code (λ p. scan.scanned_row code p f along from mask array slot) all)
   scan_met array slot f along from mask fits e =
-      let (none, held) = both_parts (are_none opened) _ e in
+      let (none, held) = and_parts (are_none opened) _ e in
       let (one, its, other, masked, _) = fits.fit in
       let in_it = in_slot code all facts told layout alike fits.rank slot one in
       scan_goes code all alike (still none) array slot f along from mask in_it.region in_it.here
@@ -229,7 +229,7 @@ module _ (code : Tables) (layout : HasLayout code) (all : Abreast) (alike : Stan
       → Owns (instr.Gather truth array slot)
       → GoesOn code all [] (delivered code (λ p. gather.gathered code p truth array slot) all)
   gather_met truth array slot fits e =
-      let (none, held) = both_parts (are_none opened) _ e in
+      let (none, held) = and_parts (are_none opened) _ e in
       let (one, its) = fits.fit in
       let in_it = in_slot code all facts told layout alike fits.rank slot one in
       gather_goes code all alike (still none) truth array slot in_it.region in_it.here
@@ -243,7 +243,7 @@ module _ (code : Tables) (layout : HasLayout code) (all : Abreast) (alike : Stan
       → GoesOn code all [] (remapped code
       (λ p. remap.remapped code p array slot from (filter_map (λ part. part) index) row) all)
   remap_met array slot from index fits e row there =
-      let (none, held) = both_parts (are_none opened) _ e in
+      let (none, held) = and_parts (are_none opened) _ e in
       let (one, its, _, source) = fits.fit in
       let in_it = in_slot code all facts told layout alike fits.rank slot one in
       let fact = fact_of (slice_get code.arrays from) source there in

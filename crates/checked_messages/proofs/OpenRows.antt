@@ -18,7 +18,7 @@ use Rattle.grid_meaning.specs.Local.{processors}
 use Rattle.grid_meaning.specs.State.{HasParts, IsSlot}
 use Rattle.row_orders.specs.Agreement.{joined_over}
 use Rattle.row_orders.specs.Rows.{HasRoom}
-use Rattle.row_runs.specs.Run.{Goes, Step, Stops, Wrong}
+use Rattle.row_runs.specs.Run.{Goes, Stops, Wrong}
 use Rattle.checked_rows.specs.of_plan_meaning.Abreast.{Abreast, Share, are_none, go_where, is_quiet, locals_of}
 use Rattle.checked_rows.specs.of_plan_meaning.Abreast.{standing}
 use Rattle.checked_rows.specs.of_plan_meaning.Act.{ends_where, folded, voted, voted_as}
@@ -46,8 +46,6 @@ items_fit code number items fits there =
     all_get (FitsExchange code) code.exchanges number items fits there
 
 -- ---- votes and folds
-abbrev IsRightStep : Step Abreast → Type 0
-IsRightStep step = step ≢ Stops Wrong
 
 pub vote_right : (code : Tables) (all : Abreast) (group : ℕ) → all.flights ≡ []
     → voted code all group ≢ Stops Wrong

@@ -10,6 +10,7 @@ use Rattle.std.proofs.lemmas.Bool.Decides.{nat_tests}
 use Rattle.std.proofs.lemmas.Int.{ints}
 use Rattle.std.proofs.lemmas.List.{length-map}
 use Rattle.std.proofs.lemmas.List.Elements.{All-cons, All-head, All-nil, All-tail}
+use Rattle.std.proofs.lemmas.Bool.{and_parts, and_from}
 use Rattle.zpl_region.specs.declared.dims.Dim.{Dim}
 use Rattle.zpl_region.specs.declared.dims.Dim.TheVariants as dim
 use Rattle.zpl_region.specs.declared.regions.Region.{Region}
@@ -46,7 +47,6 @@ use Rattle.checked_rows.specs.of_plan_meaning.of_flat_form.Whole.{start_whole}
 use Rattle.checked_rows.specs.of_needs_runs.Agree.{HasLayout}
 use Rattle.checked_rows.specs.of_needs_runs.Holds.{lies_in_own}
 use Rattle.checked_rows.proofs.of_needs_runs.BeginLemmas.{begins}
-use Rattle.checked_rows.proofs.of_needs_runs.HoldsLemmas.{both_parts, both_true}
 use Rattle.checked_rows.proofs.of_needs_runs.PlaceLemmas.{held_there, place_of_held}
 use Rattle.checked_rows.proofs.of_needs_runs.SlotLemmas.{zip_there}
 use Rattle.message_runs.proofs.GatherRows.{met_steps}
@@ -123,7 +123,7 @@ lying_covers (Star ∷ rows) (dim.Flood ∷ dims) e = lying_covers rows dims e
 lying_covers (Star ∷ rows) (dim.Range lo hi step align ∷ dims) e = lying_covers rows dims e
 lying_covers (Range a b c d ∷ rows) (dim.Flood ∷ dims) e = cc
 lying_covers (Range a b c d ∷ rows) (dim.Range lo hi step align ∷ dims) e =
-    lying_covers rows dims (both_parts (dim_lies_in (dim.Range lo hi step align)
+    lying_covers rows dims (and_parts (dim_lies_in (dim.Range lo hi step align)
     (dim.Range a b (pos 1) a)) (each_lies_in dims (map storage_dim rows)) e).1
 
 -- ---- the places that a temporary is given
@@ -138,11 +138,11 @@ rooms_cover (row ∷ rows) (h ∷ hulls) [] long steps are = absurd are
 rooms_cover (Star ∷ rows) (h ∷ hulls) (x ∷ t) long steps are =
     rooms_cover rows hulls t (omega (arith, long)) (All-tail HasStep h hulls steps) are.1
 rooms_cover (Range a b c e ∷ rows) (dim.Flood ∷ hulls) (x ∷ t) long steps are =
-    both_true (is_coordinate (all_from (pos 0) (pos 0)) x) _
+    and_from (is_coordinate (all_from (pos 0) (pos 0)) x) _
     (ap (is_coordinate (all_from (pos 0) (pos 0))) are.0)
     (rooms_cover rows hulls t (omega (arith, long)) (All-tail HasStep dim.Flood hulls steps) are.1)
 rooms_cover (Range a b c e ∷ rows) (dim.Range lo hi step align ∷ hulls) (x ∷ t) long steps are =
-    both_true (is_coordinate (dim.Range lo hi step align) x) _
+    and_from (is_coordinate (dim.Range lo hi step align) x) _
     ((is_coordinate_iff (dim.Range lo hi step align) x
     (All-head HasStep (dim.Range lo hi step align) hulls steps)).1 are.0)
     (rooms_cover rows hulls t (omega (arith, long))

@@ -10,7 +10,7 @@ use Rattle.std.specs.Prelude.{if◌then◌else◌, option_and_then, slice_get, u
 use Rattle.std.specs.List.{AllZip, flat_map, list_all}
 use Rattle.std.specs.Option.{option_map}
 use Rattle.std.proofs.Math.Nat.{mul-mod_left}
-use Rattle.std.proofs.lemmas.Bool.{lt-leb, ne_eqb}
+use Rattle.std.proofs.lemmas.Bool.{lt-leb, ne_eqb, and_from}
 use Rattle.std.proofs.lemmas.Bool.Decides.{nat_tests}
 use Rattle.std.proofs.lemmas.List.{length-map}
 use Rattle.std.proofs.lemmas.List.Elements.{All-head, All-tail}
@@ -43,7 +43,7 @@ use Rattle.checked_rows.specs.of_plan_meaning.Abreast.{Abreast, locals_of}
 use Rattle.checked_rows.specs.of_plan_meaning.of_flat_form.Right.{each_matches}
 use Rattle.checked_rows.specs.of_needs_runs.Agree.{HasLayout}
 use Rattle.checked_rows.proofs.of_needs_runs.FlatLemmas.{are_blocks, fit, three}
-use Rattle.checked_rows.proofs.of_needs_runs.HoldsLemmas.{both_true, some_processors}
+use Rattle.checked_rows.proofs.of_needs_runs.HoldsLemmas.{some_processors}
 use Rattle.message_runs.proofs.FlatLemmas.{lies_there}
 use Rattle.message_runs.proofs.GatherRows.{Keeps, found_words}
 use Rattle.message_runs.proofs.HomeLemmas.{home_is}
@@ -65,7 +65,7 @@ all_mapped : {X Y : Type 0} (test : Y → Bool) (f : X → Y) (xs : List X)
     → ((x : X) → Among xs x → test (f x) ≡ true) → list_all test (map f xs) ≡ true
 all_mapped test f [] each = refl
 all_mapped test f (x ∷ xs) each =
-    both_true (test (f x)) (list_all test (map f xs)) (each x (inl refl))
+    and_from (test (f x)) (list_all test (map f xs)) (each x (inl refl))
     (all_mapped test f xs (λ y later. each y (inr later)))
 
 -- a wanted tuple has a coordinate for each of three dimensions, and past its parts 0

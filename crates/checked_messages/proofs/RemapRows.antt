@@ -6,6 +6,7 @@ use Rattle.std.proofs.Common.{is_some}
 use Rattle.std.proofs.Common.{arith, eq-eqb}
 use Rattle.std.specs.Prelude.{drop, is_none, option_and_then, unwrap_or}
 use Rattle.std.specs.List.{list_all}
+use Rattle.std.proofs.lemmas.Bool.{and_from}
 use Rattle.zpl_region.proofs.ListLemmas.{Among, among_filtered}
 use Rattle.grid_paths.specs.Tree.{times}
 use Rattle.node_form.specs.declared.tables.Tables.{Tables}
@@ -25,7 +26,7 @@ use Rattle.checked_rows.specs.of_plan_meaning.Messages as plan
 use Rattle.checked_rows.proofs.of_plan_orders.RemapLemmas.{asking_stages, back_from, names_of, receivers_are}
 use Rattle.checked_rows.proofs.of_plan_orders.RemapLemmas.{senders_are, stages_are}
 use Rattle.checked_rows.specs.of_needs_runs.Agree.{HasLayout}
-use Rattle.checked_rows.proofs.of_needs_runs.HoldsLemmas.{both_true, every_all}
+use Rattle.checked_rows.proofs.of_needs_runs.HoldsLemmas.{every_all}
 use Rattle.message_runs.proofs.DeliverLemmas.{all_pass, few_is, taking_same}
 use Rattle.message_runs.proofs.RemapKeptLemmas.{asked_by, asks_from, filter_few, named_keeps}
 use Rattle.message_runs.proofs.RemapKeptLemmas.{remap_partners, request_there}
@@ -242,7 +243,7 @@ module _ (code : Tables) (layout : HasLayout code) (all : Abreast) (alike : Stan
       && nat_le (times q (answers_to code row all p)) 1)
       (λ q b. ap₂ (λ to from. (times q to == times p from) && nat_le (times q to) 1) (to_is p a)
       (from_is q b)
-      ∙ both_true (times q (to_reply p) == times p (from_asked q)) (nat_le (times q (to_reply p)) 1)
+      ∙ and_from (times q (to_reply p) == times p (from_asked q)) (nat_le (times q (to_reply p)) 1)
       (eq-eqb (times q (to_reply p)) (times p (from_asked q)) (partners.both_ways p q a b))
       (few_is (times q (to_reply p)) (partners.once p q a b))))
 
@@ -262,9 +263,9 @@ module _ (code : Tables) (layout : HasLayout code) (all : Abreast) (alike : Stan
               (behind_answers code row all p)));
           flights = [];
         }))
-        (both_true (is_quiet all && are_partners code (answers_to code row all)
+        (and_from (is_quiet all && are_partners code (answers_to code row all)
         (answers_from code row all)) (every code (remaps_well code row all))
-        (both_true (is_quiet all) (are_partners code (answers_to code row all)
+        (and_from (is_quiet all) (are_partners code (answers_to code row all)
         (answers_from code row all)) (ap are_none quiet) partners_are)
         (every_all code (remaps_well code row all) well));
     keeps = λ p below. (at_last p below).behind.keeps;

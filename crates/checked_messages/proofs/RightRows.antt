@@ -9,6 +9,7 @@ use Rattle.std.specs.Prelude.{if◌then◌else◌, slice_get}
 use Rattle.std.specs.List.{filter_map, list_all, list_any}
 use Rattle.std.specs.Option.{IsSomeAnd}
 use Rattle.std.proofs.lemmas.List.Elements.{All-cons, All-nil}
+use Rattle.std.proofs.lemmas.Bool.{and_parts}
 use Rattle.zpl_nums.specs.declared.ends.Border.{Border as Edge}
 use Rattle.zpl_nums.specs.declared.folds.Fold.{Fold}
 use Rattle.code_parts.specs.Uses.{rows_or_none}
@@ -35,7 +36,7 @@ use Rattle.checked_rows.specs.of_plan_meaning.Abreast.{Abreast}
 use Rattle.checked_rows.specs.of_plan_meaning.Act.{found}
 use Rattle.checked_rows.specs.of_plan_meaning.Messages.{delivered, finished, remapped, started}
 use Rattle.checked_rows.specs.of_needs_runs.Agree.{HasLayout}
-use Rattle.checked_rows.proofs.of_needs_runs.HoldsLemmas.{both_parts, same_number}
+use Rattle.checked_rows.proofs.of_needs_runs.HoldsLemmas.{same_number}
 use Rattle.checked_rows.proofs.of_needs_runs.RoomRows.{all_get}
 use Rattle.checked_rows.specs.of_node_check.Demand.{are_held, are_none, do_agree, has_border, has_own, is_first}
 use Rattle.checked_rows.specs.of_node_check.Demand.{is_held}
@@ -93,7 +94,7 @@ near_items : (code : Tables) (items : List Item)
     → All (λ (item : Item). is_near code item.array item.shift ≡ true) items
 near_items code [] e = All-nil (λ (item : Item). is_near code item.array item.shift ≡ true)
 near_items code (item ∷ items) e =
-    let parts = both_parts (is_near code item.array item.shift) _ e in
+    let parts = and_parts (is_near code item.array item.shift) _ e in
     All-cons (λ (item : Item). is_near code item.array item.shift ≡ true) item items parts.0
     (near_items code items parts.1)
 
@@ -108,7 +109,7 @@ after_is : {shown bytes : List ℕ} {one other : Abreast} → Does (Goes shown o
 after_is e = cc
 
 front : (a b : Bool) → (a && b) ≡ true → a ≡ true
-front a b e = (both_parts a b e).0
+front a b e = (and_parts a b e).0
 
 -- none is open behind a row with messages other than an exchange
 none_behind : (code : Tables) (all after : Abreast) (opened : List ℕ) → are_none opened ≡ true
@@ -153,7 +154,7 @@ module _ (code : Tables) (tables : AreTables code) (links : Option ℕ) (n : ℕ
       typed_in = all_get IsTypedRow code.code meets.at row tables.typed.code meets.here
 
       owns_in : has_own code facts opened row ≡ true
-      owns_in = (both_parts (has_own code facts opened row) _ meets.met).0
+      owns_in = (and_parts (has_own code facts opened row) _ meets.met).0
 
   -- ---- rows whose words are taken where they are sent
   edge_on : (kind : Edge) (array slot : ℕ) (shift : List ℤ) (opened : List ℕ) (facts : List Fact)

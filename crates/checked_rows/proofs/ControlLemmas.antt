@@ -3,6 +3,7 @@ use Rattle.std.proofs.Common.{◌≡◌, ◌≢◌, ◌<◌, ℕ, Bool, true, fa
 use Rattle.std.proofs.Common.{true≢false, ◌==◌, eq-eqb, ℤ, List, [], Option, Some}
 use Rattle.std.specs.Prelude.{◌&&◌, slice_get, take}
 use Rattle.std.specs.Cmp.Lexicographic.{pointwise}
+use Rattle.std.proofs.lemmas.Bool.{and_parts as both}
 use Rattle.zpl_nums.specs.Integer.{is_true}
 use Rattle.zpl_nums.specs.declared.ends.End.{End}
 use Rattle.zpl_nums.specs.declared.ends.End.TheVariants.{Done, Trap}
@@ -35,7 +36,6 @@ use Rattle.plan_meaning.specs.Act.{shares_on, tested}
 use Rattle.plan_meaning.proofs.SlotLemmas.{slots-Decides}
 use Rattle.plan_passes.proofs.SentLemmas.{at_every}
 use Rattle.plan_orders.specs.Brings.{standing_at}
-use Rattle.plan_orders.proofs.TestLemmas.{both}
 use Rattle.checked_rows.specs.Right.{AllEndThere, Fares, GoesRight}
 
 -- ---- ways that are one

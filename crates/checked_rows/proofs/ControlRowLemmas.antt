@@ -5,6 +5,7 @@ use Rattle.std.specs.Prelude.{◌&&◌, ◌||◌, Contains, not, option_and_then
 use Rattle.std.specs.List.{AllZip, list_all}
 use Rattle.std.specs.Option.{IsSomeAnd}
 use Rattle.std.proofs.lemmas.List.Elements.{All-head, All-tail, All-take}
+use Rattle.std.proofs.lemmas.Bool.{and_parts}
 use Rattle.zpl_region.specs.declared.dims.Dim.TheVariants as dim
 use Rattle.zpl_region.specs.declared.regions.Region.{Region}
 use Rattle.node_form.specs.Control as control
@@ -22,7 +23,7 @@ use Rattle.grid_meaning.specs.State.{IsSlot}
 use Rattle.plan_meaning.specs.Abreast.{Abreast}
 use Rattle.plan_meaning.specs.Act.{control_of}
 use Rattle.plan_passes.proofs.of_needs_runs.HoldsLemmas.{some_processors}
-use Rattle.plan_orders.proofs.TestLemmas.{all_at, both}
+use Rattle.plan_orders.proofs.TestLemmas.{all_at}
 use Rattle.code_parts.specs.Uses.{may_divide}
 use Rattle.typed_tables.specs.Typed.{IsTypedRow}
 use Rattle.node_check.specs.Demand.{has_own, is_uniform_part, leaves_slots}
@@ -61,7 +62,7 @@ passed_take : {X : Type 0} (test : X → Bool) (k : ℕ) (xs : List X) → list_
 passed_take test zero xs all = refl
 passed_take test (suc k) [] all = refl
 passed_take test (suc k) (x ∷ xs) all =
-    let parts = both (test x) (list_all test xs) all in
+    let parts = and_parts (test x) (list_all test xs) all in
     ap₂ (λ a b. a && b) parts.0 (passed_take test k xs parts.1)
 
 -- a row that needs scalars and slots alone
@@ -92,7 +93,7 @@ module _ (code : Tables) (tables : AreTables code) (a b : List ℤ) (xs : List R
   part_alike : (number : ℕ) (one : DimRow) → is_uniform_part code facts one ≡ true
       → part_dim code (regs a xs) number one ≡ part_dim code (regs b xs) number one
   part_alike number (part.Span low high) uniform =
-      let parts = both (is_uniform code facts low) (is_uniform code facts high) uniform in
+      let parts = and_parts (is_uniform code facts low) (is_uniform code facts high) uniform in
       ap₂ (λ lo hi. and_then (λ x. mapped (λ y. dim.Range x y (pos 1) x) hi) lo)
       (value_alike low parts.0) (value_alike high parts.1)
   part_alike number part.Star uniform = refl
@@ -103,7 +104,7 @@ module _ (code : Tables) (tables : AreTables code) (a b : List ℤ) (xs : List R
       → part_dims code (regs a xs) number parts ≡ part_dims code (regs b xs) number parts
   parts_alike number [] uniform = refl
   parts_alike number (one ∷ parts) uniform =
-      let halves = both (is_uniform_part code facts one)
+      let halves = and_parts (is_uniform_part code facts one)
       (list_all (is_uniform_part code facts) parts)
       uniform in
       ap₂ (λ d rest. and_then (λ first. mapped (λ rest. first ∷ rest) rest) d)
@@ -242,7 +243,7 @@ module _ (code : Tables) (tables : AreTables code) (links : Option ℕ) (n : ℕ
       (let long = (meets.faced.parts p below).scalars in omega (arith, long)) row
       (all_at (FitsInstr code) code.code meets.at row tables.fits.code meets.here)
       (all_at IsTypedRow code.code meets.at row tables.typed.code meets.here) opened
-      (both (has_own code facts opened row) (leaves_slots code opened row) meets.met).0 is)
+      (and_parts (has_own code facts opened row) (leaves_slots code opened row) meets.met).0 is)
 
   abbrev Fare : Instr → Type 0
   Fare row = RowFares code links n row

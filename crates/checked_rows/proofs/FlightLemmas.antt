@@ -5,6 +5,7 @@ use Rattle.std.proofs.Math.Path.{fun_ext}
 use Rattle.std.proofs.lemmas.List.Sums.{sum_by-cons}
 use Rattle.std.specs.Prelude.{not, slice_get}
 use Rattle.std.specs.List.{list_all}
+use Rattle.std.proofs.lemmas.Bool.{and_parts, not-true}
 use Rattle.node_form.specs.declared.arrays.Item.{Item}
 use Rattle.node_form.specs.declared.instructions.Instr.{Instr}
 use Rattle.node_form.specs.declared.instructions.Instr.TheVariants as instr
@@ -17,13 +18,11 @@ use Rattle.grid_meaning.specs.Exchange.{places_in, places_of, word_count}
 use Rattle.grid_meaning.specs.Local.{Local, processors}
 use Rattle.row_orders.specs.Rows.{Flight}
 use Rattle.plan_meaning.specs.Abreast.{Abreast, locals_of}
-use Rattle.plan_orders.proofs.TestLemmas.{both}
 use Rattle.node_check.specs.Demand.{has_own, leaves_slots}
 use Rattle.node_check.specs.Learn.{is_among}
 use Rattle.node_check.specs.Path.{open_behind}
 use Rattle.node_check.proofs.EffectLemmas.{behind_row}
 use Rattle.node_check.proofs.FrameLemmas.{Leaves, leaves_of}
-use Rattle.node_check.proofs.ToldLemmas.{not_same}
 use Rattle.checked_rows.specs.Faced.{AreFlightsOf, IsFlightOf}
 use Rattle.checked_rows.specs.Right.{KeepsFlights}
 use Rattle.checked_rows.proofs.BehindLemmas.{Stays, stays_behind}
@@ -37,12 +36,12 @@ module _ (code : Tables) (slots : List ℕ) (one other : Local)
       → word_count code other items from to ≡ word_count code one items from to
   words_same from to [] all = refl
   words_same from to (item ∷ items) all =
-      let parts = both (not (is_among slots item.slot))
+      let parts = and_parts (not (is_among slots item.slot))
       (list_all (λ (item : Item). not (is_among slots item.slot)) items) all in
       sum_by-cons (λ item. length (places_of code other from to item)) item items
       ∙ (ap₂ (λ a b. a + b)
       (ap (λ o. length (places_in code from to item o))
-      (same item.slot (not_same (is_among slots item.slot) parts.0)))
+      (same item.slot (not-true (is_among slots item.slot) parts.0)))
       (words_same from to items parts.1)
       ∙ sym (sum_by-cons (λ item. length (places_of code one from to item)) item items))
 
@@ -87,7 +86,7 @@ module _ (code : Tables) (slots : List ℕ) (all after : Abreast)
   flights_kept [] (flight ∷ flights) left are = absurd are
   flights_kept (exchange ∷ opened) [] left are = absurd are
   flights_kept (exchange ∷ opened) (flight ∷ flights) left are =
-      let parts = both (list_all (λ (item : Item). not (is_among slots item.slot))
+      let parts = and_parts (list_all (λ (item : Item). not (is_among slots item.slot))
       (items_of code exchange))
       (list_all (λ exchange. list_all (λ (item : Item). not (is_among slots item.slot))
       (items_of code exchange)) opened) left in
@@ -117,5 +116,5 @@ other_keeps code links n row straight other next opened facts all after bytes me
     (sym (same_opened opened row other))
     (subst (λ flights. AreFlightsOf code after opened flights) (sym (stays.flights other))
     (flights_kept code (written_slots row) all after same opened all.flights
-    (both (has_own code facts opened row) (leaves_slots code opened row) meets.met).1
+    (and_parts (has_own code facts opened row) (leaves_slots code opened row) meets.met).1
     meets.faced.flights))

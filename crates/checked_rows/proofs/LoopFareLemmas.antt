@@ -8,6 +8,7 @@ use Rattle.std.specs.Option.{IfSome, IsSomeAnd, option_map}
 use Rattle.std.specs.Ordering.{int_eq}
 use Rattle.std.proofs.lemmas.Int.{ints}
 use Rattle.std.proofs.lemmas.List.Elements.{All-cons, All-head, All-nil, All-tail}
+use Rattle.std.proofs.lemmas.Bool.{and_parts, or_cases}
 use Rattle.zpl_region.specs.declared.regions.Region.{Region}
 use Rattle.zpl_region.specs.Dim.{IsUpTo}
 use Rattle.zpl_region.specs.Ends.{has_none}
@@ -44,7 +45,7 @@ use Rattle.plan_meaning.specs.Act.{found, is_vote_of}
 use Rattle.plan_meaning.specs.Loops.{LacksPlace, Shared, Through, WantsTurn, lacks, looped, part_shared}
 use Rattle.plan_meaning.specs.Loops.{point_of, shared, tree_looped, wants}
 use Rattle.plan_passes.proofs.SentLemmas.{at_every}
-use Rattle.plan_orders.proofs.TestLemmas.{all_at, both}
+use Rattle.plan_orders.proofs.TestLemmas.{all_at}
 use Rattle.node_check.specs.Demand.{has_own, has_place as has_demanded, is_held, is_near, is_stored, is_stored_row}
 use Rattle.node_check.specs.Demand.{is_vector, leaves_slots, places_in, places_of, tells_held}
 use Rattle.node_check.specs.declared.facts.Fact.{Fact}
@@ -66,10 +67,6 @@ all_in P [] all x h = absurd h
 all_in P (y ∷ xs) all x (inl is) = subst P is (All-head P y xs all)
 all_in P (y ∷ xs) all x (inr h) = all_in P xs (All-tail P y xs all) x h
 
-or_cases : (a b : Bool) → (a || b) ≡ true → (a ≡ true) ⊎ (b ≡ true)
-or_cases true b e = inl refl
-or_cases false b e = inr e
-
 -- ---- vectors
 int_same : (x y : ℤ) → int_eq x y ≡ true → x ≡ y
 int_same x y e = grind (arith, ints)
@@ -79,7 +76,7 @@ vector_same [] [] e = refl
 vector_same [] (y ∷ other) e = cc
 vector_same (x ∷ one) [] e = cc
 vector_same (x ∷ one) (y ∷ other) e =
-    let parts = both (int_eq x y) (pointwise int_eq one other) e in
+    let parts = and_parts (int_eq x y) (pointwise int_eq one other) e in
     ap₂ (λ h l. h ∷ l) (int_same x y parts.0) (vector_same one other parts.1)
 
 add_none : (x : ℤ) → x +ℤ pos 0 ≡ x
@@ -97,8 +94,8 @@ still (x ∷ (y ∷ (z ∷ t))) =
 told_held : (slot array : ℕ) (shift : List ℤ) (fact : Fact)
     → tells_held slot array shift fact ≡ true → fact ≡ Held slot array shift
 told_held slot array shift (Held other of by) e =
-    let parts = both (other == slot) (of == array && is_vector by shift) e in
-    let more = both (of == array) (is_vector by shift) parts.1 in
+    let parts = and_parts (other == slot) (of == array && is_vector by shift) e in
+    let more = and_parts (of == array) (is_vector by shift) parts.1 in
     ap₂ (λ s a. Held s a by) (eqb-true other slot parts.0) (eqb-true of array more.0)
     ∙ ap (Held slot array) (vector_same by shift more.1)
 told_held slot array shift fact e = absurd (true≢false (sym e))
@@ -154,7 +151,7 @@ module _ (code : Tables) (links : Option ℕ) (row : Instr) (opened : List ℕ) 
           told fact (slice_get code.arrays array) refl
           (meets.faced.told.told (Held slot array shift) fact refl region has)
       by (inr some) =
-          let parts = both (is_stored code array)
+          let parts = and_parts (is_stored code array)
           (list_any (passes code array shift) (regions_of facts slot)) some in
           let one = one_passes (passes code array shift) (regions_of facts slot) parts.1 in
           passed (slice_get code.arrays array) refl parts.0 one.x
@@ -320,7 +317,7 @@ module _ (code : Tables) (tables : AreTables code) (links : Option ℕ) (n slot 
       → Reaches code tables.fits (all.shares p).stores t place
   reach one fit demanded t h place k =
       let place_is = place_fits code tables rank low few one fit place k in
-      let demand = both (is_held code facts place.0 place.1 slot) (is_near code place.0 place.1)
+      let demand = and_parts (is_held code facts place.0 place.1 slot) (is_near code place.0 place.1)
       (all_pass (has_demanded code facts slot) (places_of code one) demanded place k) in
       let is = held_there code links row opened facts all meets slot place.0 place.1 region.0
       region.1
@@ -388,7 +385,7 @@ module _ (code : Tables) (tables : AreTables code) (links : Option ℕ) (n slot 
     demanded =
         subst (λ o. list_all (λ one. list_all (has_demanded code facts slot) (places_of code one))
         (rows_or_none o) ≡ true) there
-        (both (has_own code facts opened row) (leaves_slots code opened row) meets.met).0
+        (and_parts (has_own code facts opened row) (leaves_slots code opened row) meets.met).0
 
     have : (t : List ℤ) → (h : In mine t)
         → HaveAll code tables.fits (all.shares p).stores rank few t

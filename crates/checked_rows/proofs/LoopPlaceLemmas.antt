@@ -1,10 +1,11 @@
 -- The places of arrays that a loop names are held at the tuples of a processor's own part.
 use Rattle.std.proofs.Common.{◌≡◌, ◌⊎◌, ◌<◌, inl, inr, ℕ, zero, suc, Bool, true, false, refl, sym, ◌∙◌, ap, subst}
-use Rattle.std.proofs.Common.{true≢false, arith, eqb-true, ℤ, pos, ◌+ℤ◌, List, [], ◌∷◌, length, All, Contains, map}
-use Rattle.std.specs.Prelude.{◌&&◌, ◌||◌, drop, slice_get, Some}
+use Rattle.std.proofs.Common.{arith, eqb-true, ℤ, pos, ◌+ℤ◌, List, [], ◌∷◌, length, All, Contains, map}
+use Rattle.std.specs.Prelude.{drop, slice_get, Some}
 use Rattle.std.specs.List.{AllZip}
 use Rattle.std.proofs.lemmas.Int.{clamps, ints}
 use Rattle.std.proofs.lemmas.List.Elements.{All-cons, All-head, All-nil, All-tail}
+use Rattle.std.proofs.lemmas.Bool.{and_parts, and_from, or_cases}
 use Rattle.zpl_region.specs.declared.dims.Dim.{Dim}
 use Rattle.zpl_region.specs.declared.dims.Dim.TheVariants as dim
 use Rattle.zpl_region.specs.declared.regions.Region.{Region}
@@ -42,15 +43,6 @@ use Rattle.plan_passes.proofs.of_needs_runs.OwnerLemmas.{boxed_steps}
 use Rattle.plan_passes.proofs.of_needs_runs.PieceLemmas.{boxed, held, held_many_dims, kinds, needed_held}
 use Rattle.plan_passes.proofs.of_needs_runs.PieceLemmas.{read_needed, three_dims}
 use Rattle.needs_runs.specs.Agree.{HasLayout}
-use Rattle.plan_orders.proofs.TestLemmas.{both}
-
-or_cases : (a b : Bool) → (a || b) ≡ true → (a ≡ true) ⊎ (b ≡ true)
-or_cases true b e = inl refl
-or_cases false b e = inr e
-
-and_true : (a b : Bool) → a ≡ true → b ≡ true → (a && b) ≡ true
-and_true true b x y = y
-and_true false b x y = absurd (true≢false (sym x))
 
 -- ---- a reference meets no range of the storage with a flood dimension
 covers_of : (rows : List ArrayDim) (v : List ℤ) (dims : List Dim)
@@ -64,11 +56,11 @@ covers_of (Range a b low high ∷ rows) [] (dim.Flood ∷ dims) e = cc
 covers_of (Range a b low high ∷ rows) (c ∷ v) (dim.Flood ∷ dims) e = cc
 covers_of (Range a b low high ∷ rows) [] (dim.Range lo hi step align ∷ dims) e =
     covers_of rows [] dims
-    (both (dim_lies_in (dim.Range lo hi step align) (dim.Range a b (pos 1) a))
+    (and_parts (dim_lies_in (dim.Range lo hi step align) (dim.Range a b (pos 1) a))
     (each_lies_in dims (map storage_dim rows)) e).1
 covers_of (Range a b low high ∷ rows) (c ∷ v) (dim.Range lo hi step align ∷ dims) e =
     covers_of rows v dims
-    (both (dim_lies_in (dim_moved c (dim.Range lo hi step align)) (dim.Range a b (pos 1) a))
+    (and_parts (dim_lies_in (dim_moved c (dim.Range lo hi step align)) (dim.Range a b (pos 1) a))
     (each_lies_in (each dim_moved v dims) (map storage_dim rows)) e).1
 
 -- the place is the same, whether flood dimensions of the region move or not
@@ -89,9 +81,9 @@ same_place (Star ∷ rows) (d ∷ v) (one ∷ dims) (x ∷ t) a b c cover e =
 same_place (Range lo hi low high ∷ rows) (d ∷ v) (dim.Flood ∷ dims) (x ∷ t) a b c cover e = cc
 same_place (Range lo hi low high ∷ rows) (d ∷ v) (dim.Range from to step align ∷ dims) (x ∷ t) a b c
     cover e =
-    let parts = both (is_coordinate (dim.Range lo hi (pos 1) lo) (x +ℤ d))
+    let parts = and_parts (is_coordinate (dim.Range lo hi (pos 1) lo) (x +ℤ d))
     (each_has_place (map storage_dim rows) (each_coordinate_moved v dims t)) e in
-    and_true (is_coordinate (dim.Range lo hi (pos 1) lo) (x +ℤ d)) _ parts.0
+    and_from (is_coordinate (dim.Range lo hi (pos 1) lo) (x +ℤ d)) _ parts.0
     (same_place rows v dims t (omega (arith, a)) (omega (arith, b)) (omega (arith, c)) cover
     parts.1)
 
@@ -159,11 +151,6 @@ flat_vector zero (x ∷ v) zeros =
     rest : (v : List ℤ) → All (λ c. c ≡ pos 0) v → All (λ c. c ≡ pos 0) (drop zero v)
     rest v zeros = zeros
 flat_vector (suc rank) (x ∷ v) zeros = ap (λ u. x ∷ u) (flat_vector rank v zeros)
-
-moved_many : (v t : List ℤ) → length (moved_by v t) ≡ length t
-moved_many [] t = refl
-moved_many (d ∷ v) [] = refl
-moved_many (d ∷ v) (x ∷ t) = ap suc (moved_many v t)
 
 -- ---- of a stored array: what is referred to is held, within its fringes
 module _ (code : Tables) (layout : HasLayout code) (array : ℕ) (row : ArrayRow)
@@ -261,11 +248,11 @@ rooms_here (row ∷ rows) (d ∷ hulls) [] long steps are = absurd are
 rooms_here (Star ∷ rows) (d ∷ hulls) (x ∷ t) long steps are =
     rooms_here rows hulls t (omega (arith, long)) (All-tail HasStep d hulls steps) are.1
 rooms_here (Range a b c e ∷ rows) (dim.Flood ∷ hulls) (x ∷ t) long steps are =
-    and_true (is_coordinate (all_from (pos 0) (pos 0)) x) (each_has_place (each_room rows hulls) t)
+    and_from (is_coordinate (all_from (pos 0) (pos 0)) x) (each_has_place (each_room rows hulls) t)
     (ap (is_coordinate (all_from (pos 0) (pos 0))) are.0)
     (rooms_here rows hulls t (omega (arith, long)) (All-tail HasStep dim.Flood hulls steps) are.1)
 rooms_here (Range a b c e ∷ rows) (dim.Range lo hi step align ∷ hulls) (x ∷ t) long steps are =
-    and_true (is_coordinate (dim.Range lo hi step align) x)
+    and_from (is_coordinate (dim.Range lo hi step align) x)
     (each_has_place (each_room rows hulls) t)
     ((is_coordinate_iff (dim.Range lo hi step align) x
     (All-head HasStep (dim.Range lo hi step align) hulls steps)).1 are.0)

@@ -6,6 +6,7 @@ use Rattle.std.specs.Prelude.{◌==◌, Option, Some, None, flat_map, slice_get}
 use Rattle.std.specs.Prelude.{slice_set}
 use Rattle.std.specs.List.{AllByRecursion, list_any}
 use Rattle.std.specs.Option.{IfSome, option_map}
+use Rattle.std.proofs.lemmas.Bool.{or_parts}
 use Rattle.zpl_nums.specs.Fold.{joined}
 use Rattle.zpl_nums.specs.declared.folds.Fold.{Fold}
 use Rattle.zpl_region.specs.declared.regions.Region.{Region}
@@ -30,7 +31,7 @@ use Rattle.plan_meaning.specs.Loops.{LacksPlace, Shared, Through, WantsTurn, par
 use Rattle.plan_meaning.specs.Loops.{share_behind, shared, tuple_next, tuples_shared, unit_next}
 use Rattle.plan_meaning.specs.Loops.{units_shared}
 use Rattle.plan_passes.proofs.ControlLemmas.{other_set}
-use Rattle.plan_passes.proofs.LoopLemmas.{Misses, differs, misses_both, neither}
+use Rattle.plan_passes.proofs.LoopLemmas.{Misses, differs, misses_both}
 
 -- ---- members that don't accumulate a scalar
 module _ (chosen : ℕ) (start : Option ℤ) where
@@ -105,7 +106,7 @@ module _ (chosen : ℕ) (start : Option ℤ) where
     nest_stays (Keeping cell expr mask line after) none =
         ((mask_stays mask, value_stays expr, keep_stays cell), nest_stays after none)
     nest_stays (Joining scalar fold expr mask line after) none =
-        let parts = neither (scalar == chosen)
+        let parts = or_parts (scalar == chosen)
         (list_any (λ a. a == chosen) (flat_map accumulated_by (members_of after))) none in (
           (
             mask_stays mask,

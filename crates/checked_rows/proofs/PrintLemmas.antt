@@ -4,6 +4,7 @@ use Rattle.std.proofs.Common.{true≢false, arith, ℤ, List, Option, Some, None
 use Rattle.std.specs.Prelude.{slice_get}
 use Rattle.std.specs.Fmt.{signed_decimal}
 use Rattle.std.specs.Option.{IsSomeAnd}
+use Rattle.std.proofs.lemmas.Bool.{and_parts}
 use Rattle.zpl_nums.specs.declared.ends.End.TheVariants.{Trap}
 use Rattle.zpl_nums.specs.declared.ends.TrapKind.TheVariants.{DivideByZero}
 use Rattle.zpl_region.specs.declared.regions.Region.{Region}
@@ -28,7 +29,7 @@ use Rattle.plan_meaning.specs.Messages.{leaves_row}
 use Rattle.plan_passes.proofs.SentLemmas.{at_every}
 use Rattle.plan_passes.proofs.of_needs_runs.HoldsLemmas.{some_processors}
 use Rattle.plan_orders.specs.Brings.{standing_at}
-use Rattle.plan_orders.proofs.TestLemmas.{all_at, both}
+use Rattle.plan_orders.proofs.TestLemmas.{all_at}
 use Rattle.node_check.specs.Demand.{has_own, leaves_slots}
 use Rattle.node_check.specs.declared.facts.Fact.{Fact}
 use Rattle.node_check.specs.Learn.{is_uniform}
@@ -171,7 +172,7 @@ module _ (code : Tables) (tables : AreTables code) (links : Option ℕ) (n : ℕ
   number_fares expr next opened facts all meets wants =
       value_fares (instr.Number expr) expr signed_decimal next opened facts all meets
       (λ p local. refl) refl (fit_here (instr.Number expr) opened facts all meets).fit
-      (both (has_own code facts opened (instr.Number expr))
+      (and_parts (has_own code facts opened (instr.Number expr))
       (leaves_slots code opened (instr.Number expr))
       meets.met).0
 
@@ -179,6 +180,6 @@ module _ (code : Tables) (tables : AreTables code) (links : Option ℕ) (n : ℕ
   truth_fares expr next opened facts all meets wants =
       value_fares (instr.Truth expr) expr truth_text next opened facts all meets
       (λ p local. refl) refl (fit_here (instr.Truth expr) opened facts all meets).fit
-      (both (has_own code facts opened (instr.Truth expr))
+      (and_parts (has_own code facts opened (instr.Truth expr))
       (leaves_slots code opened (instr.Truth expr))
       meets.met).0

@@ -2,6 +2,7 @@
 use Rattle.std.proofs.Common.{◌≡◌, ◌⊎◌, ◌<◌, inl, inr, ℕ, Bool, true, false, ◌==◌, ◌||◌, ◌&&◌, refl, sym, ◌∙◌, ap, subst}
 use Rattle.std.proofs.Common.{arith, eqb-true, ℤ, List, [], ◌∷◌, Contains, Option, Some, map}
 use Rattle.std.specs.Prelude.{filter, not, slice_get, slice_set}
+use Rattle.std.proofs.lemmas.Bool.{not-true}
 use Rattle.zpl_nums.specs.declared.ends.End.{End}
 use Rattle.zpl_nums.specs.declared.folds.Fold.{Fold}
 use Rattle.zpl_region.specs.Tests.{is_within_limit}
@@ -25,7 +26,7 @@ use Rattle.node_check.specs.declared.facts.Fact.TheVariants.{Made, Stands, Unifo
 use Rattle.node_check.specs.Learn.{is_side, is_uniform, learnt, loses, made, made_where, regions_of}
 use Rattle.node_check.specs.Told.{Says}
 use Rattle.node_check.proofs.EffectLemmas.{set_there}
-use Rattle.node_check.proofs.ToldLemmas.{not_same, only_where}
+use Rattle.node_check.proofs.ToldLemmas.{only_where}
 use Rattle.checked_rows.specs.Faced.{AreTables}
 use Rattle.checked_rows.specs.Right.{Faces}
 use Rattle.checked_rows.proofs.BehindLemmas.{Stays, set_scalars, stays_behind}
@@ -224,6 +225,6 @@ module _ (code : Tables) (tables : AreTables code) (links : Option ℕ) (n : ℕ
           ⊎ In (made code facts row) (Uniform scalar) → IsUniform scalar
       by (inl h) =
           let one = unfiltered (λ fact. not (loses code row fact)) facts (Uniform scalar) h in
-          kept_says row meets e scalar (not_same (loses code row (Uniform scalar)) one.1)
+          kept_says row meets e scalar (not-true (loses code row (Uniform scalar)) one.1)
           (contained facts (Uniform scalar) one.0)
       by (inr h) = made_says row meets e scalar h

@@ -16,20 +16,21 @@ use Rattle.node_form.specs.declared.words.ExprOp.TheVariants as word
 use Rattle.node_form.proofs.ValueLemmas.{applied-None, value_of-scalar}
 use Rattle.code_parts.specs.Uses.{divides_in, is_division, may_divide, rows_or_none, scalars_in, words_of}
 use Rattle.code_parts.proofs.ListLemmas.{In, contained, in_back, in_front, one_passes}
-use Rattle.plan_orders.proofs.TestLemmas.{all_at, both}
+use Rattle.plan_orders.proofs.TestLemmas.{all_at}
 use Rattle.node_check.specs.declared.facts.Fact.{Fact}
 use Rattle.node_check.specs.declared.facts.Fact.TheVariants.{Uniform}
 use Rattle.node_check.specs.Learn.{is_uniform, tells_uniform}
 use Rattle.std.proofs.Common.{Contains, eqb-true}
+use Rattle.std.proofs.lemmas.Bool.{and_parts}
 
 -- ---- lists
 pub all_pass : {X : Type 0} (test : X → Bool) (xs : List X) → list_all test xs ≡ true → (x : X)
     → In xs x → test x ≡ true
 all_pass test [] all x h = absurd h
 all_pass test (y ∷ xs) all x (inl is) =
-    ap test (sym is) ∙ (both (test y) (list_all test xs) all).0
+    ap test (sym is) ∙ (and_parts (test y) (list_all test xs) all).0
 all_pass test (y ∷ xs) all x (inr h) =
-    all_pass test xs (both (test y) (list_all test xs) all).1 x h
+    all_pass test xs (and_parts (test y) (list_all test xs) all).1 x h
 
 -- ---- by scalars that are alike
 abbrev pub Alike : List ℤ → List ℤ → List ℕ → Type 0

@@ -1,5 +1,6 @@
 -- No run of code that never stops is stuck or idle.
-use Rattle.std.proofs.Common.{◌≡◌, ◌<◌, ℕ, zero, suc, List, [], ◌∷◌, length, Option, Some, None, refl, ap, subst, arith, slice_get}
+use Rattle.std.proofs.Common.{◌≡◌, ◌<◌, ℕ, List, [], length, Option, Some, None, refl, ap, subst, slice_get}
+use Rattle.std.proofs.lemmas.Option.{slice_get_within}
 use Rattle.grid_links.specs.Machine.{Stuck}
 use Rattle.grid_links.specs.Run as run
 use Rattle.node_form.specs.declared.tables.Tables.{Tables}
@@ -10,12 +11,6 @@ use Rattle.grid_meaning.specs.Order.{given}
 use Rattle.grid_runs.specs.Run.{IsIdleAt, IsStuckAt, Run, grid_at}
 use Rattle.checked_runs.specs.Stops.{NeverStops}
 
--- who is stuck is one of the processors
-long : {X : Type 0} (xs : List X) (k : ℕ) (x : X) → slice_get xs k ≡ Some x → k < length xs
-long [] k x e = cc
-long (y ∷ xs) zero x e = omega arith
-long (y ∷ xs) (suc k) x e = let less = long xs k x e in omega (arith, less)
-
 there : (code : Tables) (links : Option ℕ) (grid : Grid) (p : ℕ) (kind : StuckKind)
     → next_turn code links grid p ≡ Stuck kind → p < length grid.world.locals
 there code links grid p kind stuck = by (slice_get grid.world.locals p) refl stuck
@@ -24,7 +19,7 @@ there code links grid p kind stuck = by (slice_get grid.world.locals p) refl stu
         → run.turn_or_over (system_over code links) grid.world p o ≡ Stuck kind
         → p < length grid.world.locals
     by None is stuck = cc
-    by (Some local) is stuck = long grid.world.locals p local is
+    by (Some local) is stuck = slice_get_within grid.world.locals p local is
 
 module _ (one : Run) (start : one.start ≡ start_grid one.code)
     (never : NeverStops one.code one.capacity)

@@ -10,6 +10,7 @@ use Rattle.std.specs.Ordering.{int_eq}
 use Rattle.std.proofs.lemmas.Bool.Decides.{Decides-eqb, Decides-int_eq}
 use Rattle.std.proofs.lemmas.List.Sums.{fold-append}
 use Rattle.std.proofs.lemmas.Slice.Eq.{slice_eq-Decides}
+use Rattle.std.proofs.lemmas.Bool.{not-true}
 use Rattle.node_form.specs.declared.arrays.Item.{Item}
 use Rattle.node_form.specs.declared.instructions.Instr.{Instr}
 use Rattle.node_form.specs.declared.instructions.Instr.TheVariants as instr
@@ -55,10 +56,6 @@ is_item-Decides one other = (same, itself)
         ∙ ap (λ b. b && pointwise int_eq one.shift other.shift)
         ((Decides-eqb one.slot other.slot).1 (ap (λ (item : Item). item.slot) is))
         ∙ shifts.1 (ap (λ (item : Item). item.shift) is)
-
-not_false : (b : Bool) → not b ≡ true → b ≡ false
-not_false true denied = sym denied
-not_false false denied = refl
 
 module _ (tables : Tables) where
   abbrev IsKept : Item → Instr → Type 0
@@ -109,7 +106,7 @@ module _ (tables : Tables) where
       from (inr h) = inl (h, refl)
   one_row row rows fresh item h kept =
       let both = unfiltered (λ other. not (stales tables other row)) fresh item h in
-      inl (both.0, not_false (stales tables item row) both.1)
+      inl (both.0, not-true (stales tables item row) both.1)
 
   found : (rows : List Instr) (fresh : List Item) (item : Item)
       → In (fold (fresh_behind tables) fresh rows) item

@@ -25,8 +25,6 @@ use Rattle.comm_combine.specs.Merge.{pending_behind}
 use Rattle.comm_combine.specs.Merge.{pending_units, pending_with, row_units, units_merged}
 
 -- ---- items, each once
-all_with : List Item → List Item → List Item
-all_with items more = fold with_item items more
 
 -- an item stays
 kept_one : (items : List Item) (one item : Item) → is_among items item ≡ true

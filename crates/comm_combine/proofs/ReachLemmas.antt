@@ -1,11 +1,12 @@
 -- Goals of a plan that is written anew, and its exchanges by their new numbers.
 use Rattle.std.proofs.Common.{◌≡◌, ◌⊎◌, inl, inr, refl, sym, ap, ◌∙◌, subst, arith, ℕ, suc}
 use Rattle.std.proofs.Common.{◌+◌, Bool, true, false, true≢false, List, [], ◌∷◌, ◌++◌, length}
-use Rattle.std.specs.Prelude.{◌||◌, Some, flat_map, slice_get, unwrap_or}
+use Rattle.std.specs.Prelude.{Some, flat_map, slice_get, unwrap_or}
 use Rattle.std.specs.List.{list_any}
 use Rattle.std.proofs.Math.Path.{fun_ext}
 use Rattle.std.proofs.lemmas.Bool.Decides.{Decides-eqb}
 use Rattle.std.proofs.lemmas.List.Folds.{list_any-append}
+use Rattle.std.proofs.lemmas.Bool.{or_left, or_right, or_cases}
 use Rattle.last_writes.specs.of_node_form.declared.arrays.Item.{Item}
 use Rattle.last_writes.specs.of_node_form.declared.instructions.Instr.{Instr}
 use Rattle.last_writes.specs.of_node_form.declared.instructions.Instr.TheVariants as instr
@@ -20,18 +21,6 @@ use Rattle.last_writes.specs.of_plan_form.Rewrite.{ended_by, rows_by, with_units
 use Rattle.last_writes.proofs.of_plan_form.PassLemmas as pass
 use Rattle.last_writes.proofs.of_plan_form.PassLemmas.{numbered_both}
 use Rattle.last_writes.proofs.of_plan_form.WalkLemmas as walks
-
-either_left : (a b : Bool) → a ≡ true → (a || b) ≡ true
-either_left true b e = refl
-either_left false b e = absurd (true≢false (sym e))
-
-either_right : (a b : Bool) → b ≡ true → (a || b) ≡ true
-either_right true b e = refl
-either_right false b e = e
-
-one_of : (a b : Bool) → (a || b) ≡ true → (a ≡ true) ⊎ (b ≡ true)
-one_of true b e = inl refl
-one_of false b e = inr e
 
 -- ---- an exchange by its number
 pub items_there : (tables : Tables) (before more : List (List Item)) (items : List Item) (n : ℕ)
@@ -122,7 +111,7 @@ module _ {F : Type 0} (tables : Tables) (nothing : F) (step : F → Instr → Li
       ap (list_any test) (numbered_both n xs ys)
       ∙ (list_any-append test (numbered_from n xs)
       (numbered_from (n + length (exchanges_in xs)) ys)
-      ∙ either_left (list_any test (numbered_from n xs)) _ there)
+      ∙ or_left (list_any test (numbered_from n xs)) _ there)
 
   any_last : (test : Instr → Bool) (n : ℕ) (xs ys : List PlanRow)
       → ((k : ℕ) → list_any test (numbered_from k ys) ≡ true)
@@ -131,7 +120,7 @@ module _ {F : Type 0} (tables : Tables) (nothing : F) (step : F → Instr → Li
       ap (list_any test) (numbered_both n xs ys)
       ∙ (list_any-append test (numbered_from n xs)
       (numbered_from (n + length (exchanges_in xs)) ys)
-      ∙ either_right (list_any test (numbered_from n xs)) _
+      ∙ or_right (list_any test (numbered_from n xs)) _
       (there (n + length (exchanges_in xs))))
 
   goals_in : (g : ℕ) (facts : F) (at : ℕ) (rows : List Instr) (n : ℕ)
@@ -152,7 +141,7 @@ module _ {F : Type 0} (tables : Tables) (nothing : F) (step : F → Instr → Li
       (at + 1) rows)
       (λ k. by k (λ later j. goals_in g
       (pass.learnt {F = F} tables nothing step learn close (ends_stretch row)
-      (pass.known {F = F} tables nothing step learn close (is_goal tables.code at) facts) row) (at + 1) rows j later) (one_of (leads_to g row) _ any))
+      (pass.known {F = F} tables nothing step learn close (is_goal tables.code at) facts) row) (at + 1) rows j later) (or_cases (leads_to g row) _ any))
     where
       ended : (known : F) (e : Bool) → e ≡ true → leads_to g row ≡ true → (k : ℕ)
           → list_any (leads_to (moved g)) (numbered_from k
@@ -164,7 +153,7 @@ module _ {F : Type 0} (tables : Tables) (nothing : F) (step : F → Instr → Li
           any_last (leads_to (moved g)) k
           (pass.close_rows {F = F} tables nothing step learn close known)
           (Other (with_moved_goal moved row) ∷ [])
-          (λ j. either_left (leads_to (moved g) (with_moved_goal moved row)) false
+          (λ j. or_left (leads_to (moved g) (with_moved_goal moved row)) false
           (leads_moved g row leads))
       ended known false is leads k = absurd (true≢false (sym is))
 

@@ -4,7 +4,7 @@ use Rattle.std.proofs.Common.{◌+◌, ◌≤◌, ◌<◌, Bool, true, false}
 use Rattle.std.proofs.Common.{List, [], ◌∷◌, ◌++◌, length}
 use Rattle.std.specs.Prelude.{◌&&◌, ◌||◌, cond, count_by, if◌then◌else◌, nat_lt, reverse, Option}
 use Rattle.std.specs.List.{AllByRecursion, list_any}
-use Rattle.std.proofs.lemmas.Bool.{lt-ltb}
+use Rattle.std.proofs.lemmas.Bool.{lt-ltb, and_from}
 use Rattle.std.proofs.lemmas.List.{append_assoc, reverse-append}
 use Rattle.std.proofs.lemmas.List.Sums.{sum_by-cons}
 use Rattle.last_writes.specs.of_node_form.declared.instructions.Instr.{Instr}
@@ -42,10 +42,6 @@ same_goals tables links at =
     any_counts (leads_to at) (sent_early links tables).code
     ∙ (ap (nat_lt 0) (rows_stay links tables (leads_to at))
     ∙ sym (any_counts (leads_to at) tables.code))
-
-both : (a b : Bool) → a ≡ true → b ≡ true → (a && b) ≡ true
-both true b one other = other
-both false b one other = one
 
 -- ---- rows that stand reversed, from the beginning of a stretch on
 module _ {F : Type 0} (nothing : F) (learn : F → Instr → F) (is_right : F → Instr → Bool) where
@@ -117,7 +113,7 @@ module _ {F : Type 0} (nothing : F) (learn : F → Instr → F) (is_right : F �
             ∙ (ap (λ b. (b || is_right (facts_back before) row)
             && from (at + length before + 1)
             (if b then nothing else learn (facts_back before) row) more) straight.0
-            ∙ both (is_right (facts_back before) row) _
+            ∙ and_from (is_right (facts_back before) row) _
             (both_left (is_right (facts_back before) row) (right_back before) right)
             (subst (λ n. from n (learn (facts_back before) row) more ≡ true) (sym next) rest))
 

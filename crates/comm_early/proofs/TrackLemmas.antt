@@ -3,7 +3,7 @@ use Rattle.std.proofs.Common.{◌≡◌, ◌⊎◌, inl, inr, refl, sym, ap, ◌
 use Rattle.std.proofs.Common.{Bool, true, false, true≢false, List, [], ◌∷◌}
 use Rattle.std.specs.Prelude.{◌||◌, if◌then◌else◌, nat_lt, Some, fold, max, slice_get}
 use Rattle.std.specs.List.{list_any}
-use Rattle.std.proofs.lemmas.Bool.{ltb-false, ltb-true}
+use Rattle.std.proofs.lemmas.Bool.{ltb-false, ltb-true, or_left, or_right, or_cases}
 use Rattle.last_writes.specs.of_node_form.declared.arrays.Item.{Item}
 use Rattle.last_writes.specs.of_node_form.declared.instructions.Instr.{Instr}
 
@@ -13,18 +13,6 @@ less_or j n = by (nat_lt j n) refl
     by : (b : Bool) → nat_lt j n ≡ b → (j < n) ⊎ (n ≤ j)
     by true e = inl (ltb-true j n e)
     by false e = inr (ltb-false j n e)
-
-either_left : (a b : Bool) → a ≡ true → (a || b) ≡ true
-either_left true b e = refl
-either_left false b e = absurd (true≢false (sym e))
-
-either_right : (a b : Bool) → b ≡ true → (a || b) ≡ true
-either_right true b e = refl
-either_right false b e = e
-
-pub one_of : (a b : Bool) → (a || b) ≡ true → (a ≡ true) ⊎ (b ≡ true)
-one_of true b e = inl refl
-one_of false b e = inr e
 
 module _ (code : List Instr) where
   pub record Attained (test : ℕ → Instr → Bool) (first last value : ℕ) : Type 0 where
@@ -168,7 +156,7 @@ module _ (code : List Instr) where
       → Tracks (λ at row. one at row || other at row) first last (max low high)
   tracks_both one other first last low high s t = record {
     above = λ at row behind before there passes.
-        from at row behind before there (one_of (one at row) (other at row) passes);
+        from at row behind before there (or_cases (one at row) (other at row) passes);
     attained = got (less_or low high);
   }
     where
@@ -188,7 +176,7 @@ module _ (code : List Instr) where
         behind = a.behind;
         before = a.before;
         there = a.there;
-        passes = either_left (one a.at a.row) (other a.at a.row) a.passes;
+        passes = or_left (one a.at a.row) (other a.at a.row) a.passes;
         is = sym is ∙ a.is;
       })
 
@@ -201,7 +189,7 @@ module _ (code : List Instr) where
         behind = a.behind;
         before = a.before;
         there = a.there;
-        passes = either_right (one a.at a.row) (other a.at a.row) a.passes;
+        passes = or_right (one a.at a.row) (other a.at a.row) a.passes;
         is = sym is ∙ a.is;
       })
 

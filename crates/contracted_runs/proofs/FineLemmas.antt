@@ -5,6 +5,7 @@ use Rattle.std.proofs.Common.{Some, None, ◌⊎◌, inl, inr, append_assoc, eqb
 use Rattle.std.specs.Prelude.{◌&&◌, ◌||◌, ◌==◌, flat_map, if◌then◌else◌, not, slice_get}
 use Rattle.std.specs.Prelude.{slice_index_or, ⊤}
 use Rattle.std.specs.List.{list_any}
+use Rattle.std.proofs.lemmas.Bool.{not-true}
 use Rattle.zpl_region.proofs.ListLemmas.{Among}
 use Rattle.row_runs.specs.Straight.{Every}
 use Rattle.node_form.specs.declared.members.Member.{Member}
@@ -49,10 +50,6 @@ and_second false b e = absurd (true≢false (sym e))
 and_first : (a b : Bool) → (a && b) ≡ true → a ≡ true
 and_first true b e = refl
 and_first false b e = e
-
-not_true : (b : Bool) → not b ≡ true → b ≡ false
-not_true true e = absurd (true≢false (sym e))
-not_true false e = refl
 
 pub there_is : (k : ℕ) (xs : List ℕ) → Among xs k → is_among k xs ≡ true
 there_is k [] among = absurd among
@@ -322,11 +319,6 @@ module _ (cell_of : ℕ → Option ℕ) (old new : ℕ) (IsPut : ℕ → Type 0)
       (subst (λ words. Among words (word.Here array)) (index_rows tables.exprs expr) inside))
       (inl refl)))
 
-  put_named : (array expr : ℕ) (mask : Option ℕ) (line : ℕ)
-      → is_named_in tables array (member.Put array expr mask line) ≡ true
-  put_named array expr mask line =
-      there_is array (named_by tables (member.Put array expr mask line)) (inl refl)
-
   -- a member that begins an array is a put of it, outermost and without a mask, whose expression
   -- doesn't name it
   record ItBegins (depth array : ℕ) (one : Member) : Type 0 where
@@ -346,7 +338,7 @@ module _ (cell_of : ℕ → Option ℕ) (old new : ℕ) (IsPut : ℕ → Type 0)
         outermost = refl;
         is = ap (λ k. member.Put k expr None line)
             (eqb-true other array (and_first (other == array) (not (is_among array found)) e));
-        unread = not_true (is_among array found)
+        unread = not-true (is_among array found)
             (and_second (other == array) (not (is_among array found)) e);
       }
   it_begins zero array (member.Put other expr (Some mask) line) e = absurd (true≢false (sym e))

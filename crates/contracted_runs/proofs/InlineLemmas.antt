@@ -6,7 +6,8 @@ use Rattle.std.proofs.Common.{Some, None, inl, inr}
 use Rattle.std.specs.Prelude.{◌&&◌, flat_map, fold, max, slice_index_or, ⊤}
 use Rattle.std.specs.Option.{option_map}
 use Rattle.std.specs.List.{list_all}
-use Rattle.std.proofs.lemmas.List.{length-map}
+use Rattle.std.proofs.lemmas.List.{length-map, map-append}
+use Rattle.std.proofs.lemmas.Bool.{and_from as and_both}
 use Rattle.row_runs.specs.Straight.{Every}
 use Rattle.node_form.specs.declared.members.Member as number
 use Rattle.node_form.specs.declared.members.Member.TheVariants as member
@@ -31,13 +32,6 @@ use Rattle.fuse_contract.specs.Contracting.{word_contracted}
 use Rattle.contracted_runs.proofs.UnitLemmas.{nest_contracted, put_or_keep}
 
 -- ---- lists
-map_both : {X Y : Type 0} (f : X → Y) (xs ys : List X) → map f (xs ++ ys) ≡ map f xs ++ map f ys
-map_both f [] ys = refl
-map_both f (x ∷ xs) ys = ap (λ zs. f x ∷ zs) (map_both f xs ys)
-
-and_both : (a b : Bool) → a ≡ true → b ≡ true → (a && b) ≡ true
-and_both true b e f = f
-and_both false b e f = absurd (true≢false (sym e))
 
 and_first : (a b : Bool) → (a && b) ≡ true → a ≡ true
 and_first true b e = refl
@@ -191,7 +185,7 @@ module _ (cell_of : ℕ → Option ℕ) where
   group_words_are (one ∷ group) =
       ap (λ ws. ws ++ group_words (group_contracted group)) (member_words_are one)
       ∙ (ap (λ ws. map words_contracted (member_words one) ++ ws) (group_words_are group)
-      ∙ sym (map_both words_contracted (member_words one) (group_words group)))
+      ∙ sym (map-append words_contracted (member_words one) (group_words group)))
 
   numbered_same : (n : ℕ) (mask : Option Words)
       → numbered n (mask_contracted mask) ≡ numbered n mask
@@ -270,7 +264,7 @@ module _ (cell_of : ℕ → Option ℕ) where
       inside nest rest others e f =
           ap (λ ms. ms ++ others) e
           ∙ (ap (λ ms. map (member_contracted cell_of) (members_of nest) ++ ms) f
-          ∙ sym (map_both (member_contracted cell_of) (members_of nest) rest))
+          ∙ sym (map-append (member_contracted cell_of) (members_of nest) rest))
   spelled (ChoosingElse expr mask line body otherwise after) =
       ap (λ ms. member.OpenIf expr mask line ∷ ms)
       (inside body (member.Otherwise ∷ (members_of otherwise ++ member.CloseIf ∷ members_of after))
@@ -290,14 +284,14 @@ module _ (cell_of : ℕ → Option ℕ) where
       inside nest rest others e f =
           ap (λ ms. ms ++ others) e
           ∙ (ap (λ ms. map (member_contracted cell_of) (members_of nest) ++ ms) f
-          ∙ sym (map_both (member_contracted cell_of) (members_of nest) rest))
+          ∙ sym (map-append (member_contracted cell_of) (members_of nest) rest))
   spelled (Looping expr mask line body after) =
       ap (λ ms. member.OpenWhile expr mask line ∷ ms)
       (ap (λ ms. ms ++ (member.CloseWhile ∷ members_of (nest_contracted cell_of after)))
       (spelled body)
       ∙ (ap (λ ms. map (member_contracted cell_of) (members_of body) ++ (member.CloseWhile ∷ ms))
       (spelled after)
-      ∙ sym (map_both (member_contracted cell_of) (members_of body)
+      ∙ sym (map-append (member_contracted cell_of) (members_of body)
       (member.CloseWhile ∷ members_of after))))
   spelled (Repeating mask line body until after) =
       ap (λ ms. member.OpenRepeat mask line ∷ ms)
@@ -305,7 +299,7 @@ module _ (cell_of : ℕ → Option ℕ) where
       (spelled body)
       ∙ (ap (λ ms. map (member_contracted cell_of) (members_of body) ++ (member.Until until ∷ ms))
       (spelled after)
-      ∙ sym (map_both (member_contracted cell_of) (members_of body)
+      ∙ sym (map-append (member_contracted cell_of) (members_of body)
       (member.Until until ∷ members_of after))))
 
   -- the tree of the group with cells

@@ -9,6 +9,7 @@ use Rattle.std.specs.Prelude.{slice_get, slice_index_or, ⊤}
 use Rattle.std.specs.Option.{IfSome, IsSomeAnd, option_map}
 use Rattle.std.specs.List.{AllZip, list_all, list_any}
 use Rattle.std.proofs.lemmas.List.Elements.{All-head, All-tail}
+use Rattle.std.proofs.lemmas.Bool.{and_from}
 use Rattle.zpl_nums.specs.Fold.{unit_of}
 use Rattle.zpl_region.specs.declared.dims.Dim.{Dim}
 use Rattle.zpl_region.specs.declared.dims.Dim.TheVariants as dim
@@ -93,10 +94,6 @@ and_first false b e = e
 and_second : (a b : Bool) → (a && b) ≡ true → b ≡ true
 and_second true b e = e
 and_second false b e = absurd (true≢false (sym e))
-
-both_hold : (a b : Bool) → a ≡ true → b ≡ true → (a && b) ≡ true
-both_hold true b e f = f
-both_hold false b e f = absurd (true≢false (sym e))
 
 -- a tuple of a region that the array matches is as it is flattened
 flat_by : (rows : List ArrayDim) (storage region : List Dim) (t : List ℤ) → FloodsIn rows storage
@@ -717,7 +714,7 @@ module _ (tables : Tables) (arrays : List ℕ) where
           let writes = list_all (can_write tables s region) (group_puts G) in
           let begins = totals_begin s region G in
           let scalars = each_word word_scalars (group_words G) in
-          both_hold (list_all (can_read new t region) (group_reads G'))
+          and_from (list_all (can_read new t region) (group_reads G'))
           (list_all (can_write new t region) (group_puts G') && totals_begin t region G')
           (ap (λ ws. list_all (can_read new t region)
           (each_word word_reads ws)) (group_words_are cell_of G)
@@ -725,7 +722,7 @@ module _ (tables : Tables) (arrays : List ℕ) where
           (λ read none is. sym (read_same tables new (IsOther cell_of) s t agree region read none)
           ∙ is)
           (group_words G) all_unshifted (and_first reads (writes && begins) e))
-          (both_hold (list_all (can_write new t region) (group_puts G')) (totals_begin t region G')
+          (and_from (list_all (can_write new t region) (group_puts G')) (totals_begin t region G')
           (puts_kept cell_of (can_write tables s region) (can_write new t region)
           (λ array none is.
           sym (write_same tables new (IsOther cell_of) s t agree region array none) ∙ is) G

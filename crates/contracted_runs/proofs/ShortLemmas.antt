@@ -7,6 +7,7 @@ use Rattle.std.specs.Prelude.{if◌then◌else◌, slice_get, slice_set}
 use Rattle.std.specs.List.{AllByRecursion}
 use Rattle.std.specs.Option.{IsSomeAnd}
 use Rattle.std.proofs.lemmas.List.Elements.{recursion_from_All}
+use Rattle.std.proofs.lemmas.List.{length-replicate}
 use Rattle.zpl_nums.specs.declared.ends.End.{End}
 use Rattle.zpl_region.specs.declared.dims.Dim.{Dim}
 use Rattle.zpl_region.specs.declared.regions.Region.{Region}
@@ -60,10 +61,6 @@ set_either (x ∷ xs) zero (suc j) v w e = inr e
 set_either (x ∷ xs) (suc i) zero v w e = inr e
 set_either (x ∷ xs) (suc i) (suc j) v w e = set_either xs i j v w e
 
-long : {X : Type 0} (n : ℕ) (x : X) → length (replicate n x) ≡ n
-long zero x = refl
-long (suc n) x = ap suc (long n x)
-
 set_short : (slots : List Region) (slot : ℕ) (region : Region) → ShortIn slots
     → length region.dims ≤ 3 → ShortIn (slice_set slots slot region)
 set_short slots slot region have own at other e =
@@ -80,8 +77,8 @@ places_short rank few =
       arith,
       few,
       length-append (replicate rank (all_from (pos 1) (pos 0))) (replicate (3 - rank) padding),
-      long rank (all_from (pos 1) (pos 0)),
-      long (3 - rank) padding,
+      length-replicate rank (all_from (pos 1) (pos 0)),
+      length-replicate (3 - rank) padding,
     )
 
 first_short : (slots : List ℕ) → AllByRecursion IsRank slots → ShortIn (map no_places slots)
@@ -107,13 +104,6 @@ data KeepsShort : Control → Type 0 where
   GoesTo : {goal : ℕ} → KeepsShort (control.Leaps goal)
   Ended : {ending : End} → KeepsShort (control.Ends ending)
   NotSaid : KeepsShort control.Outside
-
-computed_keeps : {X : Type 0} (P : X → Type 0) (computed : Computed X) (line : ℕ)
-    (next : X → Control) → ((x : X) → computed ≡ Gives x → P x)
-    → ((x : X) → P x → KeepsShort (next x)) → KeepsShort (with_computed computed line next)
-computed_keeps P (Gives x) line next holds keeps = keeps x (holds x refl)
-computed_keeps P Divides line next holds keeps = Ended
-computed_keeps P Lacks line next holds keeps = NotSaid
 
 row_keeps : {X : Type 0} (found : Option X) (next : X → Control)
     → ((x : X) → found ≡ Some x → KeepsShort (next x)) → KeepsShort (with_row found next)
@@ -162,7 +152,7 @@ module _ (tables : Tables) (registers : Registers) (have : ShortIn registers.slo
         few,
         all,
         length-append dims (replicate (3 - rank) padding),
-        long (3 - rank) padding,
+        length-replicate (3 - rank) padding,
       ))
   made_keeps slot line rank few Divides all = Ended
   made_keeps slot line rank few Lacks all = NotSaid
@@ -215,7 +205,7 @@ fixed_short region fits =
       fits.rank.1,
       length-drop region.rank region.dims,
       ap length fits.padded,
-      long (3 - region.rank) padding,
+      length-replicate (3 - region.rank) padding,
     )
 
 -- ---- any row

@@ -1,5 +1,5 @@
 -- The members behind each one: what they count, and that they do nothing else.
-use Rattle.std.proofs.Common.{◌≡◌, refl, sym, ◌∙◌, ap, ℕ, zero, suc, ◌+◌, ◌*◌, ◌<◌}
+use Rattle.std.proofs.Common.{◌≡◌, refl, sym, ◌∙◌, ap, ℕ, zero, suc, ◌+◌, ◌<◌}
 use Rattle.std.proofs.Common.{Bool, true, List, [], ◌∷◌, ◌++◌, length, drop, take, map}
 use Rattle.std.proofs.Common.{arith}
 use Rattle.std.proofs.Common.{pos, ℤ}
@@ -25,9 +25,6 @@ use Rattle.counted_code.proofs.TableLemmas.{equal_there, number_there}
 use Rattle.counted_code.proofs.ValueLemmas.{equal_is, equal_value, unequal_is}
 
 -- ---- numbers of members
-pub stretched_is : (n k : ℕ) → stretched n k ≡ k * suc n
-stretched_is n zero = omega arith
-stretched_is n (suc k) = let ih = stretched_is n k in omega (arith, ih)
 
 pub stretched_next : (n k : ℕ) → stretched n (k + 1) ≡ stretched n k + suc n
 stretched_next n k = let e : k + 1 ≡ suc k = omega arith in ap (stretched n) e

@@ -2,7 +2,7 @@
 use Rattle.std.proofs.Common.{◌≡◌, subst, ℕ, Bool, true, false, List, map}
 use Rattle.std.proofs.Common.{All, arith}
 use Rattle.std.proofs.lemmas.List.{length-map}
-use Rattle.std.proofs.lemmas.List.Elements.{All-map}
+use Rattle.std.proofs.lemmas.List.Elements.{All-map, All-weaker}
 use Rattle.node_form.specs.Fits.{Fits, FitsExchange, FitsExpr, FitsGroup, FitsInstr, Grows}
 use Rattle.node_form.specs.Fits.{recoded}
 use Rattle.node_form.specs.declared.instructions.Instr.{Instr}
@@ -45,10 +45,6 @@ fits_along code (instr.Trap kind line) fits = fits
 fits_along code instr.End fits = fits
 fits_along code (instr.Remap array slot from parts) fits = fits
 
-weaker_all : {X : Type 0} (P Q : X → Type 0) → ((x : X) → P x → Q x) → (xs : List X) → All P xs
-    → All Q xs
-weaker_all P Q weaker xs all k d inside = weaker _ (all k d inside)
-
 module _ (plan : Tables) where
   abbrev along : Tables
   along = recoded plan (map along_tree plan.code)
@@ -72,17 +68,17 @@ module _ (plan : Tables) where
     slots = fits.slots;
     arrays = fits.arrays;
     exprs =
-        weaker_all (FitsExpr plan) (FitsExpr along) (FitsExpr-grows plan along along_grows)
+        All-weaker (FitsExpr plan) (FitsExpr along) (FitsExpr-grows plan along along_grows)
         plan.exprs fits.exprs;
     groups =
-        weaker_all (FitsGroup plan) (FitsGroup along) (FitsGroup-grows plan along along_grows)
+        All-weaker (FitsGroup plan) (FitsGroup along) (FitsGroup-grows plan along along_grows)
         plan.groups fits.groups;
     exchanges =
-        weaker_all (FitsExchange plan) (FitsExchange along)
+        All-weaker (FitsExchange plan) (FitsExchange along)
         (FitsExchange-grows plan along along_grows) plan.exchanges fits.exchanges;
     code =
         All-map (FitsInstr along) along_tree plan.code
-        (weaker_all (FitsInstr plan) (λ row. FitsInstr along (along_tree row))
+        (All-weaker (FitsInstr plan) (λ row. FitsInstr along (along_tree row))
         (λ row fits. fits_along along row (FitsInstr-grows plan along along_grows row fits))
         plan.code fits.code);
   }
@@ -162,9 +158,9 @@ pub emitted_three : (tree : Bool) (grid : List ℕ) (plan : Tables) → All (Has
     → All (HasThree (emitted tree grid plan)) (emitted tree grid plan).code
 emitted_three true grid plan three =
     All-map (HasThree (emitted true grid plan)) along_tree plan.code
-    (weaker_all (HasThree plan) (λ row. HasThree (emitted true grid plan) (along_tree row))
+    (All-weaker (HasThree plan) (λ row. HasThree (emitted true grid plan) (along_tree row))
     (λ row three. three_along (emitted true grid plan) row
     (three_again true grid plan row three)) plan.code three)
 emitted_three false grid plan three =
-    weaker_all (HasThree plan) (HasThree (emitted false grid plan))
+    All-weaker (HasThree plan) (HasThree (emitted false grid plan))
     (three_again false grid plan) plan.code three

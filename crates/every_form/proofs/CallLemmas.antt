@@ -1,6 +1,7 @@
 -- Programs without faults: what is called may be, down the chains of calls.
 use Rattle.std.proofs.Common.{◌≡◌, ℕ, zero, suc, Bool, true, false, cond, not, ◌&&◌, List, [], ◌∷◌, Option, Some, None, is_some, Contains, refl, sym, ◌∙◌, ap, subst, true≢false, inl, inr}
 use Rattle.std.specs.List.{list_all}
+use Rattle.std.proofs.lemmas.Bool.{and_parts, not-false}
 use Rattle.zpl_tree.specs.Syntax.{Name, Exprs, Decl, Config, Constant, Regions, Directions, Vars, Defined, Program}
 use Rattle.zpl_tree.specs.Syntax as plain
 use Rattle.zpl_names.specs.Kinds as kind
@@ -13,12 +14,11 @@ use Rattle.zpl_names.specs.Sites.{Reach, CallRole, CallSite, Site, AtWhole, AtEx
 use Rattle.zpl_names.specs.Faults.{answers, body_returns}
 use Rattle.zpl_names.specs.Accepted.{NoEntry, Recursion, DeepCalls, is_entry, no_entry, IsFaultless, HasKnownRank}
 use Rattle.zpl_names.specs.Expansion.{callees, is_shallow}
-use Rattle.zpl_names.proofs.ListLemmas.{Among, among_from_Contains, Contains-from_among, and_parts}
+use Rattle.zpl_names.proofs.ListLemmas.{Among, among_from_Contains, Contains-from_among}
 use Rattle.zpl_names.proofs.NameLemmas.{no_place}
 use Rattle.zpl_names.proofs.ReachedLemmas.{entry_is_shallow}
 use Rattle.zpl_names.proofs.FaultlessLemmas.{clean_text, clean-routine, left-among, right-among}
 use Rattle.zpl_meaning.proofs.DepthLemmas.{Each, each_from}
-use Rattle.zpl_meaning.proofs.ProperLemmas.{not_false}
 use Rattle.zpl_meaning.proofs.VisitLemmas.{filter_among}
 use Rattle.meaning_runs.proofs.OwnLemmas.{global_kind, named_among}
 use Rattle.shown_texts.specs.Forms.{HasRoutineForm, HasChainForms, HasShownForms}
@@ -104,7 +104,7 @@ module _ (program : Program) (faultless : IsFaultless program)
       routine.procedure.name.at head.returns)
     where
       told : (a b : Bool) → a ≡ true → a && not b ≡ false → b ≡ true
-      told true b e h = not_false b h
+      told true b e h = not-false b h
       told false b e h = absurd (true≢false (sym e))
 
   -- what a name stands for that is a procedure
@@ -231,7 +231,7 @@ module _ (program : Program) (faultless : IsFaultless program)
   entered : (routine : Routine) × IsEntry routine
   entered =
       by (entry_of program) refl
-      (not_false (is_entry (entry_of program)) (no_place (not (is_entry (entry_of program)))
+      (not-false (is_entry (entry_of program)) (no_place (not (is_entry (entry_of program)))
       program.name.at (empty (no_entry program) (λ at c. faultless NoEntry at c))))
     where
       empty : (places : List ℕ) → ((at : ℕ) → Contains places at → ⊥) → places ≡ []

@@ -1,6 +1,7 @@
 -- Statements whose sites have no fault are of the forms, where what they call may be called.
 use Rattle.std.proofs.Common.{◌≡◌, inl, inr, ℕ, zero, suc, cond, Bool, true, false, not, ◌&&◌, List, [], ◌∷◌, ◌++◌, Option, Some, None, IsSome, refl, sym, ap, subst, true≢false}
 use Rattle.std.specs.List.{flat_map}
+use Rattle.std.proofs.lemmas.Bool.{not-false}
 use Rattle.zpl_nums.specs.declared.operators.Op.{Op}
 use Rattle.zpl_tree.specs.Syntax.{Name, Expr, Call, Exprs, Prefix, Stmt, Prefixed, Stmts, NoStmt, ThenStmt, Form, Assign, Invoke, Block, If, While, Repeat, For, Border, Write, Return, Arm, Tested, Arms, NoArm, ThenArm, Otherwise, NoElse, Else, Base}
 use Rattle.zpl_names.specs.Kinds.{Rank, Kind}
@@ -14,7 +15,7 @@ use Rattle.zpl_names.proofs.NameLemmas.{no_place}
 use Rattle.zpl_meaning.specs.Points.{form_parts}
 use Rattle.zpl_meaning.specs.Calls.{formals_in}
 use Rattle.zpl_meaning.proofs.DepthLemmas.{Each, each_left, each_right}
-use Rattle.zpl_meaning.proofs.ProperLemmas.{not_false, taken}
+use Rattle.zpl_meaning.proofs.ProperLemmas.{taken}
 use Rattle.row_runs.specs.Straight.{Every}
 use Rattle.shown_texts.specs.of_shown_programs.Text.{behind_prefixes}
 use Rattle.shown_texts.specs.Forms.{HasOperatedForm, HasPartForm, IsShatteredOr, HasAssignForm, HasStmtForm, HaveForms, HasForm, HaveArmForms, HasArmForm, HasElseForm, HasReturnForm, HaveAnswerForms, HasAnswerForm}
@@ -105,7 +106,7 @@ module _ (IsCallable : Bool → List ℕ → Type 0) (scope : Scope) where
   answered rank shapes kind name actuals h = by (is_array kind) h
     where
       told : (a b : Bool) → a ≡ true → a && not b ≡ false → b ≡ true
-      told true b e h = not_false b h
+      told true b e h = not-false b h
       told false b e h = absurd (true≢false (sym e))
 
       by : (b : Bool) → IsFit (AtCall (seen rank shapes) (cond b Elsewhere AsValue) name actuals)

@@ -1,6 +1,7 @@
 -- What a shattered statement without faults reads has no operators over regions, no shifts and no
 -- calls.
 use Rattle.std.proofs.Common.{◌≡◌, ℕ, Bool, true, false, cond, not, ◌&&◌, ◌||◌, List, [], ◌∷◌, ◌++◌, zero, suc, Some, None, refl, sym, subst, true≢false}
+use Rattle.std.proofs.lemmas.Bool.{and_parts, not-false}
 use Rattle.zpl_tree.specs.Syntax.{Expr, Number, Truth, Coord, Named, Shifted, Around, Remap, Call, Paren, Neg, Not, Abs, Pair, Reduce, Scan, Flood, Prefix, Stmt, Prefixed, Stmts, NoStmt, ThenStmt, Form, Assign, Invoke, Block, If, While, Repeat, For, Border, Write, Return, Tested, Arms, NoArm, ThenArm, Otherwise, NoElse, Else, at_of}
 use Rattle.zpl_names.specs.Kinds.{Rank}
 use Rattle.zpl_names.specs.Ranks.{first_rank, is_above_zero, ranks_clash}
@@ -9,11 +10,9 @@ use Rattle.zpl_names.specs.Types.{is_elementwise}
 use Rattle.zpl_names.specs.Sites.{Reach, under_prefix, under_prefixes, inside, Test, AtStmt, whole_sites, prefixes_sites, stmt_sites, stmts_sites, form_sites, arms_sites, arm_sites, otherwise_sites, test_rank, arms_rank, tests_rank}
 use Rattle.zpl_names.specs.Faults.{at_if, shatter_bodies, has_prefix, broken_form, broken_test, broken_tests, broken_arms, is_other_target}
 use Rattle.zpl_names.specs.Accepted.{HasNoFault}
-use Rattle.zpl_names.proofs.ListLemmas.{and_parts}
 use Rattle.zpl_names.proofs.NameLemmas.{empty_parts, no_place}
 use Rattle.zpl_meaning.specs.Points.{Reads, stmt_parts, stmts_parts, form_parts, arms_parts, arm_parts, otherwise_parts}
 use Rattle.zpl_meaning.proofs.DepthLemmas.{Each, each_left, each_right}
-use Rattle.zpl_meaning.proofs.ProperLemmas.{not_false}
 use Rattle.row_runs.specs.Straight.{Every}
 use Rattle.flat_form.proofs.WordLemmas.{every_append}
 use Rattle.shown_texts.specs.Forms.{HasPlainForm, HasPartForm}
@@ -83,7 +82,7 @@ owed_by : (form : Form) (reach : Reach) (at : ℕ) → is_above_zero reach.shatt
     → broken_tests reach (first_rank reach.shattered (tests_rank reach form)) form ≡ []
     → Owes reach form
 owed_by (Assign name op value) reach at above own tests =
-    not_false (is_elementwise value)
+    not-false (is_elementwise value)
     (no_place (not (is_elementwise value)) (at_of value)
     (empty_parts (at_if (is_other_target (kind_of reach.scope name) reach.shattered) at)
     (at_if (not (is_elementwise value)) (at_of value)) own).1)

@@ -4,6 +4,7 @@ use Rattle.std.specs.Prelude.{Option, Some, None, is_some, find, option_and_then
 use Rattle.std.specs.List.{list_all}
 use Rattle.std.specs.Option.{option_map}
 use Rattle.std.proofs.lemmas.List.Sums.{sum_by-cons}
+use Rattle.std.proofs.lemmas.List.{length-take-le, length-drop}
 use Rattle.zpl_region.specs.declared.regions.Region.{Region}
 use Rattle.zpl_arrays.specs.Array.{Array, element, has_place, updated}
 use Rattle.node_messages.specs.of_node_form.declared.arrays.Item.{Item}
@@ -123,15 +124,6 @@ written_shapes array (t ∷ places) (word ∷ words) stores next is =
     by (Some middle) here e rest = rest middle e ∙ same_shapes stores array t word middle here
 
 -- ---- items
-length_taken : {X : Type 0} (n : ℕ) (xs : List X) → n ≤ length xs → length (take n xs) ≡ n
-length_taken zero xs enough = refl
-length_taken (suc n) [] enough = absurd (omega arith)
-length_taken (suc n) (x ∷ xs) enough = let rest = length_taken n xs (omega arith) in omega arith
-
-length_left : {X : Type 0} (n : ℕ) (xs : List X) → length (drop n xs) ≡ length xs - n
-length_left zero xs = let same : length xs - 0 ≡ length xs = omega arith in sym same
-length_left (suc n) [] = let none : 0 - suc n ≡ 0 = omega arith in sym none
-length_left (suc n) (x ∷ xs) = let rest = length_left n xs in omega arith
 
 module _ (code : Tables) (local : Local) (from to : ℕ) where
   -- each item's places are held by these boxes
@@ -151,10 +143,10 @@ module _ (code : Tables) (local : Local) (from to : ℕ) where
           subst (λ n. n ≤ length words) (sum_by-cons (λ i. length (places_of code local from to i)) item items) enough
 
       long : length (take (length (places_of code local from to item)) words) ≡ length (places_of code local from to item)
-      long = length_taken (length (places_of code local from to item)) words (omega (arith, parts))
+      long = length-take-le (length (places_of code local from to item)) words (omega (arith, parts))
 
       left : length (drop (length (places_of code local from to item)) words) ≡ length words - length (places_of code local from to item)
-      left = length_left (length (places_of code local from to item)) words
+      left = length-drop (length (places_of code local from to item)) words
 
       by : (found : Option (List Array)) → with_values item.array (places_of code local from to item) (take (length (places_of code local from to item)) words) stores ≡ found
           → is_some (with_values item.array (places_of code local from to item) (take (length (places_of code local from to item)) words) stores) ≡ held_by (shapes stores) item.array (places_of code local from to item)

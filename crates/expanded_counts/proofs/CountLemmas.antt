@@ -1,5 +1,6 @@
 -- Counts that grow.
-use Rattle.std.proofs.Common.{◌≡◌, ◌<◌, ◌≤◌, ℕ, zero, suc, ◌+◌, ◌^◌, ◌-◌, min, List, [], ◌∷◌, drop, get_or, length, refl, sym, ◌∙◌, ap, arith, add-one, drop-cons}
+use Rattle.std.proofs.Common.{◌≡◌, ◌<◌, ◌≤◌, ℕ, zero, suc, ◌+◌, ◌^◌, ◌-◌, min, List, [], ◌∷◌, drop, get_or, length, refl, sym, ◌∙◌, ap, arith}
+use Rattle.std.proofs.lemmas.List.{drop_more}
 use Rattle.expanded_counts.specs.Counts.{more}
 
 capped : (a b c m : ℕ) → min (min (a + suc b) m + suc c) m ≡ min (a + suc (b + suc c)) m
@@ -14,10 +15,6 @@ more_more a (suc b) (suc c) =
     ∙ ap (more a) (let e : suc (b + suc c) ≡ suc b + suc c = omega arith in e)
 
 -- ---- the count of a list
-
-drop_at : {A : Type 0} (xs : List A) (i : ℕ) (d : A) → i < length xs →
-    drop i xs ≡ get_or xs i d ∷ drop (i + 1) xs
-drop_at xs i d less = drop-cons xs i d less ∙ ap (λ n. get_or xs i d ∷ drop n xs) (sym (add-one i))
 
 pub drop_past : {A : Type 0} (xs : List A) (i : ℕ) → length xs ≤ i → drop i xs ≡ []
 drop_past [] zero past = refl
@@ -34,7 +31,7 @@ module _ {A : Type 0} (f : A → ℕ) (F : List A → ℕ)
   counted_on xs i d count new goal less is had =
       ap (λ n. more n (F (drop (i + 1) xs))) is
       ∙ more_more count (f (get_or xs i d)) (F (drop (i + 1) xs))
-      ∙ ap (more count) (sym (ap F (drop_at xs i d less) ∙ one (get_or xs i d) (drop (i + 1) xs)))
+      ∙ ap (more count) (sym (ap F (drop_more xs i d less) ∙ one (get_or xs i d) (drop (i + 1) xs)))
       ∙ had
 
   -- all are counted

@@ -43,9 +43,6 @@ plus_is : (a b c d : ℕ) → plus (counted a b) (counted c d) ≡ counted (a + 
 plus_is a b c d =
     ap₂ (λ s n. record { statements = s; nodes = n }) (sum_is a c) (sum_is b d)
 
-none_is : no_size ≡ counted 0 0
-none_is = refl
-
 -- ---- sums over calls
 
 -- what a procedure adds, if it is there

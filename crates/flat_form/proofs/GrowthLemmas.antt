@@ -30,9 +30,6 @@ abbrev IsMore : Step Whole → Step Whole → Type 0
 IsMore = IsUpTo (Stops (Ends More))
 
 -- ---- all tuples
-both_wants : (told : Told Point) → IsUpTo SomeWant (both_told told SomeWant)
-    (both_told told SomeWant)
-both_wants told = TheSame
 
 wants_both : (told : Told Point) (rest : AllTold)
     → IsUpTo SomeWant (and_want rest) (both_told told rest)

@@ -5,6 +5,7 @@ use Rattle.std.proofs.Common.{append_assoc, append-nil, length-append}
 use Rattle.std.specs.Prelude.{flat_map, slice_get, slice_index_or}
 use Rattle.std.specs.Option.{IfSome, IsSomeAnd, option_map}
 use Rattle.std.proofs.lemmas.List.Elements.{All-head, All-tail}
+use Rattle.std.proofs.lemmas.List.{map-append, set-append_left}
 use Rattle.grid_meaning.specs.of_node_form.declared.instructions.DimRow.{DimRow}
 use Rattle.grid_meaning.specs.of_node_form.declared.instructions.DimRow.TheVariants as part
 use Rattle.grid_meaning.specs.of_node_form.declared.instructions.Instr.{Instr}
@@ -208,10 +209,6 @@ record IsSteady (tables : Tables) : Type 0 where
   same : (exprs : List Words) (groups : List (List number.Member)) (texts : List (List ℕ))
       → map (inlined (more tables exprs groups texts)) tables.code ≡ all_inlined tables
 
-map_append : {X Y : Type 0} (f : X → Y) (xs ys : List X) → map f (xs ++ ys) ≡ map f xs ++ map f ys
-map_append f [] ys = refl
-map_append f (x ∷ xs) ys = ap (λ zs. f x ∷ zs) (map_append f xs ys)
-
 more_again : (tables : Tables) (row : Row) (exprs : List Words) (groups : List (List number.Member))
     (texts : List (List ℕ)) (c : Instr)
     → inlined (more (with_row tables row) exprs groups texts) c
@@ -255,7 +252,7 @@ all_read : (tables : Tables) → IsSteady tables → (row : Row) → IsInline ro
     → map (inlined (more (with_row tables row) exprs groups texts)) (with_row tables row).code
     ≡ all_inlined tables ++ row ∷ []
 all_read tables steady row is exprs groups texts =
-    map_append (inlined (more (with_row tables row) exprs groups texts)) tables.code
+    map-append (inlined (more (with_row tables row) exprs groups texts)) tables.code
     (coded tables row ∷ [])
     ∙ (ap (λ xs. xs ++ inlined (more (with_row tables row) exprs groups texts) (coded tables row) ∷
     [])
@@ -481,11 +478,6 @@ pub are_inline : AreInline
 are_inline tables = every_row tables tables.code
 
 -- ---- goals
-set_append : {X : Type 0} (xs ys : List X) (k : ℕ) (v : X) → k < length xs → set (xs ++ ys) k v
-    ≡ set xs k v ++ ys
-set_append [] ys k v is = absurd (omega arith)
-set_append (x ∷ xs) ys zero v is = refl
-set_append (x ∷ xs) ys (suc k) v is = ap (λ zs. x ∷ zs) (set_append xs ys k v (omega arith))
 
 set_last : {X : Type 0} (xs : List X) (x v : X) → set (xs ++ x ∷ []) (length xs) v ≡ xs ++ v ∷ []
 set_last [] x v = refl
@@ -495,11 +487,6 @@ index_last : {X : Type 0} (xs : List X) (x d : X) → slice_index_or (xs ++ x �
 index_last [] x d = refl
 index_last (y ∷ xs) x d = index_last xs x d
 
-length_set : {X : Type 0} (xs : List X) (k : ℕ) (v : X) → length (set xs k v) ≡ length xs
-length_set [] k v = refl
-length_set (x ∷ xs) zero v = refl
-length_set (x ∷ xs) (suc k) v = ap suc (length_set xs k v)
-
 patch_behind : (tables : Tables) (row : Row) (at goal : ℕ) → at < length tables.code
     → patched (with_row tables row) at goal ≡ with_row (patched tables at goal) row
 patch_behind tables row at goal inside =
@@ -508,7 +495,7 @@ patch_behind tables row at goal inside =
           (with_goal goal c);
     }) (index_within tables.code (coded tables row ∷ []) at instr.End inside)
     ∙ ap (λ cs. record (with_row tables row) { code = cs })
-    (set_append tables.code (coded tables row ∷ []) at
+    (set-append_left tables.code (coded tables row ∷ []) at
     (with_goal goal (slice_index_or tables.code at instr.End)) inside)
     ∙ same row
   where

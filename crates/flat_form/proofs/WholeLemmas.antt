@@ -1,8 +1,9 @@
 -- States keep what the tables say that there is.
 use Rattle.std.proofs.Common.{◌≡◌, refl, sym, ◌∙◌, ap, subst, ℕ, zero, suc, Bool, true, false, List}
-use Rattle.std.proofs.Common.{[], ◌∷◌, length, map, replicate, Option, Some, ℤ}
+use Rattle.std.proofs.Common.{[], ◌∷◌, length, map, Option, Some, ℤ}
 use Rattle.std.specs.Prelude.{slice_get, slice_set, ⊤}
 use Rattle.std.specs.List.{AllZip}
+use Rattle.std.proofs.lemmas.List.{length-replicate}
 use Rattle.code_parts.specs.of_zpl_region.declared.regions.Region.{Region}
 use Rattle.code_parts.specs.of_zpl_region.Region.{members}
 use Rattle.code_parts.specs.of_zpl_arrays.Array.{Array, place_among, updated}
@@ -23,10 +24,6 @@ length_set (x ∷ xs) (suc k) v = ap suc (length_set xs k v)
 length_map : {X Y : Type 0} (f : X → Y) (xs : List X) → length (map f xs) ≡ length xs
 length_map f [] = refl
 length_map f (x ∷ xs) = ap suc (length_map f xs)
-
-length_replicate : {X : Type 0} (n : ℕ) (x : X) → length (replicate n x) ≡ n
-length_replicate zero x = refl
-length_replicate (suc n) x = ap suc (length_replicate n x)
 
 -- one store with another one in its place
 zip_set : (rows : List ArrayRow) (stores : List Array) (k : ℕ) (new : Array)
@@ -145,8 +142,8 @@ starts (row ∷ rows) = (
 
 pub begin_whole : BeginWhole
 begin_whole tables = record {
-  scalars = length_replicate tables.scalars _;
-  awaited = length_replicate tables.scalars _;
+  scalars = length-replicate tables.scalars _;
+  awaited = length-replicate tables.scalars _;
   slots = length_map _ tables.slots;
   stores = starts tables.arrays;
 }

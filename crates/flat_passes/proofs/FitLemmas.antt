@@ -4,7 +4,7 @@ use Rattle.std.proofs.Common.{List, [], ◌∷◌, ◌++◌, length, length-appe
 use Rattle.std.specs.Prelude.{All, Option, Some, None, slice_get}
 use Rattle.std.specs.Option.{IfSome, IsSomeAnd}
 use Rattle.std.specs.List.{AllByRecursion}
-use Rattle.std.proofs.lemmas.List.Elements.{All-from_recursion, recursion_from_All}
+use Rattle.std.proofs.lemmas.List.Elements.{All-from_recursion, recursion_from_All, All-weaker}
 use Rattle.flat_form.specs.of_node_form.declared.words.ExprOp.{ExprOp}
 use Rattle.flat_form.specs.of_node_form.declared.words.ExprOp.TheVariants as word
 use Rattle.flat_form.specs.of_node_form.declared.arrays.Item.{Item}
@@ -23,10 +23,6 @@ use Rattle.flat_form.specs.of_node_form.Nest.{IsNest}
 use Rattle.flat_passes.specs.Grouped.{Grouped, Runs, Plain, all_numbered, group_of, groups_of}
 use Rattle.flat_passes.specs.Grouped.{numbered, with_grouped}
 use Rattle.flat_passes.proofs.DraftLemmas.{numbered_length}
-
-weaker_all : {X : Type 0} (P Q : X → Type 0) → ((x : X) → P x → Q x) → (xs : List X) → All P xs
-    → All Q xs
-weaker_all P Q weaker xs all k d inside = weaker _ (all k d inside)
 
 weaker_some : {X : Type 0} (P Q : X → Type 0) → ((x : X) → P x → Q x) → (o : Option X)
     → IsSomeAnd o P → IsSomeAnd o Q
@@ -66,7 +62,7 @@ module _ (old : Tables) (groups : List (List Member)) (code : List Instr) where
 
   words_same : (rank : ℕ) (words : List ExprOp) → All (FitsWord old rank) words
       → All (FitsWord anew rank) words
-  words_same rank = weaker_all (FitsWord old rank) (FitsWord anew rank) (word_same rank)
+  words_same rank = All-weaker (FitsWord old rank) (FitsWord anew rank) (word_same rank)
 
   expr_same : (words : List ExprOp) → FitsExpr old words → FitsExpr anew words
   expr_same words fits = record {
@@ -104,7 +100,7 @@ module _ (old : Tables) (groups : List (List Member)) (code : List Instr) where
 
   members_same : (rank : ℕ) (members : List Member) → All (FitsMember old rank) members
       → All (FitsMember anew rank) members
-  members_same rank = weaker_all (FitsMember old rank) (FitsMember anew rank) (member_same rank)
+  members_same rank = All-weaker (FitsMember old rank) (FitsMember anew rank) (member_same rank)
 
   group_same : (members : List Member) → FitsGroup old members → FitsGroup anew members
   group_same members fits = record {
@@ -125,17 +121,17 @@ module _ (old : Tables) (groups : List (List Member)) (code : List Instr) where
 
   exchange_same : (items : List Item) → FitsExchange old items → FitsExchange anew items
   unfolding FitsExchange
-  exchange_same items fits = weaker_all (FitsItem old) (FitsItem anew) item_same items fits
+  exchange_same items fits = All-weaker (FitsItem old) (FitsItem anew) item_same items fits
 
   pub fits_anew : Fits old → All (FitsGroup old) groups → All (FitsInstr anew) code → Fits anew
   fits_anew fits all_groups all_rows = record {
     grid = fits.grid;
     slots = fits.slots;
     arrays = fits.arrays;
-    exprs = weaker_all (FitsExpr old) (FitsExpr anew) expr_same old.exprs fits.exprs;
-    groups = weaker_all (FitsGroup old) (FitsGroup anew) group_same groups all_groups;
+    exprs = All-weaker (FitsExpr old) (FitsExpr anew) expr_same old.exprs fits.exprs;
+    groups = All-weaker (FitsGroup old) (FitsGroup anew) group_same groups all_groups;
     exchanges =
-        weaker_all (FitsExchange old) (FitsExchange anew) exchange_same old.exchanges
+        All-weaker (FitsExchange old) (FitsExchange anew) exchange_same old.exchanges
         fits.exchanges;
     code = all_rows;
   }
@@ -156,7 +152,7 @@ module _ (old : Tables) (groups : List (List Member)) (code : List Instr) where
     fit = (
       fits.fit.0,
       (
-        weaker_all (FitsPart old fits.rank) (FitsPart anew fits.rank) (part_same fits.rank) parts
+        All-weaker (FitsPart old fits.rank) (FitsPart anew fits.rank) (part_same fits.rank) parts
             fits.fit.1.0,
         fits.fit.1.1,
       ),

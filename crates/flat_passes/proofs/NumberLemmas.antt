@@ -54,14 +54,6 @@ module _ {Row : Type 0} (count : Row → ℕ) where
   number_past (row ∷ rows) from end (suc g) past =
       number_past rows (from + count row) end g (omega (arith, past))
 
-  pub counted_all : (rows : List Row) (g : ℕ) → length rows ≤ g
-      → counted (take g rows) ≡ counted rows
-  counted_all [] zero past = refl
-  counted_all [] (suc g) past = refl
-  counted_all (row ∷ rows) zero past = absurd (omega (arith, past))
-  counted_all (row ∷ rows) (suc g) past =
-      ap (λ n. count row + n) (counted_all rows g (omega (arith, past)))
-
   pub counted_append : (rows others : List Row) (g : ℕ)
       → counted (take (length rows + g) (rows ++ others)) ≡ counted rows + counted (take g others)
   counted_append [] others g = let e : 0 + g ≡ g = omega arith in rw e (omega arith)

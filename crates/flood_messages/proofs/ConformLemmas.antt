@@ -4,6 +4,7 @@ use Rattle.std.specs.Prelude.{◌&&◌, filter, unwrap_or, is_some}
 use Rattle.std.specs.List.{AllZip}
 use Rattle.std.specs.Ordering.{int_eq}
 use Rattle.std.proofs.lemmas.List.Elements.{All-head, All-tail}
+use Rattle.std.proofs.lemmas.Bool.{and_parts}
 use Rattle.zpl_region.specs.declared.dims.Dim.{Dim}
 use Rattle.zpl_region.specs.declared.dims.Dim.TheVariants.{Range, Flood}
 use Rattle.zpl_region.specs.declared.regions.Region.{Region}
@@ -24,7 +25,7 @@ use Rattle.grid_layout.specs.Layout.{AreBlocks, axes_at}
 use Rattle.grid_layout.specs.Piece.{block_for, each_block_for, each_owned, owned_dim, owned_part, owner_for}
 use Rattle.grid_layout.proofs.BlockLemmas.{in_block}
 use Rattle.grid_layout.proofs.OwnerLemmas.{AreCuts, are_cuts, axes_three}
-use Rattle.grid_layout.proofs.PartLemmas.{AreBelow, blocks_are_below, blocks_length, both_true, coordinates-owned, filter_among, has_dim}
+use Rattle.grid_layout.proofs.PartLemmas.{AreBelow, blocks_are_below, blocks_length, coordinates-owned, filter_among, has_dim}
 use Rattle.flood_messages.specs.Conforming.{by_single, conforming, conforming_dim, each_conforming, without_single}
 
 -- ---- it conforms
@@ -115,7 +116,7 @@ module _ (axis : Axis) (n k : ℕ) (below : k < n) where
   -- a coordinate of the own part of a range is in the own block
   own_block : (lo hi step align x : ℤ) → has_dim axis n k k (Range lo hi step align) x ≡ true → k ≡ block_of axis n x
   own_block lo hi step align x has =
-      let both = both_true _ _ has in
+      let both = and_parts _ _ has in
       in_block axis n k x below (le_from_test _ _ both.0, le_from_test _ _ both.1)
 
   without : (t s : Dim) (x : ℤ) → HasStep t → Among (coordinates t) x → has_dim axis n k k t x ≡ true → single_of s ≡ None

@@ -79,9 +79,6 @@ weaker_if P Q weaker (Some x) holds = weaker x holds
 
 -- ---- expressions and groups keep their shapes
 module _ (cell_of : ℕ → Option ℕ) where
-  abbrev change : ExprOp → ExprOp
-  change = word_contracted cell_of
-
   element : ℕ → Option ℕ → Expression
   element array (Some cell) = CellValue cell
   element array None = Element array

@@ -6,7 +6,8 @@ use Rattle.std.specs.Prelude.{slice_get}
 use Rattle.std.specs.List.{list_any}
 use Rattle.std.specs.Cmp.Lexicographic.{pointwise}
 use Rattle.std.specs.Ordering.{int_eq}
-use Rattle.indexmap.specs.IndexMap.{IsEmpty, get}
+use Rattle.std.proofs.lemmas.Bool.{or_left}
+use Rattle.indexmap.specs.IndexMap.{get}
 use Rattle.zpl_nums.specs.declared.ends.TrapKind.{TrapKind}
 use Rattle.zpl_region.specs.declared.regions.Region.{Region}
 use Rattle.temp_norm.specs.of_node_form.declared.arrays.Item.{Item}
@@ -31,9 +32,6 @@ pub same_item : (one other : Reference) → key_eq one other ≡ is_item (item_o
 same_item one other =
     grouped (one.array == other.array) (one.slot == other.slot)
     (pointwise int_eq one.shift other.shift)
-
-pub key_is : (one other : Reference) → key_eq one other ≡ true → item_of one ≡ item_of other
-key_is one other e = (is_item-Decides (item_of one) (item_of other)).0 (sym (same_item one other) ∙ e)
 
 both_ways : (a b : Bool) → (a ≡ true → b ≡ true) → (b ≡ true → a ≡ true) → a ≡ b
 both_ways true b there back = sym (there refl)
@@ -60,10 +58,6 @@ le_false a b h = by (nat_le a b) refl
     by : (v : Bool) → nat_le a b ≡ v → v ≡ false
     by true e = absurd (grind (arith, h, e))
     by false e = refl
-
-or_left : (a b : Bool) → a ≡ true → (a || b) ≡ true
-or_left true b e = refl
-or_left false b e = absurd (true≢false (sym e))
 
 -- ---- tests of lists
 any_kept : (one : Item) (keep : Item → Bool) (items : List Item)
@@ -93,23 +87,6 @@ any_kept one keep (item ∷ items) =
         off : keep one ≡ false
         off = ap keep ((is_item-Decides one item).0 is) ∙ kept
     by false false kept is more = more
-
--- ---- what is known at the beginning
-pub none_known : (known : Known) → IsEmpty known.references → IsEmpty known.slots
-    → IsEmpty known.arrays → known.time ≡ 0 → IsKnown known []
-none_known known no_references no_slots no_arrays never = record {
-  references = λ one. past (get key_eq known.references one) (none_at one);
-  slots = λ slot. past (get nat_eq known.slots slot) (rw no_slots refl);
-  arrays = λ array. past (get nat_eq known.arrays array) (rw no_arrays refl);
-  same = λ one. ap (λ time. is_since time (or_never (get nat_eq known.slots one.slot))
-      (or_never (get nat_eq known.arrays one.array))) (none_at one);
-}
-  where
-    none_at : (one : Reference) → get key_eq known.references one ≡ None
-    none_at one = rw no_references refl
-
-    past : (time : Option ℕ) → time ≡ None → IsPast known.time time
-    past time none = subst (IsPast known.time) (sym none) (omega arith)
 
 -- ---- a reference is learned
 module _ (old new : Known) (one : Reference)

@@ -31,13 +31,6 @@ use Rattle.fuse_contract.specs.declared.states.CellState.TheVariants as state
 use Rattle.std.proofs.Math.Path.{fun_ext}
 
 -- ---- truth values and numbers
-or_assoc : (a b c : Bool) → ((a || b) || c) ≡ (a || (b || c))
-or_assoc true b c = refl
-or_assoc false b c = refl
-
-or_right : (a b : Bool) → b ≡ true → (a || b) ≡ true
-or_right true b e = refl
-or_right false b e = e
 
 same_number : (n : ℕ) → (n == n) ≡ true
 same_number n = eq-eqb n n refl

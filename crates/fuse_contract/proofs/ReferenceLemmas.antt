@@ -1,6 +1,6 @@
 -- The references of a loop that fits.
 use Rattle.std.proofs.Common.{◌≡◌, refl, ℕ, zero, suc, ℤ, pos, List, [], ◌∷◌}
-use Rattle.std.proofs.Common.{rules, drop, map, true}
+use Rattle.std.proofs.Common.{rules, drop, map}
 use Rattle.std.specs.Prelude.{All, Option, Some, None, flat_map, slice_get}
 use Rattle.std.specs.Option.{IfSome, IsSomeAnd}
 use Rattle.std.specs.List.{AllByRecursion}
@@ -102,15 +102,6 @@ module _ (tables : Tables) (rank slot : ℕ) (over : HasSlot tables rank slot) w
       (flat_map (member_words tables) members) (exprs_words (exprs_of one) (exprs_fit one all.0))
       (members_words members all.1)
 
-  abbrev at_slot : ℕ → Item
-  at_slot array = reference slot array unmoved
-
-  put_fits : (one : Member) → FitsMember tables rank one
-      → AllByRecursion (λ item. FitsReference tables item)
-      (map (λ array. reference slot array unmoved) (put_by one))
-  put_fits (member.Put array expr mask line) fit = (fits array unmoved fit.0 (unmoved_vector rank), tt)
-  put_fits one fit = tt
-
   puts_fit : (members : List Member) → AllByRecursion (FitsMember tables rank) members
       → AllByRecursion (λ item. FitsReference tables item)
       (map (λ array. reference slot array unmoved) (flat_map put_by members))
@@ -142,10 +133,3 @@ references_fit tables slot group fits =
         (references_of tables slot members)
         (group_fits tables fits.rank slot fits.fit.0 members
         (recursion_from_All (FitsMember tables fits.rank) members has))
-
--- the `need` of such a reference fits where its array is a stored one
-pub need_fits : (tables : Tables) (item : Item) → FitsReference tables item
-    → IsSomeAnd (slice_get tables.arrays item.array) (λ row. row.stored ≡ true)
-    → FitsInstr tables (instr.Need item.slot item.array item.shift 0)
-need_fits tables item fits stored =
-    record { rank = fits.rank; fit = (fits.slot, fits.array, stored, fits.shift) }

@@ -25,9 +25,6 @@ use Rattle.fuse_contract.specs.declared.states.CellState.{CellState}
 use Rattle.fuse_contract.proofs.NamingLemmas.{contracted_is}
 
 -- ---- words
-or_false : (a : Bool) → a ≡ (a || false)
-or_false true = refl
-or_false false = refl
 
 pub some_name : (array : ℕ) (words : List ExprOp)
     → list_any (λ one. word_names array one) words ≡ is_among array (flat_map arrays_in words)

@@ -5,26 +5,22 @@ use Rattle.std.specs.Prelude.{◌==◌, ◌&&◌, Option, Some, None, if◌then�
 use Rattle.std.specs.Prelude.{Err, Ok, OnOk, Result}
 use Rattle.std.specs.declared.alloc.AllocError.{AllocError}
 use Rattle.std.specs.List.{list_all}
-use Rattle.std.proofs.lemmas.List.{append-nil}
 use Rattle.std.proofs.lemmas.List.Folds.{list_all-append}
 use Rattle.temp_norm.specs.of_node_form.declared.arrays.Item.{Item}
-use Rattle.temp_norm.specs.of_node_form.declared.instructions.Instr.{Instr}
-use Rattle.temp_norm.specs.of_node_form.declared.instructions.Instr.TheVariants as instr
 use Rattle.temp_norm.specs.of_node_form.declared.members.Member.{Member}
 use Rattle.temp_norm.specs.of_node_form.declared.tables.Tables.{Tables}
 use Rattle.temp_norm.specs.of_code_parts.Uses.{members_of}
-use Rattle.temp_norm.specs.of_flat_passes.declared.draft.Draft.{Draft}
-use Rattle.temp_norm.specs.of_flat_passes.Draft.{with_row, with_rows}
-use Rattle.temp_norm.specs.of_flat_passes.Grouped.{Grouped, Plain}
-use Rattle.temp_norm.proofs.of_flat_passes.DraftLemmas.{no_rows, rows_both}
+use Rattle.temp_norm.specs.of_flat_passes.Draft.{with_rows}
+use Rattle.temp_norm.specs.of_flat_passes.Grouped.{Grouped}
+use Rattle.temp_norm.proofs.of_flat_passes.DraftLemmas.{no_rows}
 use Rattle.plan_form.proofs.ItemLemmas.{taken_more}
 use Rattle.fuse_contract.specs.Behind.{GoesOn, IsBehind, IsGrown, IsLast}
-use Rattle.fuse_contract.specs.Fusing.{Loop, can_join, known_behind, last_rows, lies_within}
+use Rattle.fuse_contract.specs.Fusing.{Loop, can_join, last_rows, lies_within}
 use Rattle.fuse_contract.specs.Fusing.{references_of, stands_with}
-use Rattle.fuse_contract.specs.Joining.{Facts, behind_loop, can_take, facts_behind, joins_last}
-use Rattle.fuse_contract.specs.Joining.{last_with, loop_over, loop_rows, no_facts, no_numbers, row_rows}
+use Rattle.fuse_contract.specs.Joining.{Facts, behind_loop, can_take, joins_last}
+use Rattle.fuse_contract.specs.Joining.{last_with, loop_over, loop_rows, no_facts, no_numbers}
 use Rattle.fuse_contract.specs.Joining.{uses_of, with_uses}
-use Rattle.fuse_contract.specs.Known.{IsKnown, known_after}
+use Rattle.fuse_contract.specs.Known.{IsKnown}
 use Rattle.fuse_contract.specs.declared.joins.Grown.{Grown}
 use Rattle.fuse_contract.specs.declared.joins.Walk.{Walk}
 use Rattle.fuse_contract.specs.declared.uses.GroupUses.{GroupUses}
@@ -95,13 +91,6 @@ module _ (tables : Tables) (known : List Item) (grown : Grown) (slot : ℕ) (use
       → answer ≡ joins_last tables known last (record { slot = slot; group = group })
   joins_are last before there is =
       joins_known last (subst (λ b. IsLast tables b last) there is)
-
-pub joins_none : (tables : Tables) (known : List Item) (loop : Loop) (last : Option Loop)
-    (before : Option Grown) → before ≡ None → IsLast tables before last
-    → false ≡ joins_last tables known last loop
-joins_none tables known loop None before there is = refl
-joins_none tables known loop (Some last) before there is =
-    absurd (subst (λ b. IsLast tables b (Some last)) there is)
 
 -- ---- the loop that others may still join
 module _ (code : Tables) (slot : ℕ) (members : List Member) (uses : GroupUses)
@@ -182,55 +171,6 @@ module _ (tables : Tables) (slot group : ℕ) (old mid new : Walk) (uses : Group
               (grew (if joined then facts.last else None) first.1.last);
         },
       )
-
--- and any other row
-one_row : (draft : Draft) (row : Instr) → with_row draft row ≡ with_rows draft (Plain row ∷ [])
-one_row draft row =
-    ap (λ groups. record draft { code = draft.code ++ row ∷ []; groups = groups })
-    (sym (append-nil draft.groups))
-
-module _ (tables : Tables) (old mid new : Walk)
-    (pushed : GoesOn tables old mid (λ facts. last_rows facts.last)
-    (λ facts. record facts { last = None })) where
-  plain_added : (row : Instr) (facts : Facts) (known : List Item) → IsBehind tables old facts
-      → new.draft ≡ with_row mid.draft row → new.last ≡ mid.last
-      → IsKnown new.known known
-      → (new.draft ≡ with_rows old.draft (last_rows facts.last ++ Plain row ∷ []))
-      × IsBehind tables new (record { known = known; last = None })
-  plain_added row facts known behind written same_last is =
-      let first = pushed facts behind in (
-        written
-            ∙ (one_row mid.draft row
-            ∙ (ap (λ d. with_rows d (Plain row ∷ [])) first.0
-            ∙ rows_both old.draft (last_rows facts.last) (Plain row ∷ []))),
-        record {
-          known = is;
-          last = subst (λ last. IsLast tables last None) (sym same_last) first.1.last;
-        },
-      )
-
-  pub row_added : (row : Instr) → ((slot group : ℕ) → row ≡ instr.Loop slot group → ⊥)
-      → new.draft ≡ with_row mid.draft row → new.last ≡ mid.last
-      → ((items : List Item) → IsKnown mid.known items → IsKnown new.known (known_after items row))
-      → GoesOn tables old new (λ facts. row_rows tables facts row)
-      (λ facts. facts_behind tables facts row)
-  row_added (instr.Loop slot group) other written same_last passed facts behind =
-      absurd (other slot group refl)
-  row_added (instr.Jump goal) other written same_last passed facts behind =
-      plain_added (instr.Jump goal) facts [] behind written same_last
-      (passed facts.known (pushed facts behind).1.known)
-  row_added (instr.Unless expr goal line) other written same_last passed facts behind =
-      plain_added (instr.Unless expr goal line) facts [] behind written same_last
-      (passed facts.known (pushed facts behind).1.known)
-  row_added (instr.Trap kind line) other written same_last passed facts behind =
-      plain_added (instr.Trap kind line) facts [] behind written same_last
-      (passed facts.known (pushed facts behind).1.known)
-  row_added instr.End other written same_last passed facts behind =
-      plain_added instr.End facts [] behind written same_last
-      (passed facts.known (pushed facts behind).1.known)
-  row_added row other written same_last passed facts behind =
-      plain_added row facts (known_behind facts.known row) behind written same_last
-      (passed facts.known (pushed facts behind).1.known)
 
 -- ---- in front of a row
 -- nothing is written, and nothing is forgotten

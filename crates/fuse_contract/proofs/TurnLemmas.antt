@@ -6,6 +6,7 @@ use Rattle.std.specs.Prelude.{slice_get}
 use Rattle.std.specs.List.{AllByRecursion, list_any}
 use Rattle.std.proofs.lemmas.List.Elements.{All-from_recursion, recursion_from_All}
 use Rattle.std.proofs.lemmas.List.Sums.{sum_by-append, sum_by-cons}
+use Rattle.std.proofs.lemmas.Bool.{not-true}
 use Rattle.temp_norm.specs.of_row_runs.Cut.{Stretch, moved_by}
 use Rattle.temp_norm.specs.of_node_form.declared.arrays.Item.{Item}
 use Rattle.temp_norm.specs.of_node_form.declared.members.Member.{Member}
@@ -43,10 +44,6 @@ turns_both : (group other : List Member)
     ≡ count_by is_turning group + count_by is_turning other
 turns_both group other = sum_by-append (λ one. cond (is_turning one) 1 0) group other
 
-off : (b : Bool) → not b ≡ true → b ≡ false
-off true e = sym e
-off false e = refl
-
 module _ (tables : Tables) (most : ℕ) where
   abbrev Turns : Grouped → Type 0
   Turns (Runs slot group) = count_by is_turning group ≤ most
@@ -61,8 +58,8 @@ module _ (tables : Tables) (most : ℕ) where
       omega (
         arith,
         turns_both group other,
-        no_turns group (off (list_any is_turning group) (both_left _ _ five)),
-        no_turns other (off (list_any is_turning other) (both_right _ _ five)),
+        no_turns group (not-true (list_any is_turning group) (both_left _ _ five)),
+        no_turns other (not-true (list_any is_turning other) (both_right _ _ five)),
       )
 
   loop_turns : (known : List Item) (last : Option Loop) (loop : Loop)

@@ -68,14 +68,6 @@ lists_more step f xs k x old now new there is added =
     ∙ (sym (flat_map-append f (take k xs) (x ∷ []))
     ∙ ap (flat_map f) (sym (taken_more xs k x there))))))
 
-pub words_more : {A : Type 0} (step : A → ExprOp → A) (tables : Tables) (members : List Member)
-    (k : ℕ) (one : Member) (old now new : A) → slice_get members k ≡ Some one
-    → now ≡ fold step old (flat_map (member_words tables) (take k members))
-    → new ≡ fold step now (member_words tables one)
-    → new ≡ fold step old (flat_map (member_words tables) (take (k + 1) members))
-words_more step tables members k one old now new there is added =
-    lists_more step (member_words tables) members k one old now new there is added
-
 -- ---- all of a group
 abbrev same_uses : List ℕ → List ℕ → List ℕ → List Item → Bool → GroupUses
 same_uses puts shifted scalars references alone = record {

@@ -1,12 +1,12 @@
 -- What two groups name together, and each of them alone.
-use Rattle.std.proofs.Common.{◌≡◌, refl, sym, ◌∙◌, ap, subst, arith, ℕ, zero, suc, Bool, true}
+use Rattle.std.proofs.Common.{◌≡◌, refl, sym, ◌∙◌, ap, subst, arith, ℕ, zero, suc, true}
 use Rattle.std.proofs.Common.{false}
 use Rattle.std.proofs.Common.{true≢false}
 use Rattle.std.proofs.Common.{List, [], ◌∷◌, ◌++◌, map, Option, Some, None, inl, inr}
 use Rattle.std.specs.Prelude.{◌&&◌, ◌||◌, ◌==◌, ◌⊎◌, flat_map, not, slice_get, slice_index_or}
 use Rattle.std.specs.List.{AllByRecursion, list_all, list_any}
 use Rattle.std.specs.Option.{option_map}
-use Rattle.std.proofs.lemmas.Bool.{and_from, and_parts}
+use Rattle.std.proofs.lemmas.Bool.{and_from, and_parts, not-true, or_parts, not_from_false}
 use Rattle.std.proofs.lemmas.Bool.Decides.{nat_tests}
 use Rattle.std.proofs.lemmas.Grind.{flat_map-append}
 use Rattle.std.proofs.lemmas.List.{map-append}
@@ -30,16 +30,6 @@ use Rattle.flat_form.specs.Row.{Member, Words, mask_words, member_inlined, membe
 use Rattle.flat_form.specs.Whole.{Whole}
 
 -- ---- tests
-pub or_none : (a b : Bool) → (a || b) ≡ false → (a ≡ false) × (b ≡ false)
-or_none true b e = absurd (true≢false e)
-or_none false b e = (refl, e)
-
-pub not_true : (b : Bool) → not b ≡ true → b ≡ false
-not_true true e = sym e
-not_true false e = refl
-
-pub true_not : (b : Bool) → b ≡ false → not b ≡ true
-true_not b e = ap not e
 
 apart_one : (a r : ℕ) → (a == r) ≡ false → a ≡ r → ⊥
 apart_one a r e same =
@@ -53,9 +43,9 @@ first_apart : (k : ℕ) (numbers others : List ℕ) → share numbers (k ∷ oth
     → NotAmong numbers k
 first_apart k [] others e = tt
 first_apart k (one ∷ numbers) others e =
-    let parts = or_none ((one == k) || list_any (λ other. one == other) others)
+    let parts = or_parts ((one == k) || list_any (λ other. one == other) others)
     (share numbers (k ∷ others)) e in (
-      apart_one one k (or_none (one == k) (list_any (λ other. one == other) others) parts.0).0,
+      apart_one one k (or_parts (one == k) (list_any (λ other. one == other) others) parts.0).0,
       first_apart k numbers others parts.1,
     )
 
@@ -64,8 +54,8 @@ rest_apart : (k : ℕ) (numbers others : List ℕ) → share numbers (k ∷ othe
 rest_apart k [] others e = refl
 rest_apart k (one ∷ numbers) others e =
     let here = list_any (λ other. one == other) others in
-    let parts = or_none ((one == k) || here) (share numbers (k ∷ others)) e in
-    ap (λ b. b || share numbers others) (or_none (one == k) here parts.0).1
+    let parts = or_parts ((one == k) || here) (share numbers (k ∷ others)) e in
+    ap (λ b. b || share numbers others) (or_parts (one == k) here parts.0).1
     ∙ rest_apart k numbers others parts.1
 
 pub all_apart : (numbers others : List ℕ) → share numbers others ≡ false
@@ -166,7 +156,7 @@ among_parts : (k : ℕ) (xs ys : List ℕ) → is_among k (xs ++ ys) ≡ false
     → (is_among k xs ≡ false) × (is_among k ys ≡ false)
 among_parts k [] ys e = (refl, e)
 among_parts k (x ∷ xs) ys e =
-    let parts = or_none (x == k) (is_among k (xs ++ ys)) e in
+    let parts = or_parts (x == k) (is_among k (xs ++ ys)) e in
     let more = among_parts k xs ys parts.1 in
     (ap (λ b. b || is_among k xs) parts.0 ∙ more.0, more.1)
 
@@ -177,8 +167,8 @@ distinct_parts (x ∷ xs) ys e =
     let parts = and_parts (not (is_among x (xs ++ ys))) (are_distinct (xs ++ ys)) e in
     let more = distinct_parts xs ys parts.1 in (
       and_from (not (is_among x xs)) (are_distinct xs)
-          (true_not (is_among x xs)
-          (among_parts x xs ys (not_true (is_among x (xs ++ ys)) parts.0)).0) more.0,
+          (not_from_false (is_among x xs)
+          (among_parts x xs ys (not-true (is_among x (xs ++ ys)) parts.0)).0) more.0,
       more.1,
     )
 
@@ -224,8 +214,8 @@ each_begins s next all some fewer (total ∷ totals) same e =
     and_from (total_begins next some total) (list_all (total_begins next some) totals)
     (and_from (unit (slice_get next.scalars total.scalar)) (not (is_among total.scalar some))
     (ap unit (sym same.0) ∙ own.0)
-    (true_not (is_among total.scalar some)
-    (fewer total.scalar (not_true (is_among total.scalar all) own.1))))
+    (not_from_false (is_among total.scalar some)
+    (fewer total.scalar (not-true (is_among total.scalar all) own.1))))
     (each_begins s next all some fewer totals same.1 parts.1)
 
 none_left : {X : Type 0} (xs ys : List X) → xs ++ ys ≡ [] → (xs ≡ []) × (ys ≡ [])

@@ -4,7 +4,7 @@ use Rattle.std.proofs.Common.{true≢false, List, [], ◌∷◌, length, map, �
 use Rattle.std.specs.Prelude.{◌&&◌, ◌||◌, if◌then◌else◌}
 use Rattle.std.specs.List.{AllByRecursion, AllZip, list_all}
 use Rattle.std.proofs.lemmas.Int.{ints}
-use Rattle.std.proofs.lemmas.Bool.{and_from, and_parts, eqb-true}
+use Rattle.std.proofs.lemmas.Bool.{and_from, and_parts, eqb-true, or_right}
 use Rattle.std.proofs.lemmas.List.Elements.{All-from_recursion, recursion_from_All}
 use Rattle.zpl_region.specs.declared.dims.Dim.{Dim}
 use Rattle.zpl_region.specs.declared.dims.Dim.TheVariants.{Range, Flood}
@@ -26,10 +26,6 @@ use Rattle.node_form.specs.Fits.{storage_dim, storage_of}
 use Rattle.grid_meaning.specs.Place.{moved_by}
 use Rattle.flat_form.specs.Right.{each_covers, has_places, is_unmoved, matches, may_read}
 use Rattle.normal_runs.proofs.PlaceLemmas.{are_members}
-
-either : (a b : Bool) → b ≡ true → (a || b) ≡ true
-either true b e = refl
-either false b e = e
 
 first_of_two : (a b : Bool) → (a && b) ≡ true → a ≡ true
 first_of_two a b e = (and_parts a b e).0
@@ -72,7 +68,7 @@ whole_place own rows t steps long e z =
     let storage : Region = record { rank = 0; dims = map storage_dim rows } in
     lies_in_places region storage t (All-from_recursion HasStep own steps)
     (All-from_recursion IsBoxed (map storage_dim rows) (boxed rows))
-    (long ∙ sym (mapped rows)) (either (has_none region) (each_lies_in own storage.dims) e) z
+    (long ∙ sym (mapped rows)) (or_right (has_none region) (each_lies_in own storage.dims) e) z
   where
     mapped : (rows : List ArrayDim) → length (map storage_dim rows) ≡ length rows
     mapped [] = refl

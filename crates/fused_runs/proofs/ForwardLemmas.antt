@@ -5,7 +5,7 @@ use Rattle.std.proofs.Common.{List, [], ◌∷◌, ◌++◌, Option, Some, None,
 use Rattle.std.specs.Prelude.{◌&&◌, ◌||◌, ◌==◌, ◌⊎◌, flat_map, fold, if◌then◌else◌, not, is_none}
 use Rattle.std.specs.Prelude.{option_and_then, slice_get}
 use Rattle.std.specs.List.{AllByRecursion, list_all, list_any}
-use Rattle.std.proofs.lemmas.Bool.{and_from, and_parts}
+use Rattle.std.proofs.lemmas.Bool.{and_from, and_parts, not-true, or_parts, not_from_false}
 use Rattle.std.proofs.lemmas.Bool.Decides.{nat_tests}
 use Rattle.std.proofs.lemmas.List.{map-append}
 use Rattle.std.proofs.lemmas.List.Folds.{list_all-append}
@@ -30,8 +30,7 @@ use Rattle.flat_form.specs.Row.{Loop, Member, group_coded}
 use Rattle.flat_form.specs.Whole.{Whole}
 use Rattle.fused_runs.proofs.AwaitLemmas.{await_either}
 use Rattle.fused_runs.proofs.BeginLemmas.{Begin, NotAmong, begin_parts, begin_whole, inline}
-use Rattle.fused_runs.proofs.BeginLemmas.{or_none}
-use Rattle.fused_runs.proofs.BeginLemmas.{not_true, reads_are, scalars_by, totals_are, true_not}
+use Rattle.fused_runs.proofs.BeginLemmas.{reads_are, scalars_by, totals_are}
 use Rattle.fused_runs.proofs.JoinedLemmas.{IsSame, all_on, all_parts, any_list, behind_none}
 use Rattle.fused_runs.proofs.JoinedLemmas.{both_all}
 use Rattle.fused_runs.proofs.JoinedLemmas.{does, each_of, loop_is, own_apart, own_both, puts_both}
@@ -55,21 +54,21 @@ none_among : (k : ℕ) (others : List ℕ) → list_any (λ other. k == other) o
     → is_among k others ≡ false
 none_among k [] e = refl
 none_among k (other ∷ others) e =
-    let parts = or_none (k == other) (list_any (λ other. k == other) others) e in
+    let parts = or_parts (k == other) (list_any (λ other. k == other) others) e in
     ap (λ b. b || is_among k others) (flip k other parts.0) ∙ none_among k others parts.1
 
 pub each_among : (numbers others : List ℕ) → share numbers others ≡ false
     → AllByRecursion (λ k. is_among k others ≡ false) numbers
 each_among [] others e = tt
 each_among (k ∷ numbers) others e =
-    let parts = or_none (list_any (λ other. k == other) others) (share numbers others) e in
+    let parts = or_parts (list_any (λ other. k == other) others) (share numbers others) e in
     (none_among k others parts.0, each_among numbers others parts.1)
 
 among_both : (k : ℕ) (xs ys : List ℕ) → is_among k xs ≡ false → is_among k ys ≡ false
     → is_among k (xs ++ ys) ≡ false
 among_both k [] ys e f = f
 among_both k (x ∷ xs) ys e f =
-    let parts = or_none (x == k) (is_among k xs) e in
+    let parts = or_parts (x == k) (is_among k xs) e in
     ap (λ b. b || is_among k (xs ++ ys)) parts.0 ∙ among_both k xs ys parts.1 f
 
 distinct_both : (xs ys : List ℕ) → are_distinct xs ≡ true → are_distinct ys ≡ true
@@ -78,8 +77,8 @@ distinct_both [] ys e f apart = f
 distinct_both (x ∷ xs) ys e f apart =
     let parts = and_parts (not (is_among x xs)) (are_distinct xs) e in
     and_from (not (is_among x (xs ++ ys))) (are_distinct (xs ++ ys))
-    (true_not (is_among x (xs ++ ys))
-    (among_both x xs ys (not_true (is_among x xs) parts.0) apart.0))
+    (not_from_false (is_among x (xs ++ ys))
+    (among_both x xs ys (not-true (is_among x xs) parts.0) apart.0))
     (distinct_both xs ys parts.1 f apart.1)
 
 -- ---- what both accumulate
@@ -96,8 +95,8 @@ each_to s next xs ys (total ∷ totals) same e =
     and_from (total_begins next ys total) (list_all (total_begins next ys) totals)
     (and_from (unit (slice_get next.scalars total.scalar)) (not (is_among total.scalar ys))
     (ap unit (sym same.0.0) ∙ first.0)
-    (true_not (is_among total.scalar ys)
-    (same.0.1 (not_true (is_among total.scalar xs) first.1))))
+    (not_from_false (is_among total.scalar ys)
+    (same.0.1 (not-true (is_among total.scalar xs) first.1))))
     (each_to s next xs ys totals same.1 parts.1)
 
 module _ (s next : Whole) (region : Region) (xs ys : List ℕ) (totals others : List Total)

@@ -9,6 +9,7 @@ use Rattle.std.specs.Option.{IsSomeAnd}
 use Rattle.std.proofs.lemmas.Bool.Decides.{nat_tests}
 use Rattle.std.proofs.lemmas.List.Elements.{All-from_recursion, recursion_from_All}
 use Rattle.std.proofs.lemmas.List.Folds.{list_any-append}
+use Rattle.std.proofs.lemmas.Bool.{or_parts}
 use Rattle.zpl_nums.specs.declared.folds.Fold.{Fold}
 use Rattle.row_runs.specs.Run.{Does, Effect, Goes, Stops, Wrong}
 use Rattle.node_form.specs.declared.instructions.Instr.{Instr}
@@ -34,7 +35,7 @@ use Rattle.contracted_runs.specs.of_fuse_contract.Fusing.{all_accumulated}
 use Rattle.normal_runs.proofs.NameLemmas.{any_all}
 use Rattle.normal_runs.proofs.SlotLemmas.{HasSteps, begins_with_steps, keeps_steps}
 use Rattle.fused_runs.specs.Typed.{HasThreeDims, IsTyped}
-use Rattle.fused_runs.proofs.BeginLemmas.{NotAmong, or_none}
+use Rattle.fused_runs.proofs.BeginLemmas.{NotAmong}
 use Rattle.fused_runs.proofs.PassingLemmas.{LeavesPassing, Passing, all_passing, begins_passing}
 use Rattle.fused_runs.proofs.PassingLemmas.{passes_on}
 use Rattle.fused_runs.proofs.SizedLemmas.{AreSized, begins_sized, keeps_sized}
@@ -71,7 +72,7 @@ members_free : (k : ℕ) (members : List Member)
     → AllByRecursion (λ one. IsWrittenByMember (thing.Scalar k) one → ⊥) members
 members_free k [] e = tt
 members_free k (member.Acc scalar operator expr mask line ∷ members) e =
-    let parts = or_none (k == scalar) (is_one_of (flat_map accumulated_by members) k) e in
+    let parts = or_parts (k == scalar) (is_one_of (flat_map accumulated_by members) k) e in
     (λ is. itself k scalar parts.0 (scalar_number is), members_free k members parts.1)
 members_free k (member.Put array expr mask line ∷ members) e =
     (λ is. cc, members_free k members e)
@@ -87,7 +88,7 @@ groups_free k [] group members e there = absurd (none there)
     none e = cc
 groups_free k (first ∷ groups) group members e there =
     by group there (λ e group there. groups_free k groups group members e there)
-    (or_none (is_one_of (flat_map accumulated_by first) k)
+    (or_parts (is_one_of (flat_map accumulated_by first) k)
     (is_one_of (flat_map (flat_map accumulated_by) groups) k)
     (sym (list_any-append (λ other. k == other) (flat_map accumulated_by first)
     (flat_map (flat_map accumulated_by) groups)) ∙ e))
@@ -242,7 +243,7 @@ module _ (tables : Tables) (n : ℕ) where
       apart : (numbers : List ℕ) → is_one_of numbers k ≡ false → NotAmong numbers k
       apart [] e = tt
       apart (other ∷ numbers) e =
-          let parts = or_none (k == other) (is_one_of numbers k) e in
+          let parts = or_parts (k == other) (is_one_of numbers k) e in
           (λ same. itself k other parts.0 (sym same), apart numbers parts.1)
 
       by : (found : Option (List Member)) → slice_get tables.groups group ≡ found

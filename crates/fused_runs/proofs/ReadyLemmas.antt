@@ -3,7 +3,7 @@ use Rattle.std.proofs.Common.{◌≡◌, refl, sym, ◌∙◌, ap, subst, ℕ, B
 use Rattle.std.proofs.Common.{List, [], ◌∷◌, ◌++◌, map, ℤ, Option, Some, None}
 use Rattle.std.specs.Prelude.{◌&&◌, flat_map, if◌then◌else◌, not, slice_get}
 use Rattle.std.specs.List.{AllByRecursion, list_all, list_any}
-use Rattle.std.proofs.lemmas.Bool.{and_from, and_parts}
+use Rattle.std.proofs.lemmas.Bool.{and_from, and_parts, not-true, or_parts}
 use Rattle.std.proofs.lemmas.Grind.{flat_map-append}
 use Rattle.std.proofs.lemmas.List.{map-append}
 use Rattle.std.proofs.lemmas.List.Folds.{list_all-append}
@@ -36,7 +36,7 @@ use Rattle.contracted_runs.specs.of_fuse_contract.Fusing.{all_accumulated, are_l
 use Rattle.contracted_runs.specs.of_fuse_contract.Fusing.{is_accumulating, reference, references_in, references_of}
 use Rattle.contracted_runs.specs.of_fuse_contract.Fusing.{stands_with}
 use Rattle.normal_runs.proofs.SplitLemmas.{like_matches, written_matches}
-use Rattle.fused_runs.proofs.BeginLemmas.{first_begins, inline, named_are, not_true, or_none}
+use Rattle.fused_runs.proofs.BeginLemmas.{first_begins, inline, named_are}
 use Rattle.fused_runs.proofs.BeginLemmas.{reads_are, scalars_by}
 use Rattle.fused_runs.proofs.HoldsLemmas.{AreSettled, is_one_of}
 use Rattle.fused_runs.proofs.JoinedLemmas.{all_parts}
@@ -193,7 +193,7 @@ module _ (tables : Tables) where
         → list_all (is_settled s) numbers ≡ true
     scalars_settled [] all apart settled = refl
     scalars_settled (k ∷ numbers) all apart settled =
-        let parts = or_none (is_one_of all k) (share numbers all) apart in
+        let parts = or_parts (is_one_of all k) (share numbers all) apart in
         and_from (is_settled s k) (list_all (is_settled s) numbers) (settled k parts.0)
         (scalars_settled numbers all parts.1 settled)
 
@@ -248,10 +248,10 @@ module _ (tables : Tables) where
           (are_put_alike tables (flat_map put_by one) (flat_map put_by other)) beside
 
       none_one : group_totals A ≡ []
-      none_one = no_totals one (not_true (list_any is_accumulating one) parts.0)
+      none_one = no_totals one (not-true (list_any is_accumulating one) parts.0)
 
       none_other : group_totals B ≡ []
-      none_other = no_totals other (not_true (list_any is_accumulating other) parts.1)
+      none_other = no_totals other (not-true (list_any is_accumulating other) parts.1)
 
       none_both : group_totals AB ≡ []
       none_both = totals_none none_one none_other
@@ -267,7 +267,7 @@ module _ (tables : Tables) where
           (each_word word_scalars (group_words A)) first).1
           (subst (λ l. list_all (is_settled s) l ≡ true) (sym (reads_are tables other))
           (scalars_settled s region_none scalars (all_accumulated tables)
-          (not_true (share scalars (all_accumulated tables)) parts.2)
+          (not-true (share scalars (all_accumulated tables)) parts.2)
           settled.settled))))
         where
           region_none : Region

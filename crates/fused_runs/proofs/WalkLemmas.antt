@@ -4,6 +4,7 @@ use Rattle.std.proofs.Common.{List, [], ◌∷◌, ◌++◌, Option, Some, None}
 use Rattle.std.specs.Prelude.{◌&&◌, ◌==◌, flat_map, if◌then◌else◌, not, ⊤}
 use Rattle.std.specs.List.{AllByRecursion, list_all, list_any}
 use Rattle.std.proofs.lemmas.Bool.Decides.{nat_tests}
+use Rattle.std.proofs.lemmas.Bool.{not-true}
 use Rattle.row_runs.specs.Run.{Does, Effect, Goes, Leaps, Passes, Stops}
 use Rattle.row_runs.specs.Straight.{Flow, OnTo, TiedHalt, TiedOn, TiedWrong}
 use Rattle.row_runs.specs.Straight.{flow_behind, flow_step, through}
@@ -54,10 +55,6 @@ pub record Apart (tables : Tables) (one other : List Member) : Type 0 where
   pub back : share (flat_map accumulated_by other)
       (flat_map scalars_in (flat_map (member_words tables) one)) ≡ false
 
-false_of : (b : Bool) → not b ≡ true → b ≡ false
-false_of true e = sym e
-false_of false e = refl
-
 differ : false ≡ true → ⊥
 differ e = cc
 
@@ -83,10 +80,10 @@ apart tables one other e =
     (not (share (accumulated two 1) (read_scalars two 0)))
     (not (share (accumulated two 0) (accumulated two 1))) e in
     record {
-      straight = false_of (has_loops two 0) fine.0;
-      totals = false_of (share (accumulated two 0) (accumulated two 1)) fine.1.1.1;
-      reads = false_of (share (accumulated two 0) (read_scalars two 1)) fine.1.0;
-      back = false_of (share (accumulated two 1) (read_scalars two 0)) fine.1.1.0;
+      straight = not-true (has_loops two 0) fine.0;
+      totals = not-true (share (accumulated two 0) (accumulated two 1)) fine.1.1.1;
+      reads = not-true (share (accumulated two 0) (read_scalars two 1)) fine.1.0;
+      back = not-true (share (accumulated two 1) (read_scalars two 0)) fine.1.1.0;
     }
 
 module _ (tables : Tables) (n : ℕ) where

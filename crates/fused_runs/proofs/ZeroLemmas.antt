@@ -3,6 +3,7 @@ use Rattle.std.proofs.Common.{◌≡◌, refl, sym, ◌∙◌, subst, arith, ℕ
 use Rattle.std.proofs.Common.{true≢false, List, [], ◌∷◌, ◌++◌, map, Option, Some, None}
 use Rattle.std.specs.List.{AllByRecursion, list_any}
 use Rattle.std.proofs.lemmas.List.Folds.{list_any-append}
+use Rattle.std.proofs.lemmas.Bool.{or_parts}
 use Rattle.zpl_nums.specs.declared.ends.End.TheVariants.{Trap}
 use Rattle.zpl_nums.specs.declared.ends.TrapKind.TheVariants.{DivideByZero}
 use Rattle.zpl_region.specs.declared.regions.Region.{Region}
@@ -26,7 +27,6 @@ use Rattle.flat_form.specs.Loop.{all_written, both_told, columns_behind, from_wr
 use Rattle.flat_form.specs.Loop.{unit_at, unit_does, unit_line, units_do}
 use Rattle.flat_form.specs.Row.{Words}
 use Rattle.flat_form.specs.Whole.{Whole}
-use Rattle.fused_runs.proofs.BeginLemmas.{or_none}
 use Rattle.fused_runs.proofs.UnitLemmas.{bare_columns, nest_does}
 
 -- ---- groups without `while` and `repeat`
@@ -36,7 +36,7 @@ turns nest = list_any is_turning (members_of nest)
 two_parts : (xs ys : List number.Member) → list_any is_turning (xs ++ ys) ≡ false
     → (list_any is_turning xs ≡ false) × (list_any is_turning ys ≡ false)
 two_parts xs ys e =
-    or_none (list_any is_turning xs) (list_any is_turning ys)
+    or_parts (list_any is_turning xs) (list_any is_turning ys)
     (sym (list_any-append is_turning xs ys) ∙ e)
 
 no_loops : (nest : Nest) → turns nest ≡ false → loops_in nest ≡ 0

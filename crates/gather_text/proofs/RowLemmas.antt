@@ -1,6 +1,6 @@
 -- What the row's record says of its last turn on processor 0.
 use Rattle.std.proofs.Common.{◌≡◌, ℕ, Bool, true, false, List, [], ◌∷◌, ◌++◌, sym, ap, ◌∙◌, ℤ}
-use Rattle.std.specs.Prelude.{Option, Some, None, slice_get, unwrap_or}
+use Rattle.std.specs.Prelude.{Option, Some, slice_get, unwrap_or}
 use Rattle.zpl_region.specs.declared.regions.Region.{Region}
 use Rattle.zpl_arrays.specs.ArrayText.{array_text}
 use Rattle.array_prints.specs.RowText.{value_text}
@@ -19,9 +19,6 @@ module _ (code : Tables) (truth : Bool) (array slot : ℕ) (local : Local) (regi
   last_is found is =
       ap (λ o. gather_last code 0 truth array (unwrap_or o (no_places 1)) local) there
       ∙ ap (prints_gathered code truth region local) is
-
-  pub last_stuck : values_at local.stores array (tuples_of code 0 region) ≡ None → (gathered code 0 truth array slot).last local ≡ leaves_with local None
-  last_stuck none = last_is None none
 
   pub last_prints : (own : List ℤ) (text : List ℕ) → values_at local.stores array (tuples_of code 0 region) ≡ Some own
       → text ≡ array_text (value_text truth) region (gathered_value code region ((0, own) ∷ local.kept))

@@ -85,13 +85,6 @@ placed_far x held (Range from to stride base) d lo hi step align is bounds dim_i
     ] in
     subst (λ h. x ≡ place_dim h d (Range from to stride base)) (sym is) (e ∙ too_far lo hi (from +ℤ d) (to +ℤ d) stride (base +ℤ d) apart)
 
-pub placed_flood : (x held dim : Dim) (d lo hi lo' hi' step align : ℤ) → held ≡ Range lo hi step align → lo' ≡ lo → hi' ≡ hi → dim ≡ Flood → x ≡ part lo' hi' (all_from (pos 0) (pos 0))
-    → x ≡ place_dim held d dim
-placed_flood x held dim d lo hi lo' hi' step align is p q flood e =
-    subst (λ h. x ≡ place_dim h d dim) (sym is)
-    (subst (λ a. x ≡ place_dim (Range lo hi step align) d a) (sym flood)
-    (subst (λ l. x ≡ part l hi (all_from (pos 0) (pos 0))) p (subst (λ h. x ≡ part lo' h (all_from (pos 0) (pos 0))) q e)))
-
 -- ---- sizes
 pub size_of : (n : ℕ) (dim : Dim) (lo hi step align : ℤ) → dim ≡ Range lo hi step align → IsBoxed (Range lo hi step align) → n ≡ extent lo hi → n ≡ coordinate_count dim
 size_of n dim lo hi step align is boxed e =

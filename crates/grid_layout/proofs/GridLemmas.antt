@@ -1,5 +1,5 @@
 -- Factors of a grid.
-use Rattle.std.proofs.Common.{◌≡◌, refl, ◌∙◌, ap, arith, ℕ, zero, suc, ◌-◌, ◌*◌, ◌<◌, ◌≤◌, List, [], ◌∷◌, ◌++◌, length, replicate, get_or, max, rules}
+use Rattle.std.proofs.Common.{◌≡◌, refl, ◌∙◌, ap, arith, ℕ, zero, suc, ◌-◌, ◌*◌, ◌<◌, ◌≤◌, List, [], ◌∷◌, ◌++◌, length, replicate, get_or, max}
 use Rattle.grid_layout.proofs.ThreeLemmas.{AreFew, are_few}
 use Rattle.grid_layout.specs.Grid.{IsGrid, product, processors_of, cuts}
 
@@ -69,13 +69,3 @@ each_some (suc a ∷ fs) some (suc k) d h = each_some fs (rest (product fs) some
     rest : (n : ℕ) → 1 ≤ suc a * n → 1 ≤ n
     rest zero more = absurd (omega (arith, more))
     rest (suc n) more = omega arith
-
-pub filled_grid : (fs : List ℕ) → 1 ≤ length fs → length fs ≤ 3 → 1 ≤ product fs → product fs ≤ 64 → IsGrid (filled fs)
-filled_grid [] some few above below = absurd (omega (arith, some))
-filled_grid (zero ∷ fs) some few above below = absurd (omega (arith, above))
-filled_grid (suc a ∷ []) some few above below = record { some = omega arith; absent = search rules; few = below }
-filled_grid (suc a ∷ zero ∷ fs) some few above below = absurd (omega (arith, above))
-filled_grid (suc a ∷ suc b ∷ []) some few above below = record { some = omega arith; absent = search rules; few = below }
-filled_grid (suc a ∷ suc b ∷ zero ∷ fs) some few above below = absurd (omega (arith, above))
-filled_grid (suc a ∷ suc b ∷ suc c ∷ []) some few above below = record { some = omega arith; absent = search rules; few = below }
-filled_grid (suc a ∷ suc b ∷ suc c ∷ d ∷ fs) some few above below = absurd (omega (arith, few))

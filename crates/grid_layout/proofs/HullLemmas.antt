@@ -1,10 +1,10 @@
 -- Hulls of storages.
-use Rattle.std.proofs.Common.{◌≡◌, ◌≢◌, refl, sym, ◌∙◌, ap, arith, ℕ, zero, suc, ◌+◌, ◌<◌, true, false, List, [], ◌∷◌, length, get_or, take, ℤ, Option, None}
+use Rattle.std.proofs.Common.{◌≡◌, refl, sym, ◌∙◌, ap, arith, ℕ, suc, ◌+◌, ◌<◌, true, false, List, [], ◌∷◌, length, get_or, take, ℤ, Option, None}
 use Rattle.std.specs.Prelude.{◌==◌}
 use Rattle.std.proofs.Math.Seq.{take-suc}
 use Rattle.std.proofs.lemmas.Bool.{eq-eqb}
-use Rattle.std.proofs.lemmas.Bool.Decides.{nat_tests}
 use Rattle.std.proofs.lemmas.List.Sums.{fold-append}
+use Rattle.std.proofs.lemmas.List.{get_or_default}
 use Rattle.zpl_region.specs.declared.dims.Dim.{Dim}
 use Rattle.zpl_region.specs.declared.dims.Dim.TheVariants.{Flood}
 use Rattle.zpl_region.specs.Ends.{has_none, tuple_count}
@@ -19,27 +19,14 @@ hull_more rank k boxes i box h =
     sym (ap (λ n. hull_in rank k (take n boxes)) e
     ∙ (ap (hull_in rank k) (take-suc boxes i box h) ∙ fold-append (widened rank k) None (take i boxes) (get_or boxes i box ∷ [])))
 
-differ : (n m : ℕ) → n ≢ m → (n == m) ≡ false
-differ n m other = grind (arith, nat_tests)
-
-pub other_rank : (rank k : ℕ) (hull : Option (ℤ × ℤ)) (box : ArrayBox) → box.shape.rank ≢ rank → hull ≡ widened rank k hull box
-other_rank rank k hull box other =
-    let e : (box.shape.rank == rank) ≡ false = differ box.shape.rank rank other in
-    rw e refl
-
 pub empty_one : (rank k : ℕ) (hull : Option (ℤ × ℤ)) (box : ArrayBox) → box.shape.rank ≡ rank → has_none box.shape ≡ true → hull ≡ widened rank k hull box
 empty_one rank k hull box same none =
     let e : (box.shape.rank == rank) ≡ true = eq-eqb box.shape.rank rank same in
     rw (e, none) refl
-
-at_any : {X : Type 0} (xs : List X) (k : ℕ) (d e : X) → k < length xs → get_or xs k d ≡ get_or xs k e
-at_any [] k d e h = absurd (omega (arith, h))
-at_any (x ∷ xs) zero d e h = refl
-at_any (x ∷ xs) (suc k) d e h = at_any xs k d e (omega (arith, h))
 
 pub this_one : (rank k : ℕ) (hull x : Option (ℤ × ℤ)) (box : ArrayBox) (d : Dim) → box.shape.rank ≡ rank → 0 < tuple_count box.shape.dims → k < length box.shape.dims
     → x ≡ around hull (get_or box.shape.dims k d) → x ≡ widened rank k hull box
 this_one rank k hull x box d same some within is =
     let e : (box.shape.rank == rank) ≡ true = eq-eqb box.shape.rank rank same in
     let f : has_none box.shape ≡ false = no_count (tuple_count box.shape.dims) some in
-    rw (e, f) (is ∙ ap (around hull) (at_any box.shape.dims k d Flood within))
+    rw (e, f) (is ∙ ap (around hull) (get_or_default box.shape.dims k d Flood within))

@@ -3,7 +3,7 @@ use Rattle.std.proofs.Common.{◌≡◌, ◌↔◌, refl, sym, ◌∙◌, ap, su
 use Rattle.std.specs.Prelude.{◌==◌, int_le, if◌then◌else◌}
 use Rattle.std.specs.List.{AllZip, count_by, filter, flat_map}
 use Rattle.std.specs.Int.{int_max, int_min}
-use Rattle.std.proofs.lemmas.Bool.{cases_lt, eq-eqb}
+use Rattle.std.proofs.lemmas.Bool.{cases_lt, eq-eqb, and_parts, and_from, false_from_ne_true as not_true}
 use Rattle.std.proofs.lemmas.Bool.Decides.{nat_tests}
 use Rattle.std.proofs.lemmas.Int.{ints}
 use Rattle.std.proofs.lemmas.List.Sums.{sum_by-cons}
@@ -97,14 +97,6 @@ dim_below : (axis : Axis) (n k : ℕ) (dim : Dim) (x : ℤ) → 1 ≤ n → k < 
 dim_below axis n k (Range lo hi step align) x some below = block_below axis n x some
 dim_below axis n k Flood x some below = below
 
-pub both_true : (a b : Bool) → (a && b) ≡ true → (a ≡ true) × (b ≡ true)
-both_true true b e = (refl, e)
-both_true false b e = absurd (let bad : false ≡ true = e in cc)
-
-pub true_both : (a b : Bool) → a ≡ true → b ≡ true → (a && b) ≡ true
-true_both true b p q = q
-true_both false b p q = absurd (let bad : false ≡ true = p in cc)
-
 pub eq_from_test : (a b : ℕ) → (a == b) ≡ true → a ≡ b
 eq_from_test a b e = grind (arith, nat_tests)
 
@@ -115,8 +107,8 @@ IsNearby Flood x = Unit {0}
 
 dim_has : (axis : Axis) (n c k : ℕ) (dim : Dim) (x : ℤ) → c < n → IsNearby dim x → (has_dim axis n c k dim x ≡ true) ↔ (c ≡ block_for axis n k dim x)
 dim_has axis n c k (Range lo hi step align) x below near = (
-  λ e. let b = both_true (int_le (block_first axis n c) x) (int_le x (block_last axis n c)) e in in_block axis n c x below (le_from_test _ _ b.0, le_from_test _ _ b.1),
-  λ is. let h = block_holds axis n c x below near is in true_both (int_le (block_first axis n c) x) (int_le x (block_last axis n c)) (test_from_le _ _ h.0) (test_from_le _ _ h.1),
+  λ e. let b = and_parts (int_le (block_first axis n c) x) (int_le x (block_last axis n c)) e in in_block axis n c x below (le_from_test _ _ b.0, le_from_test _ _ b.1),
+  λ is. let h = block_holds axis n c x below near is in and_from (int_le (block_first axis n c) x) (int_le x (block_last axis n c)) (test_from_le _ _ h.0) (test_from_le _ _ h.1),
 )
 dim_has axis n c k Flood x below near = (eq_from_test c k, eq-eqb c k)
 
@@ -147,16 +139,13 @@ has_holder (a ∷ axes) (n ∷ ns) (k ∷ ks) (d ∷ dims) (x ∷ t) p some low 
     let more = has_holder axes ns ks dims t (p % product ns) some.1 low.1 near.1 (omega (arith, l)) (omega (arith, m)) rest in
     let test = has_dim a n (p / product ns) k d x in
     let tests = has_each axes ns (blocks_at ns (p % product ns)) ks dims t in (
-      λ e. let b = both_true test tests e in
+      λ e. let b = and_parts test tests e in
           sym (ap (λ z. z * product ns + r) (sym (first.0 b.0)) ∙ (ap (λ z. p / product ns * product ns + z) (sym (more.0 b.1)) ∙ split)),
       λ is. let q : IsDivided p (block_for a n k d x) r (product ns) = divided p (block_for a n k d x) r (product ns) is (holder_below axes ns ks dims t some.1 low.1) in
-          true_both test tests (first.1 q.quotient) (more.1 q.rest),
+          and_from test tests (first.1 q.quotient) (more.1 q.rest),
     )
 
 -- ---- one number passes
-pub not_true : (b : Bool) → (b ≡ true → ⊥) → b ≡ false
-not_true true n = absurd (n refl)
-not_true false n = refl
 
 none_passes : (f : ℕ → Bool) (q k n : ℕ) → q < k → ((j : ℕ) → k ≤ j → j < k + n → (f j ≡ true) → j ≡ q) → count_by f (numbers_from k n) ≡ 0
 none_passes f q k zero before only = refl

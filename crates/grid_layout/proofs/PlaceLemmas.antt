@@ -81,10 +81,6 @@ held_nothing from to a b d (Range lo hi step align) below =
     ∙ none (int_max (int_max (int_max lo to.first +ℤ d) a) from.first) (int_min (int_min (int_min hi to.last +ℤ d) b) from.last) step (align +ℤ d) (omega (arith, ints, clamps, below))
 
 -- ---- one dimension, by what the code finds
-pub place_flood : (x : Dim) (from to : Side) (low high d : ℤ) (stored dim needed : Dim) → stored ≡ Flood → needed ≡ side_needed to Flood d dim → x ≡ side_owned from to needed
-    → x ≡ side_place from to low high stored d dim
-place_flood x from to low high d stored dim needed is need e =
-    subst (λ s. x ≡ side_place from to low high s d dim) (sym is) (e ∙ ap (side_owned from to) need)
 
 pub place_none : (x : Dim) (from to : Side) (low high d lo hi step align : ℤ) (stored dim : Dim) → stored ≡ Range lo hi step align → to.is_empty ≡ true → x ≡ nothing
     → x ≡ side_place from to low high stored d dim

@@ -7,9 +7,6 @@ use Rattle.zpl_lists.specs.Front.{IsFrontOf}
 pub front-same : {X : Type 0} (a : List X) → IsFrontOf a a
 front-same a = record { rest = []; joins = sym (append-nil a) }
 
-pub front-append : {X : Type 0} (a b : List X) → IsFrontOf a (a ++ b)
-front-append a b = record { rest = b; joins = refl }
-
 pub front-through : {X : Type 0} {a b c : List X} → IsFrontOf a b → IsFrontOf b c → IsFrontOf a c
 front-through {a = a} f g = record {
   rest = f.rest ++ g.rest;

@@ -1,7 +1,7 @@
 -- Stored arrays that fit are boxes.
 use Rattle.std.proofs.Common.{◌≡◌, List, [], ◌∷◌, length, get_or, map, refl, ap, arith, rules, ℤ, pos}
 use Rattle.std.specs.Prelude.{All, true}
-use Rattle.std.proofs.lemmas.List.Elements.{All-nil, All-cons, All-head, All-tail, All-map}
+use Rattle.std.proofs.lemmas.List.Elements.{All-nil, All-cons, All-head, All-tail, All-map, All-weaker}
 use Rattle.std.proofs.lemmas.Int.{ints}
 use Rattle.grid_layout.specs.of_zpl_region.declared.dims.Dim.{Dim}
 use Rattle.grid_layout.specs.of_zpl_region.Dim.{IsDim, IsDimWithinLimit, IsUpTo}
@@ -64,9 +64,6 @@ high_is : (d : ArrayDim) → HasFringe d → IsFringe (width_above d)
 high_is (Range lo hi low high) is = is.1
 high_is Star is = no_width
 
-All-sub : {X : Type 0} (P Q : X → Type 0) → ((x : X) → P x → Q x) → (xs : List X) → All P xs → All Q xs
-All-sub P Q weaker xs all k d inside = weaker _ (all k d inside)
-
 All-unmap : {X Y : Type 0} (P : Y → Type 0) (f : X → Y) (xs : List X) → All P (map f xs) → All (λ x. P (f x)) xs
 All-unmap P f [] all = All-nil (λ x. P (f x))
 All-unmap P f (x ∷ xs) all = All-cons (λ x. P (f x)) x xs (All-head P (f x) (map f xs) all) (All-unmap P f xs (All-tail P (f x) (map f xs) all))
@@ -84,10 +81,10 @@ box_is row n stored fits =
       region = record {
         rank_above = rank.0;
         rank_below = rank.1;
-        dims = All-map IsDim storage_dim row.dims (All-sub (λ d. IsDimWithinLimit (storage_dim d)) (λ d. IsDim (storage_dim d)) dim_is row.dims (All-unmap IsDimWithinLimit storage_dim row.dims limit.dims));
+        dims = All-map IsDim storage_dim row.dims (All-weaker (λ d. IsDimWithinLimit (storage_dim d)) (λ d. IsDim (storage_dim d)) dim_is row.dims (All-unmap IsDimWithinLimit storage_dim row.dims limit.dims));
         padded = storage-padded row.rank row.dims n fits.padded;
       };
       full = All-map IsBoxDim storage_dim row.dims (All-any (λ d. IsBoxDim (storage_dim d)) box_dim row.dims);
-      low = All-map IsFringe width_below row.dims (All-sub HasFringe (λ d. IsFringe (width_below d)) low_is row.dims fringes);
-      high = All-map IsFringe width_above row.dims (All-sub HasFringe (λ d. IsFringe (width_above d)) high_is row.dims fringes);
+      low = All-map IsFringe width_below row.dims (All-weaker HasFringe (λ d. IsFringe (width_below d)) low_is row.dims fringes);
+      high = All-map IsFringe width_above row.dims (All-weaker HasFringe (λ d. IsFringe (width_above d)) high_is row.dims fringes);
     }

@@ -218,12 +218,6 @@ HasEmptyLinks-after code links order rows =
     (All-replicate (λ (link : List Message). link ≡ []) _ [] refl)
 
 -- ---- where each number is there, a row is never stuck
--- it makes no move but one without a message, after which there are as many scalars
-abbrev IsKeeping : Local → Action → Type 0
-IsKeeping local Ended = Unit {0}
-IsKeeping local (Blocked kind) = Unit {0}
-IsKeeping local (Goes next sent shown) = length next.scalars ≡ length local.scalars
-IsKeeping local (Awaits from) = Unit {0}
 
 module _ (expr_fits : (tables : Tables) (i : ℕ) (words : List ExprOp) → Fits tables
     → slice_get tables.exprs i ≡ Some words → FitsExpr tables words)

@@ -16,10 +16,6 @@ first_of : (p times : ℕ) (rest : List ℕ) → 1 ≤ times → slice_get (repl
 first_of p zero rest some = absurd (omega arith)
 first_of p (suc times) rest some = refl
 
-rest_of : (p times : ℕ) (rest : List ℕ) → 1 ≤ times → drop 1 (replicate times p ++ rest) ≡ replicate (times - 1) p ++ rest
-rest_of p zero rest some = absurd (omega arith)
-rest_of p (suc times) rest some = let less : times ≡ suc times - 1 = omega arith in ap (λ n. replicate n p ++ rest) less
-
 -- the next turn is one of the first item that is left
 pub first_turn : (items : List Item) (at : ℕ) (item : Item) → slice_get items at ≡ Some item → 1 ≤ item.times
     → slice_get (flat_map turns_of (drop at items)) 0 ≡ Some item.processor

@@ -64,21 +64,6 @@ pub so_far-end : (count : ℕ) (old new : List ℕ) (from : ℕ) (bytes : List �
 so_far-end count old new from bytes read =
     ap (followed_by (Ok old)) (by_nothing (read_word count from bytes)) ∙ read
 
--- a wrong word before a gap, and at the end
-pub wrong-gap : (count : ℕ) (old : List ℕ) (from : ℕ) (bytes : List ℕ) (byte : ℕ) (text : List ℕ) (at : ℕ) → is_gap byte ≡ true
-    → read_word count from bytes ≡ Err at → so_far count old from bytes (byte ∷ text) ≡ Err at
-wrong-gap count old from bytes byte text at gap wrong =
-    let word : Word = record { from = from; bytes = bytes } in
-    let next : Word = record { from = from + length bytes + 1; bytes = [] } in
-    ap (λ words. followed_by (Ok old) (read_words count words)) (words-gap (is_gap byte) word byte text gap)
-    ∙ read_one count old word (words_after next text)
-    ∙ ap (λ turns. followed_by (followed_by (Ok old) turns) (read_words count (words_after next text))) wrong
-
-pub wrong-end : (count : ℕ) (old : List ℕ) (from : ℕ) (bytes : List ℕ) (at : ℕ)
-    → read_word count from bytes ≡ Err at → so_far count old from bytes [] ≡ Err at
-wrong-end count old from bytes at wrong =
-    ap (followed_by (Ok old)) (by_nothing (read_word count from bytes) ∙ wrong)
-
 -- ---- steps of the loop
 -- Of the text the word from an offset up to a place is open there.
 abbrev pub open_at : ℕ → List ℕ → List ℕ → ℕ → ℕ → Turns

@@ -5,6 +5,7 @@ use Rattle.std.proofs.lemmas.Grind.{flat_map-append}
 use Rattle.std.proofs.Math.Seq.{drop-append_seam}
 use Rattle.std.proofs.lemmas.List.Sums.{fold-append}
 use Rattle.std.specs.Bool.{if◌then◌else◌}
+use Rattle.std.proofs.lemmas.List.{drop-append-le}
 use Rattle.grid_links.specs.Links.{IsWithin}
 use Rattle.grid_links.specs.Run.{System, World, count_of, next_turn, given_turn, after_from, move_in, moves_from, shown_by, message_where}
 use Rattle.grid_paths.specs.Path.{Event, Quiet, Sent, Taken, IsPath, messages_to, messages_from, shown_in, NamesOthers}
@@ -117,15 +118,6 @@ messages_from_self count p (Taken q message ∷ events) named =
     ap (λ b. message_where b message ++ messages_from p events) named.0.1
     ∙ messages_from_self count p events named.1
 
-messages_to_self : {M : Type 0} (count p : ℕ) (events : List (Event M)) → NamesOthers count p events
-    → messages_to p events ≡ []
-messages_to_self count p [] named = refl
-messages_to_self count p (Quiet shown ∷ events) named = messages_to_self count p events named.1
-messages_to_self count p (Sent q message ∷ events) named =
-    ap (λ b. message_where b message ++ messages_to p events) named.0.1
-    ∙ messages_to_self count p events named.1
-messages_to_self count p (Taken q message ∷ events) named = messages_to_self count p events named.1
-
 -- ---- two lists that are one
 front_of : {X : Type 0} (xs ys us vs : List X) → xs ++ ys ≡ us ++ vs → length us ≤ length xs → xs
     ≡ us ++ drop (length us) xs
@@ -136,16 +128,10 @@ front_of (a ∷ xs) ys (c ∷ us) vs e less =
     let rest : xs ++ ys ≡ us ++ vs = cc in
     ap₂ (λ h l. h ∷ l) same (front_of xs ys us vs rest (omega arith))
 
-drop_append : {X : Type 0} (n : ℕ) (xs ys : List X) → n ≤ length xs → drop n (xs ++ ys) ≡ drop n xs
-    ++ ys
-drop_append zero xs ys less = refl
-drop_append (suc n) [] ys less = absurd (omega arith)
-drop_append (suc n) (a ∷ xs) ys less = drop_append n xs ys (omega arith)
-
 back_of : {X : Type 0} (xs ys us vs : List X) → xs ++ ys ≡ us ++ vs → length us ≤ length xs
     → drop (length us) xs ++ ys ≡ vs
 back_of xs ys us vs e less =
-    sym (drop_append (length us) xs ys less) ∙ (ap (drop (length us)) e ∙ drop-append_seam us vs)
+    sym (drop-append-le (length us) xs ys less) ∙ (ap (drop (length us)) e ∙ drop-append_seam us vs)
 
 within_less : {M : Type 0} (capacity : Option ℕ) (n : ℕ) (link more : List M)
     → IsWithin capacity (link ++ more) → IsWithin capacity (drop n link ++ more)

@@ -1,8 +1,9 @@
 -- A saved text is that of one grid.
-use Rattle.std.proofs.Common.{◌≡◌, ℕ, zero, suc, ◌*◌, ◌/◌, ◌%◌, ◌^◌, ◌<◌, List, [], ◌∷◌, ◌++◌, drop, get_or, length, refl, ap, sym, ◌∙◌, subst, arith}
+use Rattle.std.proofs.Common.{◌≡◌, ℕ, zero, suc, ◌*◌, ◌/◌, ◌%◌, ◌^◌, ◌<◌, List, [], ◌++◌, drop, get_or, length, refl, ap, sym, ◌∙◌, subst, arith}
 use Rattle.std.specs.Prelude.{All, slice_get}
 use Rattle.std.specs.List.{flat_map, range_with_len}
 use Rattle.std.proofs.Math.Nat.{div-add-mod', div-lt_iff_lt-mul, mod-lt}
+use Rattle.std.proofs.lemmas.List.{ext_get_or}
 use Rattle.grid_links.specs.declared.messages.Message.{Message}
 use Rattle.grid_links.specs.Links.{link_number, link_of}
 use Rattle.node_form.specs.declared.tables.Tables.{Tables}
@@ -20,15 +21,6 @@ use Rattle.grid_save.specs.Written.{counts_text, grid_lines, save_text, state_li
 use Rattle.grid_save.proofs.CutLemmas.{BeginsProc, Every, same_counts, same_listing}
 use Rattle.grid_save.proofs.StateLemmas.{AreStates, block_at, each_number, same_list, same_states}
 
-same_list_or : {X : Type 0} (d : X) (xs ys : List X) → length xs ≡ length ys → ((k : ℕ) → k < length xs → get_or xs k d ≡ get_or ys k d) → xs ≡ ys
-same_list_or d [] [] long each = refl
-same_list_or d [] (y ∷ ys) long each = absurd (omega (arith, long))
-same_list_or d (x ∷ xs) [] long each = absurd (omega (arith, long))
-same_list_or d (x ∷ xs) (y ∷ ys) long each =
-    let head : x ≡ y = each 0 (omega arith) in
-    let tails = same_list_or d xs ys (omega (arith, long)) (λ k below. each (suc k) (omega (arith, below))) in
-    ap (λ z. z ∷ xs) head ∙ ap (λ zs. y ∷ zs) tails
-
 -- a number below n * n is that of a row and of a column below n
 module _ (n i : ℕ) (below : i < n * n) where
   some : 0 < n
@@ -45,7 +37,7 @@ module _ (n i : ℕ) (below : i < n * n) where
 
 same_links_all : (count : ℕ) (one other : List (List Message)) → length one ≡ count * count → length other ≡ count * count →
     ((p : ℕ) → p < count → Every (λ q. link_of count one p q ≡ link_of count other p q) (range_with_len 0 count)) → one ≡ other
-same_links_all count one other long wide each = same_list_or [] one other (long ∙ sym wide) at where
+same_links_all count one other long wide each = ext_get_or [] one other (long ∙ sym wide) at where
   at : (i : ℕ) → i < length one → get_or one i [] ≡ get_or other i []
   at i within =
       let below : i < count * count = omega (arith, within, long) in

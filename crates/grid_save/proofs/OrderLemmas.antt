@@ -139,11 +139,6 @@ take_ascends zero ns up = tt
 take_ascends (suc k) [] up = tt
 take_ascends (suc k) (n ∷ ns) up = (take_every (λ m. n < m) k ns up.0, take_ascends k ns up.1)
 
-pub take_differ : (k : ℕ) (ns : List ℕ) → Differ ns → Differ (take k ns)
-take_differ zero ns differ = tt
-take_differ (suc k) [] differ = tt
-take_differ (suc k) (n ∷ ns) differ = (take_every (λ m. m ≢ n) k ns differ.0, take_differ k ns differ.1)
-
 -- ---- what is kept
 abbrev Entries : Type 0
 Entries = List (ℕ × List ℤ)

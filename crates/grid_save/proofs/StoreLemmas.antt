@@ -61,22 +61,11 @@ pub values_there : (stores : List Array) (array : ℕ) (store : Array) → slice
     values_at stores array (members store.storage) ≡ Some store.values
 values_there stores array store found is = values_from stores array store found is 0 (members store.storage) refl (omega (arith, is.filled))
 
-pub all_values : (stores : List Array) (array : ℕ) (store : Array) (values : List ℤ) → slice_get stores array ≡ Some store → IsArray store →
-    values_at stores array (members store.storage) ≡ Some values → values ≡ store.values
-all_values stores array store values found is read =
-    let whole : values_at stores array (members store.storage) ≡ Some store.values =
-    values_from stores array store found is 0 (members store.storage) refl (omega (arith, is.filled)) in
-    cc
-
 -- the box of what was found is that of an array
 pub boxed : (found : Option Array) (shape : Region) → Some shape ≡ option_map (λ store. store.storage) found →
     (store : Array) × ((found ≡ Some store) × (store.storage ≡ shape))
 boxed (Some store) shape is = (store, (refl, cc))
 boxed None shape is = absurd cc
-
-pub unboxed : (found : Option Array) → None ≡ option_map (λ (store : Array). store.storage) found → found ≡ None
-unboxed (Some store) is = absurd cc
-unboxed None is = refl
 
 -- what was read is all that there is
 pub read_all : (found : Option (List ℤ)) (before after values : List ℤ) (all : Bool) → IsRead found before after all → found ≡ Some values →

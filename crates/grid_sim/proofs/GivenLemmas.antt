@@ -23,8 +23,6 @@ use Rattle.grid_sim.specs.Simulation.{IsTold, Simulation, turn_given}
 use Rattle.grid_sim.specs.Telling.{told_of}
 
 -- ---- counts
-words_in : List Message → ℕ
-words_in messages = sum_by (λ (message : Message). length message.words) messages
 
 -- the counts after a turn
 pub record AreCounted (turn : Turn) (old new : Counts) : Type 0 where
@@ -95,14 +93,6 @@ moved_is code old new before p done move moved told =
 pub same_simulation : (code : Tables) (old new : Processors) (counts : Counts) → AreSame old new
     → simulation_in code new counts ≡ simulation_in code old counts
 same_simulation code old new counts same = rw (same.locals, same.links) refl
-
--- a turn that changes nothing is counted
-pub still_is : (code : Tables) (old new : Processors) (before : Counts) (p : ℕ) (turn : Turn)
-    → turn_of code old p ≡ turn → run.after_turn (processors code) p turn (world_of old) ≡ world_of old → sent_in turn ≡ []
-    → AreSame old new → simulation_in code new (with_turn before) ≡ turn_given (simulation_in code old before) p
-still_is code old new before p turn is stays none same =
-    same_simulation code old new (with_turn before) same
-    ∙ given_is code old old before (with_turn before) p turn is (sym stays) refl (counted_quiet turn before none)
 
 -- ---- how it is told
 pub told_moved : (count : ℕ) (done : Traffic) (move : Move Local Message) (turn : Turn) → turn ≡ Moves move → IsTraffic count done move

@@ -1,8 +1,8 @@
 -- Whose turn is next, in an order and then round the processors.
 use Rattle.std.proofs.Common.{◌≡◌, ℕ, zero, suc, ◌+◌, ◌-◌, ◌%◌, ◌<◌, ◌≤◌, cond, List, [], ◌∷◌, length, drop, get_or, Option, Some, None, refl, sym, ◌∙◌, ap, subst, arith, add-one, length-drop}
 use Rattle.std.specs.Prelude.{slice_get}
-use Rattle.std.proofs.Math.Nat.{mod-lt, suc-mod, mod_self, mod-eq_of_lt}
-use Rattle.std.proofs.lemmas.Bool.{lt-ltb, le-ltb}
+use Rattle.std.proofs.Math.Nat.{mod-lt, suc-mod, mod_self}
+use Rattle.std.proofs.lemmas.Bool.{le-ltb}
 use Rattle.grid_sim.specs.declared.runs.Rounds.{Rounds}
 use Rattle.grid_sim.specs.Stop.{IsAtEnd, IsNext, IsPlace, IsRound, IsRoundTurn, IsTurnAt}
 
@@ -22,35 +22,10 @@ drop-more all k = by all k ∙ ap (λ n. drop n all) (sym (add-one k))
     by (x ∷ xs) zero = refl
     by (x ∷ xs) (suc n) = by xs n
 
-found_inside : (all : List ℕ) (k p : ℕ) → slice_get all k ≡ Some p → (k < length all) × (get_or all k 0 ≡ p)
-found_inside [] k p found = cc
-found_inside (x ∷ all) zero p found = (omega arith, cc)
-found_inside (x ∷ all) (suc k) p found = let rest = found_inside all k p found in (omega (arith, rest.0), rest.1)
-
 none_left : (all : List ℕ) (k : ℕ) → slice_get all k ≡ None → length all ≤ k
 none_left [] k none = omega arith
 none_left (x ∷ all) zero none = cc
 none_left (x ∷ all) (suc k) none = let rest = none_left all k none in omega (arith, rest)
-
--- ---- a turn of the order
-pub from_order : (all : List ℕ) (limit k : ℕ) (order left : List ℕ) (rounds : Rounds) (p : ℕ) → IsPlace all limit k order rounds
-    → slice_get order 0 ≡ Some p → left ≡ drop 1 order → IsTurnAt all limit k left rounds p
-from_order all limit k order left rounds p place first rest =
-    let found : slice_get all k ≡ Some p = sym (slice_get-drop all k) ∙ (ap (λ xs. slice_get xs 0) (sym place.order_is) ∙ first) in
-    let (inside, here) = found_inside all k p found in
-    let now : k - length all ≡ 0 = omega arith in
-    let then : k + 1 - length all ≡ 0 = omega arith in
-    record {
-      number = sym (ap (λ b. cond b (get_or all k 0) ((k - length all) % rounds.count)) (lt-ltb k (length all) inside) ∙ here);
-      more = omega arith;
-      place = record {
-        order_is = rest ∙ (ap (drop 1) place.order_is ∙ drop-more all k);
-        within = omega arith;
-        left = place.left ∙ ap (λ n. limit - n) (now ∙ sym then);
-        next = place.next ∙ ap (λ n. n % rounds.count) (now ∙ sym then);
-        below = place.below;
-      };
-    }
 
 -- ---- behind it
 past_order : (all : List ℕ) (limit k : ℕ) (order : List ℕ) (rounds : Rounds) → IsPlace all limit k order rounds → slice_get order 0 ≡ None
@@ -106,9 +81,6 @@ at_end all limit k order left rounds place none left_is gone =
 -- ---- one more round
 pub wrapped : (next count : ℕ) → next + 1 ≡ count → 0 ≡ (next + 1) % count
 wrapped next count is = sym (ap (λ n. n % count) is ∙ mod_self count)
-
-pub not_wrapped : (next count : ℕ) → next < count → (next + 1 ≡ count → ⊥) → next + 1 ≡ (next + 1) % count
-not_wrapped next count below other = sym (mod-eq_of_lt (omega arith))
 
 pub rounds_next : (all : List ℕ) (limit k : ℕ) (order left : List ℕ) (rounds rest : Rounds) (result : Option ℕ) → IsPlace all limit k order rounds
     → slice_get order 0 ≡ None → left ≡ drop 1 order → IsRoundTurn rounds rest result → IsNext all limit k left rest result

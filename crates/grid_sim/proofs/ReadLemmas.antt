@@ -2,7 +2,7 @@
 use Rattle.std.proofs.Common.{◌≡◌, ◌⊎◌, inl, inr, ℕ, ◌<◌, ◌≤◌, ◌↔◌, Bool, true, false, List, [], ◌∷◌, length, map, get_or, Option, Some, None, refl, sym, ◌∙◌, ap, subst, arith}
 use Rattle.std.specs.Prelude.{All, IsSome, IsTrue, is_some, not, slice_get}
 use Rattle.std.specs.Option.{option_and_then, option_map}
-use Rattle.std.proofs.lemmas.List.{length-map}
+use Rattle.std.proofs.lemmas.List.{length-map, get_or_default}
 use Rattle.std.proofs.lemmas.Option.{slice_get-get_or, slice_get-map}
 use Rattle.zpl_nums.specs.declared.ends.End.{End}
 use Rattle.grid_links.specs.Machine.{Moves, Waiting, Over, Stuck}
@@ -19,7 +19,6 @@ use Rattle.grid_sim.specs.Marks.{IsFirstUnmarked}
 use Rattle.grid_sim.specs.Processors.{AreProcessors, AreWatched, has_ended, is_at_rest, state_of, turn_of}
 use Rattle.grid_runs.specs.Run.{IsFirstRunning, IsStopped}
 use Rattle.grid_sim.proofs.RestLemmas.{rests_true, true_rests}
-use Rattle.grid_sim.proofs.TellLemmas.{get_or_any}
 
 -- ---- the ending of a processor
 abbrev pub ending_at : List Local → ℕ → Option End
@@ -56,7 +55,7 @@ module _ (code : Tables) (team : Processors) (are : AreProcessors code team) whe
         let below : p < processors code = subst (λ n. p < n) are.marks.ended.many inside in
         let ended : is_some (ending_at (map state_of team.locals.items) p) ≡ true =
         ended_by (map state_of team.locals.items) p all (subst (λ n. p < n) (sym many) below) in
-        get_or_any team.ended p d false inside
+        get_or_default team.ended p d false inside
         ∙ (are.marks.ended.each p below tt ∙ (has_ended-map team.locals.items p ∙ ended)),
   )
     where
@@ -143,7 +142,3 @@ ends_as grid ending answer over is = (
 
 pub some_over : (ls : List Local) (answer : Option End) → 1 ≤ length ls → answer ≡ ending_at ls 0 → All (λ (local : Local). IsSome local.ended) ls → IsSome answer
 some_over ls answer some is all = ap is_some is ∙ told_over ls some all
-
-pub none_first : (ls : List Workplace) → 1 ≤ length ls → slice_get ls 0 ≡ None → ⊥
-none_first [] some none = absurd (omega arith)
-none_first (w ∷ ls) some none = cc

@@ -1,35 +1,15 @@
 -- Processors in given states: of each it is marked whether it has ended, and of none that it rests.
-use Rattle.std.proofs.Common.{◌≡◌, ℕ, zero, suc, Bool, true, false, List, [], ◌∷◌, ◌++◌, length, map, get_or, replicate, refl, sym, ◌∙◌, ap, subst, length-append, add-one}
+use Rattle.std.proofs.Common.{◌≡◌, ℕ, zero, suc, true, false, List, [], ◌∷◌, length, map, get_or, refl, sym, ◌∙◌, ap, subst}
 use Rattle.std.specs.Prelude.{is_some}
-use Rattle.std.proofs.lemmas.List.{length-map, length-replicate, map-append}
+use Rattle.std.proofs.lemmas.List.{length-map, length-replicate}
 use Rattle.node_form.specs.declared.tables.Tables.{Tables}
 use Rattle.node_local.specs.Workplace.{Workplace}
-use Rattle.node_turn.specs.of_node_stages.Known.{Known as Partners, nothing_known}
+use Rattle.node_turn.specs.of_node_stages.Known.{nothing_known}
 use Rattle.grid_meaning.specs.Local.{processors}
 use Rattle.grid_sim.specs.declared.processors.Processors.{Processors}
 use Rattle.grid_sim.specs.Processors.{AllReady, HaveMarks, has_ended}
 use Rattle.grid_sim.specs.Restored.{AreNoted, is_ended}
 use Rattle.grid_sim.proofs.StartLemmas.{none_known, none_marked}
-
--- ---- a state more
-replicate-push : {X : Type 0} (n : ℕ) (x : X) → replicate n x ++ x ∷ [] ≡ replicate (suc n) x
-replicate-push zero x = refl
-replicate-push (suc n) x = ap (λ xs. x ∷ xs) (replicate-push n x)
-
-many_more : {X : Type 0} (workplaces : List Workplace) (w : Workplace) (x : X)
-    → replicate (length workplaces) x ++ x ∷ [] ≡ replicate (length (workplaces ++ w ∷ [])) x
-many_more workplaces w x =
-    replicate-push (length workplaces) x
-    ∙ ap (λ n. replicate n x) (sym (add-one (length workplaces)) ∙ sym (length-append workplaces (w ∷ [])))
-
-pub noted_more : (workplaces : List Workplace) (ended resting : List Bool) (partners : List Partners) (w : Workplace)
-    → AreNoted workplaces ended resting partners
-    → AreNoted (workplaces ++ w ∷ []) (ended ++ is_ended w ∷ []) (resting ++ false ∷ []) (partners ++ nothing_known ∷ [])
-noted_more workplaces ended resting partners w noted = record {
-  ended_is = ap (λ marks. marks ++ is_ended w ∷ []) noted.ended_is ∙ sym (map-append is_ended workplaces (w ∷ []));
-  resting_is = ap (λ marks. marks ++ false ∷ []) noted.resting_is ∙ many_more workplaces w false;
-  partners_is = ap (λ known. known ++ nothing_known ∷ []) noted.partners_is ∙ many_more workplaces w nothing_known;
-}
 
 -- ---- all marks
 ended_at : (workplaces : List Workplace) (p : ℕ) → get_or (map is_ended workplaces) p false ≡ has_ended workplaces p

@@ -1,7 +1,6 @@
 -- Turns of a run, one after another.
-use Rattle.std.proofs.Common.{◌≡◌, ◌≢◌, inl, inr, ℕ, ◌+◌, ◌-◌, ◌%◌, ◌^◌, ◌<◌, ◌≤◌, Bool, true, false, cond, nat_lt, List, [], ◌++◌, length, drop, get_or, Option, Some, None, Result, Ok, Err, refl, sym, ◌∙◌, ap, subst, arith, append_assoc, append-nil, below_more, length-drop, ⊎_elim}
-use Rattle.std.proofs.Math.Nat.{mod-lt, eq-or-lt_of_le}
-use Rattle.std.proofs.lemmas.Bool.Decides.{nat_tests}
+use Rattle.std.proofs.Common.{◌≡◌, ◌≢◌, inl, inr, ℕ, ◌+◌, ◌-◌, ◌%◌, ◌^◌, ◌<◌, ◌≤◌, List, [], ◌++◌, length, drop, Option, Some, None, Result, Ok, Err, refl, sym, ◌∙◌, ap, subst, arith, append_assoc, append-nil, below_more, ⊎_elim}
+use Rattle.std.proofs.Math.Nat.{eq-or-lt_of_le}
 use Rattle.zpl_nums.specs.declared.ends.End.{End}
 use Rattle.zpl_io.specs.Faults.{CountsFaults}
 use Rattle.zpl_io.specs.Sink.{Takes}
@@ -12,7 +11,7 @@ use Rattle.grid_links.specs.Machine.{Stuck}
 use Rattle.grid_meaning.specs.Action.{StuckKind as Kind}
 use Rattle.grid_meaning.specs.Grid.{EndsAs, Grid, given_turn, next_turn, printed_by, shown_in}
 use Rattle.grid_meaning.specs.Local.{processors}
-use Rattle.grid_meaning.specs.Order.{IsOrder, turn_number}
+use Rattle.grid_meaning.specs.Order.{turn_number}
 use Rattle.grid_meaning.specs.Turn.{Turn}
 use Rattle.grid_sim.specs.declared.faults.SimFault.{SimFault}
 use Rattle.grid_sim.specs.declared.faults.SimFault.TheVariants as fault
@@ -26,12 +25,6 @@ use Rattle.grid_sim.specs.Simulation.{IsCutOff, IsGiven, IsNotGiven, IsStuckAs, 
 use Rattle.grid_sim.specs.Stop.{IsAtEnd, IsIdleStop, IsPlace, IsStop, IsTurnAt}
 
 -- ---- whose turn is next
-pub turn_number-below : (order : List ℕ) (count k : ℕ) → 0 < count → IsOrder count order → turn_number order count k < count
-turn_number-below order count k some below = by (nat_lt k (length order)) refl
-  where
-    by : (inside : Bool) → nat_lt k (length order) ≡ inside → cond inside (get_or order k 0) ((k - length order) % count) < count
-    by true e = below k 0 (grind (arith, nat_tests))
-    by false e = mod-lt (k - length order) some
 
 -- two pieces, one after another
 Takes-both : (before between after : List ℕ → Type 0) (x y : List ℕ) → Takes before x between
@@ -259,48 +252,15 @@ run_refused run new next order left rounds rest before between after p refusal s
     }
 
 -- ---- the count of faults
-pub counts_none : (failed : Type 0) (before after : ℕ) → after ≡ before → (failed → ⊥) → CountsFaults failed before after
-counts_none failed before after same fine = record {
-  rises = λ f. absurd (fine f);
-  only = λ less. absurd (omega arith);
-  never_falls = omega arith;
-  bounded = λ within. omega arith;
-}
-
-pub counts_from : (failed : Type 0) (before between after : ℕ) → between ≡ before → CountsFaults failed between after → CountsFaults failed before after
-counts_from failed before between after same counts = subst (λ n. CountsFaults failed n after) same counts
 
 pub counts_same : (failed : Type 0) (before after : ℕ) → CountsFaults failed before after → (failed → ⊥) → after ≡ before
 counts_same failed before after counts fine =
     ⊎_elim sym (λ rose. absurd (fine (counts.only rose))) (eq-or-lt_of_le counts.never_falls)
 
--- a run that stops has met no fault of a sink
-pub stop_fine : (code : Tables) (capacity : Option ℕ) (grid : Grid) (answer : Result End SimFault) → IsStop code capacity grid (Some answer)
-    → answer ≡ Err fault.SinkFailed → ⊥
-stop_fine code capacity grid (Ok ending) stop is = cc
-stop_fine code capacity grid (Err fault.TurnLimit) stop is = absurd stop
-stop_fine code capacity grid (Err fault.SinkFailed) stop is = absurd stop
-stop_fine code capacity grid (Err (fault.Stuck p kind)) stop is = (let same : fault.Stuck p kind ≡ fault.SinkFailed = cc in cc)
-stop_fine code capacity grid (Err fault.NoMemory) stop is = absurd stop
-
 -- ---- the next turn may be given
-pub next_below : (run : Run) (left : List ℕ) (k : ℕ) (rounds rest : Rounds) (p : ℕ) → IsOrder (processors run.code) run.order
-    → rounds.count ≡ processors run.code → rest.count ≡ rounds.count → 0 < rounds.count → IsTurnAt run.order run.limit k left rest p → p < processors run.code
-next_below run left k rounds rest p order count kept some turn =
-    let c : rest.count ≡ processors run.code = kept ∙ count in
-    subst (λ n. n < processors run.code) (sym (turn.number ∙ ap (λ n. turn_number run.order n k) c))
-    (turn_number-below run.order (processors run.code) k (omega (arith, count, some)) order)
 
 pub next_turns : (run : Run) (new : Simulation) (k : ℕ) → new ≡ run_to run k → k < length run.order + run.limit
     → run.start.turns + length run.order + run.limit ≤ 2 ^ 63 → new.grid.turns < 2 ^ 63
 next_turns run new k same more within =
     let turns : new.grid.turns ≡ run.start.turns + k = ap (λ (s : Simulation). s.grid.turns) same ∙ turns_at run k in
     omega (arith, turns, more, within)
-
--- fewer turns are left
-pub fewer_left : (all order left : List ℕ) (limit k : ℕ) (rounds rest : Rounds) → IsPlace all limit k order rounds → IsPlace all limit (k + 1) left rest
-    → k < length all + limit → length left + rest.left < length order + rounds.left
-fewer_left all order left limit k rounds rest before after more =
-    let a : length order ≡ length all - k = ap length before.order_is ∙ length-drop k all in
-    let b : length left ≡ length all - (k + 1) = ap length after.order_is ∙ length-drop (k + 1) all in
-    omega (arith, a, b, before.left, after.left, more)

@@ -2,8 +2,7 @@
 use Rattle.std.proofs.Common.{◌≡◌, ◌≢◌, ℕ, ◌+◌, ◌<◌, ◌≤◌, Bool, true, false, ◌==◌, List, length, get_or, set, Option, Some, None, refl, sym, ◌∙◌, subst, ap, arith, eqb-true, length-set, get_or-set_same}
 use Rattle.std.specs.Prelude.{All, slice_get}
 use Rattle.std.proofs.lemmas.Bool.{eqb-false}
-use Rattle.std.proofs.lemmas.List.{get_or-set_other}
-use Rattle.std.proofs.lemmas.Option.{slice_get-get_or}
+use Rattle.std.proofs.lemmas.List.{get_or-set_other, get_or_default}
 use Rattle.node_turn.specs.declared.steps.Traffic.{Traffic}
 use Rattle.node_turn.specs.declared.steps.Traffic.TheVariants as traffic
 use Rattle.grid_sim.specs.Marks.{TellsWhere}
@@ -42,13 +41,10 @@ tells_fewer Before After fact count marks tells fewer =
 
 -- ---- single marks
 -- a mark, whatever stands for one that isn't there
-pub get_or_any : {X : Type 0} (xs : List X) (i : ℕ) (d e : X) → i < length xs → get_or xs i d ≡ get_or xs i e
-get_or_any xs i d e inside =
-    let both : Some (get_or xs i d) ≡ Some (get_or xs i e) = sym (slice_get-get_or xs i d inside) ∙ slice_get-get_or xs i e inside in cc
 
 pub marks_all : (marks : List Bool) (count : ℕ) → length marks ≡ count → ((q : ℕ) → q < count → get_or marks q false ≡ true)
     → All (λ mark. mark ≡ true) marks
-marks_all marks count many each q d inside = get_or_any marks q d false inside ∙ each q (subst (λ n. q < n) many inside)
+marks_all marks count many each q d inside = get_or_default marks q d false inside ∙ each q (subst (λ n. q < n) many inside)
 
 -- a mark that was set
 pub mark_set : (marks : List Bool) (p : ℕ) → p < length marks → (q : ℕ) → (q ≢ p → get_or marks q false ≡ true)

@@ -378,8 +378,3 @@ pub told_printed : (code : Tables) (old mid new : Processors) (before : Counts) 
 told_printed code old mid new before p bytes same printed =
     subst (λ s. IsTold (sim.turn_in s p) (told_of traffic.Quiet)) (same_simulation code old mid before same)
     (told_moved (processors code) traffic.Quiet printed.move _ printed.moved.turn printed.told)
-
--- nothing of what would be printed is nothing
-pub prints_some : (code : Tables) (old : Processors) (before : Counts) (p : ℕ) (bytes : List ℕ) → PrintsNext code old p bytes
-    → printed_next (simulation_in code old before) p ≡ bytes
-prints_some code old before p bytes next = ap (λ turn. printed_by p (shown_in turn)) next.turn ∙ ap (λ q. printed_by q bytes) next.prints.first

@@ -7,7 +7,7 @@ use Rattle.grid_timetable.specs.Mail.{Post, head}
 use Rattle.grid_timetable.specs.Ledger.{Ledger, opened, place_in, with_stretch, mail_sent, with_mail, settled}
 use Rattle.grid_timetable.specs.Table.{IsLedgerOf}
 use Rattle.grid_timetable.specs.Adding.{move_of}
-use Rattle.grid_timetable.specs.Reading.{CanRead, CanTake, CanSend, CanOpen, CanSettle}
+use Rattle.grid_timetable.specs.Reading.{CanRead, CanTake, CanOpen, CanSettle}
 use Rattle.grid_timetable.proofs.LedgerLemmas.{count-sent}
 use Rattle.grid_timetable.proofs.FirstLemmas.{read_place, read_next, few_moves, short_enough}
 use Rattle.grid_timetable.proofs.StepLemmas.{chosen_behind, chosen_there, chosen_at, soon_enough, ledger_moved}
@@ -39,13 +39,6 @@ module _ (ledger : Ledger) (history : History) (is : IsLedgerOf ledger history) 
   link_there : (mail : Post) → mail.count ≡ history.count → (q : Option ℕ) → IsBelow history.count q → CanTake (record ledger { mail = mail }) p q
   link_there mail many None below = tt
   link_there mail many (Some from) below = (omega (arith, below), omega (arith, can.processor))
-
-  pub can_send : CanSend ledger p sent
-  can_send = by sent can.receiver
-    where
-      by : (q : Option ℕ) → IsBelow history.count q → CanSend ledger p q
-      by None below = tt
-      by (Some to) below = (omega (arith, can.processor, is.posts), omega (arith, below, is.posts))
 
   pub can_open : CanOpen ledger p took
   can_open = record {

@@ -1,9 +1,7 @@
 -- The table without moves; and what the steps of a table ask of it.
-use Rattle.std.proofs.Common.{◌≡◌, ◌⊎◌, ℕ, zero, suc, ◌+◌, ◌*◌, ◌^◌, ◌<◌, ◌≤◌, ◌==◌, List, [], ◌∷◌, ◌++◌, length, Some, refl, sym, ◌∙◌, ap, subst, inl, inr, arith, length-append}
-use Rattle.std.proofs.lemmas.Bool.{cases_lt}
+use Rattle.std.proofs.Common.{◌≡◌, ℕ, zero, suc, ◌+◌, ◌*◌, ◌^◌, ◌<◌, ◌≤◌, ◌==◌, List, [], length, Some, refl, sym, ◌∙◌, ap, subst, arith}
 use Rattle.std.proofs.lemmas.List.Sums.{length-filter, count_by-le-length}
-use Rattle.std.proofs.lemmas.List.{get_or-replicate, length-replicate, get_or_push}
-use Rattle.std.proofs.Math.ListN.{get_or-append}
+use Rattle.std.proofs.lemmas.List.{get_or-replicate, length-replicate}
 use Rattle.std.proofs.Math.Nat.{mul-le-mul}
 use Rattle.std.specs.List.{slice_get}
 use Rattle.grid_timetable.specs.declared.places.Place.{Place}
@@ -12,43 +10,11 @@ use Rattle.grid_timetable.specs.declared.places.Lane.{Lane}
 use Rattle.grid_timetable.specs.Run.{Run, IsTimetable, IsLeastLength, greatest}
 use Rattle.grid_timetable.specs.History.{History, run_of, moves_by, no_moves}
 use Rattle.grid_timetable.specs.Mail.{no_mail}
-use Rattle.grid_timetable.specs.Ledger.{Ledger, stretch_at, tick_in, lane_at, no_stretch, no_lane}
+use Rattle.grid_timetable.specs.Ledger.{Ledger, stretch_at, tick_in}
 use Rattle.grid_timetable.specs.Table.{IsPlaceOf, IsCaused, IsLane, IsLink, IsLedgerOf}
 use Rattle.grid_timetable.specs.Reading.{CanRead, CanReadNext, AreFirstLanes, first_lane, AreFirstStretches, first_stretch}
 use Rattle.grid_timetable.proofs.MailLemmas.{number-below}
 use Rattle.grid_timetable.proofs.LengthLemmas.{earliest-least, end-within, tick-within}
-
--- ---- lists that fill
-pub lanes-none : AreFirstLanes 0 []
-lanes-none = record { many = refl; each = λ p below. absurd (omega arith) }
-
-pub lanes-push : (count : ℕ) (lanes : List Lane) → AreFirstLanes count lanes → AreFirstLanes (count + 1) (lanes ++ first_lane count ∷ [])
-lanes-push count lanes are = record {
-  many = omega (arith, length-append lanes (first_lane count ∷ []), are.many);
-  each = λ p below. by p below (cases_lt p count);
-}
-  where
-    by : (p : ℕ) → p < count + 1 → (p < count) ⊎ (count ≤ p) → lane_at (lanes ++ first_lane count ∷ []) p ≡ first_lane p
-    by p below (inl old) = get_or-append lanes (first_lane count ∷ []) no_lane p (omega (arith, are.many)) ∙ are.each p old
-    by p below (inr new) =
-        let here : p ≡ count = omega arith in
-        get_or_push lanes (first_lane count) no_lane p (omega (arith, are.many)) ∙ ap first_lane (sym here)
-
-pub stretches-none : AreFirstStretches 0 []
-stretches-none = record { many = refl; each = λ p below. absurd (omega arith) }
-
-pub stretches-push : (count : ℕ) (stretches : List Stretch) → AreFirstStretches count stretches
-    → AreFirstStretches (count + 1) (stretches ++ first_stretch count ∷ [])
-stretches-push count stretches are = record {
-  many = omega (arith, length-append stretches (first_stretch count ∷ []), are.many);
-  each = λ p below. by p below (cases_lt p count);
-}
-  where
-    by : (p : ℕ) → p < count + 1 → (p < count) ⊎ (count ≤ p) → stretch_at (stretches ++ first_stretch count ∷ []) p ≡ first_stretch p
-    by p below (inl old) = get_or-append stretches (first_stretch count ∷ []) no_stretch p (omega (arith, are.many)) ∙ are.each p old
-    by p below (inr new) =
-        let here : p ≡ count = omega arith in
-        get_or_push stretches (first_stretch count) no_stretch p (omega (arith, are.many)) ∙ ap first_stretch (sym here)
 
 -- ---- the ledger without moves
 none-greatest : (n : ℕ) → greatest (λ p. 0) n ≡ 0

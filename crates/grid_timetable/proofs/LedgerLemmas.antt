@@ -145,10 +145,6 @@ length-number : (b : Bool) (n : ℕ) → length (number_where b n) ≡ cond b 1 
 length-number true n = omega arith
 length-number false n = omega arith
 
-length-letter : (b : Bool) (place : Place) → length (letter_where b place) ≡ cond b 1 0
-length-letter true place = omega arith
-length-letter false place = omega arith
-
 pub length-moved : {run other : Run} {move : Move} → HasMore run other move → (test : Move → Bool) (q : ℕ)
     → length (numbers_from test 1 (other.moves q)) ≡ length (numbers_from test 1 (run.moves q)) + cond ((q == move.processor) && test move) 1 0
 length-moved {run} {other} {move} more test q =

@@ -1,6 +1,6 @@
 -- A run with one move more, and the tick that the move stands at.
 use Rattle.std.proofs.Common.{◌≡◌, ◌⊎◌, ℕ, zero, suc, ◌+◌, ◌<◌, ◌≤◌, ◌==◌, ◌&&◌, Bool, true, false, cond, List, [], ◌∷◌, ◌++◌, length, Option, Some, None, refl, sym, ◌∙◌, ap, subst, inl, inr, arith, append-nil, length-append, eqb-true}
-use Rattle.std.proofs.lemmas.Bool.{cases_lt, cases_eq, ne_eqb, eq-eqb, cond-true, cond-false}
+use Rattle.std.proofs.lemmas.Bool.{cases_lt, cases_eq, ne_eqb, eq-eqb, cond-true, cond-false, and_from, and_left, and_right}
 use Rattle.std.proofs.lemmas.List.Elements.{filter-append}
 use Rattle.std.proofs.lemmas.Option.{slice_get_within, slice_get-get_or}
 use Rattle.std.specs.List.{slice_get}
@@ -91,20 +91,8 @@ IsTimetable-fewer {run} {other} {move} more tick is = record {
 abbrev pub with_tick : (ℕ → ℕ → ℕ) → ℕ → ℕ → ℕ → ℕ → ℕ → ℕ
 with_tick tick p n t q j = cond (q == p && j == n) t (tick q j)
 
-and_left : (x y : Bool) → x ≡ false → (x && y) ≡ false
-and_left false y e = refl
-and_left true y e = cc
-
-and_right : (x y : Bool) → y ≡ false → (x && y) ≡ false
-and_right false y e = refl
-and_right true y e = e
-
-and_both : (x y : Bool) → x ≡ true → y ≡ true → (x && y) ≡ true
-and_both true y e f = f
-and_both false y e f = cc
-
 pub with_tick-new : (tick : ℕ → ℕ → ℕ) (p n t q j : ℕ) → q ≡ p → j ≡ n → with_tick tick p n t q j ≡ t
-with_tick-new tick p n t q j here now = cond-true _ t (tick q j) (and_both (q == p) (j == n) (eq-eqb q p here) (eq-eqb j n now))
+with_tick-new tick p n t q j here now = cond-true _ t (tick q j) (and_from (q == p) (j == n) (eq-eqb q p here) (eq-eqb j n now))
 
 pub with_tick-other : (tick : ℕ → ℕ → ℕ) (p n t q j : ℕ) → (q ≡ p → ⊥) → with_tick tick p n t q j ≡ tick q j
 with_tick-other tick p n t q j away = cond-false _ t (tick q j) (and_left (q == p) (j == n) (ne_eqb q p away))

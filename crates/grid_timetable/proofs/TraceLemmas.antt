@@ -11,7 +11,7 @@ use Rattle.grid_timetable.specs.Run.{Run, sent_at, taken_at, behind, end_of_last
 use Rattle.grid_timetable.specs.History.{History, run_of}
 use Rattle.grid_timetable.specs.Chain.{IsSegment, Follows, Joined, IsChain, moves_in, chain_length, StandsBehind, BeginsAtZero, IsTimed, AtLast, IsEnd, IsLongestChain}
 use Rattle.grid_timetable.specs.Ledger.{Ledger, stretch_at, tick_at, lane_at, next_place}
-use Rattle.grid_timetable.specs.Table.{IsPlaceOf, IsJoined, IsCaused, IsStretch, IsLedgerOf}
+use Rattle.grid_timetable.specs.Table.{IsPlaceOf, IsJoined, IsCaused, IsLedgerOf}
 use Rattle.grid_timetable.specs.Trace.{segment_to, cause_of, IsTrace, Begins, Waits, IsTraceOf, AreCaused, last_place, IsLastPlace}
 use Rattle.grid_timetable.proofs.LengthLemmas.{no_last}
 use Rattle.grid_timetable.proofs.FirstLemmas.{least_length}
@@ -113,12 +113,6 @@ module _ (ledger : Ledger) (history : History) (is : IsLedgerOf ledger history) 
 
   abbrev stretches : List Stretch
   stretches = ledger.stretches
-
-  pub are_caused : AreCaused stretches
-  are_caused = record { each = λ place cause there e. earlier place cause e (is.stretches place.stretch there) }
-    where
-      earlier : (place cause : Place) → cause_of stretches place ≡ Some cause → IsStretch run is.tick stretches place.stretch → cause.stretch < place.stretch
-      earlier place cause e caused = (subst (IsCaused run is.tick stretches place.stretch (stretch_at stretches place.stretch)) e caused).before
 
   segment_is : (q : ℕ) (place : Place) → IsPlaceOf run is.tick stretches q place → IsSegment run (segment_to stretches place)
   segment_is q place at = record {
@@ -234,16 +228,6 @@ module _ (ledger : Ledger) (history : History) (is : IsLedgerOf ledger history) 
         timed = here.timed;
         ends = subst (AtLast (IsEnd run ledger.ticks)) (sym here.ends) (at_last (IsEnd run ledger.ticks) here.front _ end);
       }
-
-  pub no_chain : ledger.ticks ≡ 0 → IsLongestChain run []
-  no_chain none = record {
-    ticks = ledger.ticks;
-    least = least_length ledger history is;
-    is_chain = record { each = λ i d below. absurd (omega arith); joined = tt };
-    length_is = omega (arith, none);
-    timed = record { begins = tt; later = tt };
-    ends = tt;
-  }
 
   -- where no processor's last move ends last, there are no moves
   pub never_ends : ((p : ℕ) → p < ledger.count → tick_at stretches (next_place ledger p) ≢ ledger.ticks) → ledger.ticks ≡ 0

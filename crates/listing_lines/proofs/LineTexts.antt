@@ -1,9 +1,9 @@
 -- What stands between the spaces of a line, and that no line has a space or a newline in a field.
-use Rattle.std.proofs.Common.{◌≡◌, ℕ, Bool, true, false, ◌&&◌, ◌||◌, List, [], ◌∷◌, ◌++◌, map, ℤ, sym, ◌∙◌, ap, refl}
+use Rattle.std.proofs.Common.{◌≡◌, ℕ, Bool, true, false, ◌&&◌, List, [], ◌∷◌, ◌++◌, map, ℤ, sym, ◌∙◌, ap, refl}
 use Rattle.std.specs.Prelude.{All, ◌==◌, nat_lt}
 use Rattle.std.specs.Fmt.{signed_decimal}
 use Rattle.std.specs.List.{list_all, slice_split, flat_map, join_with_byte}
-use Rattle.std.proofs.lemmas.Bool.{eqb-true}
+use Rattle.std.proofs.lemmas.Bool.{eqb-true, or_parts}
 use Rattle.std.proofs.lemmas.List.{append-nil}
 use Rattle.std.proofs.lemmas.List.Elements.{All-head, All-tail, All-cons, All-nil}
 use Rattle.std.proofs.lemmas.List.Splits.{slice_split_none, slice_split_at, join_with_byte-slice_split}
@@ -204,15 +204,11 @@ space = record { number = refl; printing = refl; hex = refl }
 newline : IsGap 10
 newline = record { number = refl; printing = refl; hex = refl }
 
-either : (a b : Bool) → (a || b) ≡ false → (a ≡ false) × (b ≡ false)
-either true b h = absurd cc
-either false b h = (refl, h)
-
 -- each byte of a text is another one
 all_others : (wanted : ℕ) (text : List ℕ) → has_byte wanted text ≡ false → All (λ byte. (byte == wanted) ≡ false) text
 all_others wanted [] h = All-nil _
 all_others wanted (byte ∷ bytes) h =
-    let split = either (byte == wanted) (has_byte wanted bytes) h in
+    let split = or_parts (byte == wanted) (has_byte wanted bytes) h in
     All-cons (λ byte'. (byte' == wanted) ≡ false) byte bytes split.0 (all_others wanted bytes split.1)
 
 -- ---- fields in a row
@@ -252,7 +248,7 @@ fields_lack in_text (field ∷ fields) are =
     (fields_lack in_text fields (All-tail (IsField in_text) field fields are)) where
       joined : (xs ys : List ℕ) → has_byte 10 xs ≡ false → has_byte 10 ys ≡ false → has_byte 10 (xs ++ ys) ≡ false
       joined [] ys hx hy = hy
-      joined (x ∷ xs) ys hx hy = let split = either (x == 10) (has_byte 10 xs) hx in rw split.0 (joined xs ys split.1 hy)
+      joined (x ∷ xs) ys hx hy = let split = or_parts (x == 10) (has_byte 10 xs) hx in rw split.0 (joined xs ys split.1 hy)
 
 -- no newline stands in a line
 pub line_lacks : (line : Line) → IsLine line → has_byte 10 (line_text line) ≡ false

@@ -1,5 +1,5 @@
 -- Each field and each line is written in its own way.
-use Rattle.std.proofs.Common.{◌≡◌, ℕ, Bool, true, false, ◌||◌, List, [], ◌∷◌, ◌++◌, map, ℤ, sym, ◌∙◌, ap, refl}
+use Rattle.std.proofs.Common.{◌≡◌, ℕ, Bool, true, false, List, [], ◌∷◌, ◌++◌, map, ℤ, sym, ◌∙◌, ap, refl}
 use Rattle.std.specs.Prelude.{All, IsTrue, Option, Some, Ok, find, ◌==◌}
 use Rattle.std.specs.Char.{is_ascii_digit}
 use Rattle.std.specs.Fmt.{signed_decimal}
@@ -8,6 +8,7 @@ use Rattle.std.specs.Str.{bytes_eq}
 use Rattle.std.proofs.lemmas.Fmt.{signed_decimal_injective}
 use Rattle.std.proofs.lemmas.List.Folds.{list_any-append}
 use Rattle.std.proofs.lemmas.List.Elements.{All-head, All-tail}
+use Rattle.std.proofs.lemmas.Bool.{or_right}
 use Rattle.hex.specs.Hex.{IsBytes, encode_lower, decode_of}
 use Rattle.hex.proofs.HexLemmas.{decode_of-encode_lower}
 use Rattle.zpl_nums.specs.Integer.{IsInteger}
@@ -107,15 +108,11 @@ no_digit name.Flood = refl
 no_digit name.Number = refl
 no_digit name.Truth = refl
 
-or_true : (a b : Bool) → b ≡ true → (a || b) ≡ true
-or_true true b h = refl
-or_true false b h = h
-
 digit_first : (text rest : List ℕ) → has_a_digit text ≡ true → has_a_digit (text ++ rest) ≡ true
 digit_first text rest h = rw (list_any-append is_ascii_digit text rest, h) refl
 
 digit_behind : (text rest : List ℕ) → has_a_digit rest ≡ true → has_a_digit (text ++ rest) ≡ true
-digit_behind text rest h = rw (list_any-append is_ascii_digit text rest) (or_true (has_a_digit text) (has_a_digit rest) h)
+digit_behind text rest h = rw (list_any-append is_ascii_digit text rest) (or_right (has_a_digit text) (has_a_digit rest) h)
 
 some_count : (mark : Mark) (numbers : List ℤ) → IsTrue (has_count mark numbers) → IsTrue (are_some numbers)
 some_count mark.Plain [] h = absurd cc

@@ -1,5 +1,5 @@
 -- The numbers of a word, taken one after another.
-use Rattle.std.proofs.Common.{◌≡◌, ℕ, zero, suc, ◌+◌, ◌<◌, ◌≤◌, List, [], ◌∷◌, ◌++◌, length, take, drop, get_or, map, ℤ, sym, ◌∙◌, subst, refl, arith}
+use Rattle.std.proofs.Common.{◌≡◌, ℕ, zero, suc, ◌+◌, ◌<◌, ◌≤◌, List, [], ◌∷◌, ◌++◌, length, drop, get_or, map, ℤ, sym, ◌∙◌, subst, refl, arith}
 use Rattle.std.proofs.lemmas.List.{append_assoc, append-nil, drop_all, length-map}
 use Rattle.std.specs.Prelude.{All, Option, None, Result, Ok, Err, IfOk, OnOk}
 use Rattle.std.specs.Fmt.{signed_decimal}
@@ -17,10 +17,6 @@ pub record IsLeft (ns taken : List ℤ) (texts : List (List ℕ)) : Type 0 where
 abbrev pub AreLeft : List ℕ → List ℤ → List (List ℕ) → Type 0
 AreLeft word taken texts =
     (ns : List ℤ) → All IsInteger ns → number_texts word ≡ map signed_decimal ns → IsLeft ns taken texts
-
-pub left_start : (word : List ℕ) (texts : List (List ℕ)) → number_texts word ≡ some_texts texts → AreLeft word [] texts
-left_start word texts same ns range written =
-    record { rest = ns; range = range; whole = refl; written = sym same ∙ written }
 
 pub left_empty : (word : List ℕ) (taken : List ℤ) (texts more : List (List ℕ)) → texts ≡ [] ∷ more →
     AreLeft word taken texts → AreLeft word taken more
@@ -81,27 +77,11 @@ no_bytes (x ∷ xs) h = absurd (omega arith)
 pub drop-map-end : {A B : Type 0} (f : A → B) (xs : List A) (k : ℕ) → length xs ≤ k → drop k (map f xs) ≡ []
 drop-map-end f xs k h = drop_all k (map f xs) (rw length-map h)
 
-pub drop-step : {A : Type 0} (xs : List A) (k : ℕ) (d : A) → k < length xs → drop k xs ≡ get_or xs k d ∷ drop (k + 1) xs
-drop-step [] k d h = absurd (omega arith)
-drop-step (x ∷ xs) zero d h = refl
-drop-step (x ∷ xs) (suc k) d h =
-    let step = drop-step xs k d (omega arith) in
-    let e : suc k + 1 ≡ suc (k + 1) = omega arith in
-    rw e step
-
 -- where a call that gives nothing was right to
 pub nothing_found : {V E : Type 0} (r : Result (Option V) E) (Q : Option V → Type 0) (F : Type 0) →
     IfOk r (λ found. found ≡ None) → OnOk r F → (F → Q None) → IfOk r Q
 nothing_found (Ok found) Q F none fact q = subst Q (sym none) (q fact)
 nothing_found (Err e) Q F none fact q = tt
-
-pub take-step : {A : Type 0} (xs : List A) (k : ℕ) (d : A) → k < length xs → take (k + 1) xs ≡ take k xs ++ get_or xs k d ∷ []
-take-step [] k d h = absurd (omega arith)
-take-step (x ∷ xs) zero d h = refl
-take-step (x ∷ xs) (suc k) d h =
-    let step = take-step xs k d (omega arith) in
-    let e : suc k + 1 ≡ suc (k + 1) = omega arith in
-    rw (e, step) refl
 
 -- lists with the same values have them at the same places
 pub same_at : {A B C : Type 0} (f : A → C) (g : B → C) (xs : List A) (ys : List B) (k : ℕ) (d : A) (e : B) →

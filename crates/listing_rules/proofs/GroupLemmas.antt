@@ -40,10 +40,6 @@ bits false false c Holds f g h is = At 3 third (h is)
 holding : (Holds : ℕ → Type 0) (ranks : Ranks) → AreRanks Holds ranks → IsTrue (any_bit ranks) → Some3 Holds
 holding Holds ranks are is = bits ranks.one ranks.two ranks.three Holds are.one.0 are.two.0 are.three.0 is
 
-true-or : (a : Bool) → IsTrue (a || true)
-true-or true = refl
-true-or false = refl
-
 or-first : (a b : Bool) → IsTrue a → IsTrue (a || b)
 or-first true b is = refl
 or-first false b is = absurd cc

@@ -56,9 +56,6 @@ pub record GoingOver {X : Type 0} (head : Keyword → Bool) (heading : Line) (p 
   pub stops : (left : List Line) → BlocksStop head heading p Is Whole rest left → BlocksStop head heading p Is Whole start left
 
 module _ {X : Type 0} (head : Keyword → Bool) (heading : Line) (p : Keyword → Bool) (Is : List X → Line → X → Type 0) (Whole : List X → Type 0) where
-  pub over_start : (start : List Line) → GoingOver head heading p Is Whole start [] start
-  over_start start = record { blocks = λ rows behind r. r; stops = λ left s. s }
-
   pub over_on : (start : List Line) (done : List (List X)) (rest next : List Line) (rows : List X) (more : List (List X)) →
       GoingOver head heading p Is Whole start done rest → begins head rest ≡ true → Block heading p Is Whole rest rows next → more ≡ done ++ rows ∷ [] → GoingOver head heading p Is Whole start more next
   over_on start done rest next rows more going some block grown =

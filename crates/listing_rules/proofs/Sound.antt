@@ -142,9 +142,6 @@ length-replicate : (n : ℕ) (i : Instr) → length (replicate n i) ≡ n
 length-replicate zero i = refl
 length-replicate (suc n) i = ap suc (length-replicate n i)
 
-All-sub : {X : Type 0} (P Q : X → Type 0) → ((x : X) → P x → Q x) → (xs : List X) → All P xs → All Q xs
-All-sub P Q weaker xs all k d inside = weaker _ (all k d inside)
-
 -- what was read, and that it fits
 pub record Sound (lines : List Line) (tables : Tables) : Type 0 where
   pub split : lines ≡ lines_of tables

@@ -2,7 +2,7 @@
 --
 --   Own, own_run   up to the one that met a zero divisor
 --   own_from       the number that is told is that of one of them
-use Rattle.std.proofs.Common.{◌≡◌, ◌⊎◌, inl, inr, refl, arith, ℕ, ◌+◌, ◌≤◌, List, [], ◌∷◌, length}
+use Rattle.std.proofs.Common.{◌≡◌, ◌⊎◌, refl, arith, ℕ, ◌+◌, ◌≤◌, List, [], ◌∷◌, length}
 use Rattle.std.proofs.Common.{Option, Some, None}
 use Rattle.std.specs.Prelude.{⊤}
 use Rattle.node_form.specs.Nest.{Nest, members_of}
@@ -69,17 +69,6 @@ IsLine number (unit ∷ units) m line =
 abbrev pub AnyOf : {X : Type 0} → (X → Type 0) → List X → Type 0
 AnyOf P [] = ⊥
 AnyOf P (x ∷ xs) = P x ⊎ AnyOf P xs
-
-pub some_more : {X : Type 0} (P Q : X → Type 0) → ((x : X) → P x → Q x) → (xs : List X) → AnyOf P xs
-    → AnyOf Q xs
-some_more P Q more [] is = absurd is
-some_more P Q more (x ∷ xs) (inl is) = inl (more x is)
-some_more P Q more (x ∷ xs) (inr is) = inr (some_more P Q more xs is)
-
-pub every_more : {X : Type 0} (P Q : X → Type 0) → ((x : X) → P x → Q x) → (xs : List X)
-    → Every P xs → Every Q xs
-every_more P Q more [] all = tt
-every_more P Q more (x ∷ xs) all = (more x all.0, every_more P Q more xs all.1)
 
 -- flags go up from unit to unit
 pub less_from : {P : Type 0} (m k : ℕ) (own : Own P) → m ≤ k → From k own → From m own

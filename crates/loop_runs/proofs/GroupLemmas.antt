@@ -4,12 +4,13 @@
 --   puts_it                      whether an array is put
 --   members_of_group             each member reads and writes so
 use Rattle.std.proofs.Common.{◌≡◌, ◌⊎◌, inl, inr, refl, sym, ◌∙◌, ap, subst, arith, ℕ, zero, suc}
-use Rattle.std.proofs.Common.{◌<◌, Bool, true, false, true≢false, ◌&&◌, ◌||◌, List, [], ◌∷◌, ◌++◌}
+use Rattle.std.proofs.Common.{Bool, true, false, true≢false, ◌&&◌, ◌||◌, List, [], ◌∷◌, ◌++◌}
 use Rattle.std.proofs.Common.{map, All, ℤ, Some, None, eqb-true}
 use Rattle.std.specs.Prelude.{◌==◌, flat_map, fold, if◌then◌else◌, not, slice_get, slice_index_or}
 use Rattle.std.specs.List.{list_all, list_any}
 use Rattle.std.proofs.lemmas.Bool.Decides.{nat_tests}
 use Rattle.std.proofs.lemmas.List.Elements.{All-head, All-tail}
+use Rattle.std.proofs.lemmas.Bool.{and_parts}
 use Rattle.zpl_nums.specs.declared.folds.Fold.{Fold}
 use Rattle.zpl_nums.specs.Fold.{unit_of}
 use Rattle.zpl_region.specs.declared.regions.Region.{Region}
@@ -37,7 +38,6 @@ use Rattle.flat_form.specs.Right.{totals_begin}
 use Rattle.flat_form.specs.Row.{Member, Loop, Words, member_inlined, member_words, words_at}
 use Rattle.flat_form.specs.Loop.{loop_stands}
 use Rattle.flat_form.specs.Whole.{Whole}
-use Rattle.needs_runs.proofs.HoldsLemmas.{both_parts}
 
 -- ---- lists
 pub among_left : {X : Type 0} (xs ys : List X) (x : X) → Among xs x → Among (xs ++ ys) x
@@ -67,9 +67,9 @@ pub all_at : {X : Type 0} (test : X → Bool) (xs : List X) (x : X) → list_all
     → Among xs x → test x ≡ true
 all_at test [] x all among = absurd among
 all_at test (y ∷ xs) x all (inl same) =
-    ap test (sym same) ∙ (both_parts (test y) (list_all test xs) all).0
+    ap test (sym same) ∙ (and_parts (test y) (list_all test xs) all).0
 all_at test (y ∷ xs) x all (inr later) =
-    all_at test xs x (both_parts (test y) (list_all test xs) all).1 later
+    all_at test xs x (and_parts (test y) (list_all test xs) all).1 later
 
 pub any_at : {X : Type 0} (test : X → Bool) (xs : List X) (x : X) → test x ≡ true → Among xs x
     → list_any test xs ≡ true
@@ -209,7 +209,7 @@ distinct_one : (totals : List Total) (k : ℕ) (f g : Fold)
     → Among totals (record { scalar = k; operator = g }) → f ≡ g
 distinct_one [] k f g e one other = absurd one
 distinct_one (total ∷ totals) k f g e one other =
-    by one other (both_parts (not (is_among total.scalar
+    by one other (and_parts (not (is_among total.scalar
     (map (λ (total : Total). total.scalar) totals)))
     (are_distinct (map (λ (total : Total). total.scalar) totals)) e)
     (λ one other later. distinct_one totals k f g later one other)
@@ -252,8 +252,8 @@ begins_of : (whole : Whole) (region : Region) (scalars : List ℕ) (totals : Lis
     → Begins whole region scalars totals
 begins_of whole region scalars [] total among e = absurd among
 begins_of whole region scalars (one ∷ totals) total among e =
-    let first = both_parts (no_flood region) _ e in
-    let second = both_parts (are_distinct (map (λ (total : Total). total.scalar) (one ∷ totals)))
+    let first = and_parts (no_flood region) _ e in
+    let second = and_parts (are_distinct (map (λ (total : Total). total.scalar) (one ∷ totals)))
     (list_all (total_begins whole scalars) (one ∷ totals)) first.1 in
     record { flat = first.0; distinct = second.0; each = second.1 }
 
@@ -286,9 +286,6 @@ module _ (code : Tables) (exprs_fit : All (FitsExpr code) code.exprs) (slot grou
     pub settled : is_settled whole k ≡ true
     pub read : Among scalars k
 
-  abbrev pub CellOf : ℕ → Type 0
-  CellOf c = (c < code.cells) × (c < count)
-
   members_are : uses.members_of code group ≡ members
   members_are = ap rows_or_none there
 
@@ -301,17 +298,17 @@ module _ (code : Tables) (exprs_fit : All (FitsExpr code) code.exprs) (slot grou
     puts_stand = list_all (can_write code whole region) (group_puts inline)
 
     pub reads_are : reads_stand ≡ true
-    reads_are = (both_parts reads_stand (puts_stand && totals_begin whole region inline) stands).0
+    reads_are = (and_parts reads_stand (puts_stand && totals_begin whole region inline) stands).0
 
     pub puts_are : puts_stand ≡ true
     puts_are =
-        (both_parts puts_stand (totals_begin whole region inline)
-        (both_parts reads_stand (puts_stand && totals_begin whole region inline) stands).1).0
+        (and_parts puts_stand (totals_begin whole region inline)
+        (and_parts reads_stand (puts_stand && totals_begin whole region inline) stands).1).0
 
     totals_are : totals_begin whole region inline ≡ true
     totals_are =
-        (both_parts puts_stand (totals_begin whole region inline)
-        (both_parts reads_stand (puts_stand && totals_begin whole region inline) stands).1).1
+        (and_parts puts_stand (totals_begin whole region inline)
+        (and_parts reads_stand (puts_stand && totals_begin whole region inline) stands).1).1
 
     pub can_put : (a : ℕ) → puts_it a ≡ true → can_write code whole region a ≡ true
     can_put a is =
@@ -330,7 +327,7 @@ module _ (code : Tables) (exprs_fit : All (FitsExpr code) code.exprs) (slot grou
         → (is_value (unit_of f) (slice_get whole.scalars k) ≡ true)
         × (not (is_among k scalars) ≡ true)
     total_parts k f is =
-        both_parts (is_value (unit_of f) (slice_get whole.scalars k)) (not (is_among k scalars))
+        and_parts (is_value (unit_of f) (slice_get whole.scalars k)) (not (is_among k scalars))
         (all_at (total_begins whole scalars) (group_totals inline) _ (begins k f is).each is)
 
     pub total_apart : (k : ℕ) → SettledOf k → (f : Fold) → TotalOf k f → ⊥

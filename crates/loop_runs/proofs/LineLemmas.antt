@@ -11,7 +11,7 @@ use Rattle.std.proofs.Common.{Some, append_assoc, nat_le}
 use Rattle.std.specs.Prelude.{flat_map, not, slice_get}
 use Rattle.std.specs.List.{list_any}
 use Rattle.std.proofs.lemmas.Bool.Decides.{nat_tests}
-use Rattle.std.proofs.lemmas.List.{length-map}
+use Rattle.std.proofs.lemmas.List.{length-map, length-append}
 use Rattle.zpl_region.proofs.ListLemmas.{Among}
 use Rattle.node_form.specs.declared.members.Member.{Member}
 use Rattle.node_form.specs.declared.members.Member.TheVariants as member
@@ -109,11 +109,6 @@ get_behind : {X : Type 0} (front : List X) (x : X) (rest : List X)
 get_behind [] x rest = refl
 get_behind (y ∷ front) x rest = get_behind front x rest
 
-long_append : {X : Type 0} (xs ys : List X) → length (xs ++ ys) ≡ length xs + length ys
-long_append [] ys = omega arith
-long_append (x ∷ xs) ys =
-    let more = long_append xs ys in omega (arith, more)
-
 line_at : (units : List Nest) → Every IsHeaded units → (front : List Member) (m line : ℕ)
     → IsLine (length front) units m line
     → line_or_zero (slice_get (front ++ flat_map members_of units) m) ≡ line
@@ -129,7 +124,7 @@ line_at (unit ∷ units) heads front m line (inr is) =
     ap (λ all. line_or_zero (slice_get all m))
     (sym (append_assoc front (members_of unit) (flat_map members_of units)))
     ∙ line_at units heads.1 (front ++ members_of unit) m line
-    (subst (λ k. IsLine k units m line) (sym (long_append front (members_of unit))) is)
+    (subst (λ k. IsLine k units m line) (sym (length-append front (members_of unit))) is)
 
 pub line_is : (nest : Nest) (m line : ℕ) → IsLine 0 (units_of nest) m line
     → line_or_zero (slice_get (members_of nest) m) ≡ line

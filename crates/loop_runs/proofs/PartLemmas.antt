@@ -10,6 +10,7 @@ use Rattle.std.specs.Prelude.{◌==◌, drop, flat_map, not}
 use Rattle.std.specs.List.{AllZip, list_all}
 use Rattle.std.proofs.lemmas.Int.{ints}
 use Rattle.std.proofs.lemmas.List.Elements.{All-nil, All-cons, All-head, All-tail}
+use Rattle.std.proofs.lemmas.Bool.{and_from}
 use Rattle.zpl_region.specs.declared.dims.Dim.{Dim}
 use Rattle.zpl_region.specs.declared.dims.Dim.TheVariants as dim
 use Rattle.zpl_region.specs.declared.regions.Region.{Region}
@@ -37,7 +38,6 @@ use Rattle.grid_meaning.specs.State.{IsSlot}
 use Rattle.grid_meaning.specs.Stored.{arrangement_of}
 use Rattle.flat_form.specs.Right.{is_flood, no_flood}
 use Rattle.needs_runs.specs.Agree.{HasLayout}
-use Rattle.needs_runs.proofs.HoldsLemmas.{both_true}
 use Rattle.needs_runs.proofs.NeedLemmas.{InBlocks}
 use Rattle.needs_runs.proofs.OwnerLemmas.{boxes_of_rows, in_blocks, processors_are, uncut_three}
 
@@ -91,12 +91,12 @@ between_lies (suc rank) (l ∷ lows) (h ∷ highs) [] t past is lies = refl
 between_lies zero (l ∷ lows) (h ∷ highs) (d ∷ dims) [] past is lies = refl
 between_lies (suc rank) (l ∷ lows) (h ∷ highs) (d ∷ dims) [] past is lies = refl
 between_lies zero (l ∷ lows) (h ∷ highs) (d ∷ dims) (x ∷ t) past is lies =
-    both_true (lies_within (pos 0) (pos 0) d x) _
+    and_from (lies_within (pos 0) (pos 0) d x) _
     (subst (λ e. lies_within (pos 0) (pos 0) e x ≡ true) (sym past.0)
     (at_zero x (subst (λ e. IsCoordinate e x) past.0 is.0)))
     (between_lies zero lows highs dims t past.1 is.1 lies.1)
 between_lies (suc rank) (l ∷ lows) (h ∷ highs) (d ∷ dims) (x ∷ t) past is lies =
-    both_true (lies_within l h d x) _ (lies_between l h x d lies.0.0 lies.0.1)
+    and_from (lies_within l h d x) _ (lies_between l h x d lies.0.0 lies.0.1)
     (between_lies rank lows highs dims t past is.1 lies.1)
 
 -- in blocks, without flood dimensions

@@ -7,6 +7,7 @@ use Rattle.std.proofs.Common.{◌<◌, true, List, [], ◌∷◌, length, map}
 use Rattle.std.proofs.Common.{ℤ, pos, Some}
 use Rattle.std.specs.Prelude.{slice_get}
 use Rattle.std.specs.List.{AllZip}
+use Rattle.std.proofs.lemmas.Bool.{and_parts, and_from}
 use Rattle.zpl_region.specs.declared.dims.Dim.{Dim}
 use Rattle.zpl_region.specs.declared.dims.Dim.TheVariants as dim
 use Rattle.zpl_region.specs.declared.regions.Region.{Region}
@@ -31,7 +32,6 @@ use Rattle.needs_runs.specs.Agree.{HasLayout}
 use Rattle.needs_runs.specs.Holds.{Holds, lies_in_own}
 use Rattle.needs_runs.proofs.BringLemmas.{value_held}
 use Rattle.needs_runs.proofs.FlatLemmas.{three}
-use Rattle.needs_runs.proofs.HoldsLemmas.{both_parts, both_true}
 use Rattle.needs_runs.proofs.PlaceLemmas.{held_there}
 use Rattle.needs_runs.proofs.SlotLemmas.{zip_there}
 use Rattle.loop_runs.proofs.PartLemmas.{inside_region}
@@ -78,13 +78,13 @@ lies_by_cover (l ∷ lows) (h ∷ highs) (Star ∷ rows) (dim.Flood ∷ dims) (x
 lies_by_cover (l ∷ lows) (h ∷ highs) (Star ∷ rows) (dim.Range lo hi step align ∷ dims) (x ∷ t) long
     cover lies =
     lies_by_cover lows highs rows dims t (omega (arith, long)) cover
-    (both_parts (lies_within l h (dim.Range lo hi step align) x) _ lies).1
+    (and_parts (lies_within l h (dim.Range lo hi step align) x) _ lies).1
 lies_by_cover (l ∷ lows) (h ∷ highs) (Range a b c d ∷ rows) (dim.Flood ∷ dims) (x ∷ t) long cover
     lies = cc
 lies_by_cover (l ∷ lows) (h ∷ highs) (Range a b c d ∷ rows) (dim.Range lo hi step align ∷ dims)
     (x ∷ t) long cover lies =
-    let parts = both_parts (lies_within l h (dim.Range lo hi step align) x) _ lies in
-    both_true (lies_within l h (dim.Range a b (pos 1) a) x) _ parts.0
+    let parts = and_parts (lies_within l h (dim.Range lo hi step align) x) _ lies in
+    and_from (lies_within l h (dim.Range a b (pos 1) a) x) _ parts.0
     (lies_by_cover lows highs rows dims t (omega (arith, long)) cover parts.1)
 
 -- ---- what a whole array has

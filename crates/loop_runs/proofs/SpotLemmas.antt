@@ -8,6 +8,7 @@ use Rattle.std.proofs.Common.{◌<◌, Bool, true, false, ◌&&◌, List, [], �
 use Rattle.std.proofs.Common.{Option, Some, None}
 use Rattle.std.specs.Prelude.{if◌then◌else◌, option_and_then, slice_get}
 use Rattle.std.specs.Option.{IsSomeAnd}
+use Rattle.std.proofs.lemmas.Bool.{and_parts}
 use Rattle.zpl_region.specs.declared.regions.Region.{Region}
 use Rattle.zpl_region.specs.Region.{IsMember, members}
 use Rattle.zpl_region.proofs.ListLemmas.{Among}
@@ -34,7 +35,6 @@ use Rattle.needs_runs.specs.Agree.{HasLayout}
 use Rattle.needs_runs.specs.Holds.{Holds}
 use Rattle.needs_runs.proofs.BringLemmas.{value_held}
 use Rattle.needs_runs.proofs.FlatLemmas.{mine_flat, three}
-use Rattle.needs_runs.proofs.HoldsLemmas.{both_parts}
 use Rattle.needs_runs.proofs.PlaceLemmas.{held_there}
 use Rattle.loop_runs.proofs.GroupLemmas.{all_at, can_put, one_total}
 use Rattle.loop_runs.proofs.MemberLemmas.{Puts, Read, Total, count, members_inline, put_ranked}
@@ -63,7 +63,7 @@ readable code whole region a shift =
         → slice_get whole.stores a ≡ store → reads_well row store region shift ≡ true
         → IsReadable code whole region a shift
     by (Some row) (Some store) there here e =
-        let parts = both_parts (may_read row region shift) (has_places store region shift) e in
+        let parts = and_parts (may_read row region shift) (has_places store region shift) e in
         record {
           row = row;
           store = store;
@@ -92,7 +92,7 @@ writable code whole region a =
         → slice_get whole.stores a ≡ store → writes_well row store region ≡ true
         → IsWritable code whole region a
     by (Some row) (Some store) there here e =
-        let parts = both_parts (matches row region) (has_places store region unmoved) e in
+        let parts = and_parts (matches row region) (has_places store region unmoved) e in
         record {
           row = row;
           store = store;
@@ -110,7 +110,7 @@ covered : (row : ArrayRow) (region : Region) (b : Bool)
     → each_covers row.dims region.dims ≡ true
 covered row region true e = e
 covered row region false e =
-    matches_cover row.dims region.dims (both_parts (is_unmoved unmoved) (matches row region) e).1
+    matches_cover row.dims region.dims (and_parts (is_unmoved unmoved) (matches row region) e).1
 
 -- the storage of an array
 abbrev pub storage_or : Option Array → Region

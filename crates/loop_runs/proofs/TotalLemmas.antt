@@ -10,7 +10,7 @@ use Rattle.std.proofs.lemmas.List.{map-append}
 use Rattle.std.proofs.lemmas.List.Sorted.{IsPermutation-map}
 use Rattle.zpl_nums.specs.declared.folds.Fold.{Fold}
 use Rattle.zpl_nums.specs.Fold.{folded, joined}
-use Rattle.zpl_nums.proofs.FoldLemmas.{folded-append, folded-cons, folded-IsPermutation}
+use Rattle.zpl_nums.proofs.FoldLemmas.{folded-append, folded-IsPermutation}
 use Rattle.grid_meaning.specs.Local.{Local}
 use Rattle.row_orders.specs.Agreement.{joined_over}
 
@@ -48,15 +48,6 @@ module _ {X : Type 0} (f : Fold) (h : X → ℤ) (parts : ℕ → List X) (own :
       (same 0 (omega arith))
       ∙ (fold_parts 1 count (map h (parts 0)) (λ p low high. same p (omega (arith, high)))
       ∙ ap (folded f) (sym (map-append h (parts 0) (flat_map parts (range_with_len 1 count))))))
-
-  pub part_folded : (g : X → List ℤ) → ((x : X) → h x ≡ folded f (g x)) → (xs : List X)
-      → folded f (flat_map g xs) ≡ folded f (map h xs)
-  part_folded g each [] = refl
-  part_folded g each (x ∷ xs) =
-      folded-append f (g x) (flat_map g xs)
-      ∙ (ap (joined f (folded f (g x))) (part_folded g each xs)
-      ∙ (ap (λ v. joined f v (folded f (map h xs))) (sym (each x))
-      ∙ sym (folded-cons f (h x) (map h xs))))
 
 -- the tuples of all parts are those of the whole
 pub whole_folded : {X : Type 0} (f : Fold) (h : X → ℤ) (xs ys : List X) → IsPermutation xs ys

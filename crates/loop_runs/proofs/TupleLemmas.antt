@@ -109,11 +109,6 @@ module _ (code : Tables) (rank n count : ℕ) (before : Whole)
         D stores t long reads writes low)
         (LeafOf puts J (IsCell code rank n count before R S puts J Z one far_unput low))) units
 
-  abbrev IsSized : Spot → Type 0
-  IsSized p =
-      (length p.scalars ≡ code.scalars) × (length p.cells ≡ code.cells)
-      × ((a : ℕ) (u : List ℤ) → IsHeld stores a u → IsHeld p.store a u)
-
   pub record HasState (p : Spot) : Type 0 where
     pub placed : Placed puts J Z one (whole_of p)
     pub same : (k : ℕ) → S k → slice_get p.scalars k ≡ slice_get before.scalars k

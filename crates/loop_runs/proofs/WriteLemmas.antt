@@ -4,7 +4,7 @@
 --   joins          the values that a log joins to a scalar
 --   Wrote          what a log makes of a state
 --   AllWrote       what the logs of all tuples make of it
-use Rattle.std.proofs.Common.{◌≡◌, inl, inr, refl, sym, ◌∙◌, ap, subst, ℕ, zero, suc}
+use Rattle.std.proofs.Common.{◌≡◌, refl, sym, ◌∙◌, ap, subst, ℕ, zero, suc}
 use Rattle.std.proofs.Common.{Bool, true, false, true≢false, List, [], ◌∷◌, ◌++◌, length, ℤ, Option, Some, None}
 use Rattle.std.proofs.Common.{eqb-true, arith}
 use Rattle.std.specs.Prelude.{◌==◌, fold, if◌then◌else◌, option_and_then, slice_get, slice_set, ⊤}
@@ -13,7 +13,6 @@ use Rattle.std.proofs.lemmas.Bool.Decides.{nat_tests}
 use Rattle.zpl_nums.specs.declared.folds.Fold.{Fold}
 use Rattle.zpl_nums.specs.Fold.{joined}
 use Rattle.zpl_region.specs.declared.regions.Region.{Region}
-use Rattle.zpl_region.proofs.ListLemmas.{Among}
 use Rattle.zpl_arrays.specs.Array.{Array, IsArray, element, flattened, has_place, updated}
 use Rattle.zpl_arrays.proofs.ArrayLemmas.{array_of-element, element-array_of, updated_elsewhere}
 use Rattle.zpl_arrays.proofs.ArrayLemmas.{updated_here, updated_is_array}
@@ -75,11 +74,6 @@ pub fold_append : {X : Type 0} (f : X → X → X) (v : X) (xs ys : List X)
     → fold f v (xs ++ ys) ≡ fold f (fold f v xs) ys
 fold_append f v [] ys = refl
 fold_append f v (x ∷ xs) ys = fold_append f (f v x) xs ys
-
-pub every_at : {X : Type 0} (P : X → Type 0) (xs : List X) (x : X) → Every P xs → Among xs x → P x
-every_at P [] x all k = absurd k
-every_at P (y ∷ xs) x all (inl same) = subst P same all.0
-every_at P (y ∷ xs) x all (inr k) = every_at P xs x all.1 k
 
 -- ---- what is joined to a scalar
 abbrev pub if_joins : Bool → ℤ → List ℤ → List ℤ

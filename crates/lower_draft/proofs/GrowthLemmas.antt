@@ -19,7 +19,7 @@ use Rattle.lower_draft.specs.Drafted.{Drafted, all_pushed, begun, closed, empty,
 use Rattle.lower_draft.specs.Drafted.{looped, no_rows, opened, pushed, rows_from, turned, until}
 use Rattle.lower_draft.specs.Drafted.{with_array, with_scalars, with_slot, with_temp}
 use Rattle.lower_draft.specs.Call.{call_at, entered, left}
-use Rattle.lower_draft.proofs.LaidLemmas.{laid, laid_choose, laid_for, laid_length, laid_repeat}
+use Rattle.lower_draft.proofs.LaidLemmas.{laid, laid_choose, laid_for, laid_repeat}
 use Rattle.lower_draft.proofs.LaidLemmas.{laid_rows, laid_then, laid_when, laid_while, rows_behind}
 
 -- ---- equal parts
@@ -88,10 +88,6 @@ owned_by_both draft first second code tables =
     (append_assoc draft.shifts first.shifts second.shifts)
 
 -- ---- parts
-
-pub grown_length : (draft : Drafted) (lowered : Lowered) →
-    length (grown draft lowered).tables.code ≡ length draft.tables.code + piece.size lowered.code
-grown_length draft lowered = laid_length draft.tables lowered.code
 
 pub both_grown : (draft : Drafted) (first second : Lowered) →
     grown (grown draft first) second ≡ grown draft (both first second)

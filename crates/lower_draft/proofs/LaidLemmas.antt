@@ -1,6 +1,7 @@
 -- Code that is laid out behind the rows of tables, part by part.
 use Rattle.std.proofs.Common.{◌≡◌, ℕ, suc, ◌+◌, List, [], ◌∷◌, ◌++◌, length, map, refl, sym, ap}
 use Rattle.std.proofs.Common.{◌∙◌, arith, append_assoc, length-append}
+use Rattle.std.proofs.lemmas.List.{map-append}
 use Rattle.zpl_lowering.specs.of_node_form.declared.instructions.Instr.TheVariants as instr
 use Rattle.zpl_lowering.specs.of_node_form.declared.tables.Tables.{Tables}
 use Rattle.zpl_lowering.specs.of_row_runs.Code.{CodeRow, Straight, Jump, Unless}
@@ -36,10 +37,6 @@ pub map_length : {A B : Type 0} (f : A → B) (xs : List A) → length (map f xs
 map_length f [] = refl
 map_length f (x ∷ xs) = ap suc (map_length f xs)
 
-map_append : {A B : Type 0} (f : A → B) (xs ys : List A) → map f (xs ++ ys) ≡ map f xs ++ map f ys
-map_append f [] ys = refl
-map_append f (x ∷ xs) ys = ap (λ zs. f x ∷ zs) (map_append f xs ys)
-
 pub code_length : (at : ℕ) (code : Piece Row Check) → length (rows_from at code) ≡ size code
 code_length at code = map_length flat_row (flattened at code) ∙ flat_length at code
 
@@ -73,7 +70,7 @@ laid_then tables first rest =
     laid_at (laid tables first) (at + size first) rest (laid_length tables first)
     ∙ rows_behind tables (rows_from at first) (rows_from (at + size first) rest)
     ∙ sym (ap (with_rows tables)
-    (map_append flat_row (flattened at first) (flattened (at + size first) rest)))
+    (map-append flat_row (flattened at first) (flattened (at + size first) rest)))
 
 -- ---- tests
 
@@ -140,11 +137,11 @@ laid_while tables head check body =
     ∙ ap (λ n. with_rows (laid tables head) (test check (n + size body + 2)
     ∷ (rows_from (n + 1) body ++ jump at ∷ []))) (laid_length tables head)
     ∙ ap (λ rows. with_rows (laid tables head) (test check (from + size body + 2) ∷ rows))
-    (sym (map_append flat_row inside back))
+    (sym (map-append flat_row inside back))
     ∙ rows_behind tables (rows_from at head)
     (map flat_row (Unless check (from + size body + 2) ∷ (inside ++ back)))
     ∙ sym (ap (with_rows tables)
-    (map_append flat_row before (Unless check (from + size body + 2) ∷ (inside ++ back))))
+    (map-append flat_row before (Unless check (from + size body + 2) ∷ (inside ++ back))))
 
 pub laid_choose : (tables : Tables) (check : Check) (one other : Piece Row Check) →
     closing (laid (closing (with_row (laid (with_row tables (test check 0)) one) (jump 0))
@@ -174,7 +171,7 @@ laid_choose tables check one other =
     ∙ patch side (jump 0) (map flat_row second) goal
     ∙ rows_behind tables rows (jump goal ∷ map flat_row second)
     ∙ sym (ap (λ all. with_rows tables (test check from ∷ all))
-    (map_append flat_row first (Jump goal ∷ second)))
+    (map-append flat_row first (Jump goal ∷ second)))
 
 pub laid_repeat : (tables : Tables) (body head : Piece Row Check) (check : Check) →
     with_row (laid (laid (with_row tables (jump (length tables.code + 1))) body) head)
@@ -201,9 +198,9 @@ laid_repeat tables body head check =
     ∙ rows_behind begun (map flat_row inside ++ map flat_row before) (map flat_row back)
     ∙ ap (with_rows begun) (append_assoc (map flat_row inside) (map flat_row before) (map flat_row
     back))
-    ∙ sym (ap (λ rows. with_rows begun (map flat_row inside ++ rows)) (map_append flat_row before
+    ∙ sym (ap (λ rows. with_rows begun (map flat_row inside ++ rows)) (map-append flat_row before
     back))
-    ∙ sym (ap (with_rows begun) (map_append flat_row inside (before ++ back)))
+    ∙ sym (ap (with_rows begun) (map-append flat_row inside (before ++ back)))
 
 -- a loop that tests behind its turns within a test, where each turn ends with a row
 pub laid_for : (tables : Tables) (enters done : Check) (inside : Piece Row Check) (step : Row) →

@@ -4,6 +4,7 @@ use Rattle.std.proofs.Common.{List, [], ◌∷◌, length, filter, refl, sym, ap
 use Rattle.std.proofs.Common.{replicate}
 use Rattle.std.specs.Prelude.{slice_index_or}
 use Rattle.std.proofs.lemmas.Bool.Decides.{nat_tests}
+use Rattle.std.proofs.lemmas.List.{length-replicate, length-set}
 use Rattle.zpl_region.specs.declared.regions.Region.{Region}
 use Rattle.zpl_lowering.specs.of_node_form.declared.arrays.ArrayRow.{ArrayRow}
 use Rattle.zpl_lowering.specs.Hoist.{Shifted}
@@ -25,17 +26,12 @@ set_other (x ∷ xs) zero (suc k) v d other = refl
 set_other (x ∷ xs) (suc j) zero v d other = refl
 set_other (x ∷ xs) (suc j) (suc k) v d other = set_other xs j k v d (λ same. other (ap suc same))
 
-length_set : {X : Type 0} (xs : List X) (k : ℕ) (v : X) → length (set xs k v) ≡ length xs
-length_set [] k v = refl
-length_set (x ∷ xs) zero v = refl
-length_set (x ∷ xs) (suc k) v = ap suc (length_set xs k v)
-
 pub spread_length : (table : List (List Fringe)) (shifts : List Shifted) →
     length (spread table shifts) ≡ length table
 spread_length table [] = refl
 spread_length table (one ∷ shifts) =
     spread_length (widened_at table one) shifts
-    ∙ length_set table one.array (all_wider (slice_index_or table one.array no_fringes) one.shift)
+    ∙ length-set table one.array (all_wider (slice_index_or table one.array no_fringes) one.shift)
 
 -- the fringes of one array go through its own shifts alone
 spread_at : (table : List (List Fringe)) (shifts : List Shifted) (k : ℕ) → k < length table →
@@ -46,7 +42,7 @@ spread_at table (one ∷ shifts) k inside =
     spread_at (widened_at table one) shifts k (omega (
       arith,
       inside,
-      length_set table one.array
+      length-set table one.array
           wide,
     ))
     ∙ by (one.array == k) refl
@@ -84,14 +80,10 @@ at_replicate zero k x = refl
 at_replicate (suc n) zero x = refl
 at_replicate (suc n) (suc k) x = at_replicate n k x
 
-length_replicate : {X : Type 0} (n : ℕ) (x : X) → length (replicate n x) ≡ n
-length_replicate zero x = refl
-length_replicate (suc n) x = ap suc (length_replicate n x)
-
 pub spread_over_length : (count : ℕ) (shifts : List Shifted) →
     length (spread_over count shifts) ≡ count
 spread_over_length count shifts =
-    spread_length (replicate count no_fringes) shifts ∙ length_replicate count no_fringes
+    spread_length (replicate count no_fringes) shifts ∙ length-replicate count no_fringes
 
 fringes_at : (count k : ℕ) (shifts : List Shifted) → k < count →
     slice_index_or (spread_over count shifts) k no_fringes ≡ fringes_of k shifts
@@ -99,7 +91,7 @@ fringes_at count k shifts inside =
     spread_at (replicate count no_fringes) shifts k (omega (
       arith,
       inside,
-      length_replicate count
+      length-replicate count
           no_fringes,
     ))
     ∙ ap (λ (fs : List Fringe). widened fs (filter (λ one. one.array == k) shifts))

@@ -1,9 +1,9 @@
 -- The rows of parameters and variables, by the lists that memory has.
 use Rattle.std.proofs.Common.{◌≡◌, refl, sym, ap, ap₂, ◌∙◌, ℕ, zero, suc, ◌+◌, ◌-◌, ◌<◌, ◌≤◌}
-use Rattle.std.proofs.Common.{List, [], ◌∷◌, ◌++◌, length, map, drop, drop-cons, get_or, arith}
+use Rattle.std.proofs.Common.{List, [], ◌∷◌, ◌++◌, length, map, drop, get_or, arith}
 use Rattle.std.proofs.Common.{◌⊎◌, inl, inr}
 use Rattle.std.proofs.Math.Path.{fun_ext}
-use Rattle.std.proofs.lemmas.List.{drop_all, length-drop}
+use Rattle.std.proofs.lemmas.List.{drop_all, length-drop, drop_more}
 use Rattle.std.specs.Prelude.{min, Some, None}
 use Rattle.zpl_region.specs.declared.regions.Region.{Region}
 use Rattle.zpl_tree.specs.Syntax.{Name, Bracket, NoBracket, Bracketed, VarDef}
@@ -104,11 +104,6 @@ array_with entry name array boxes frame last d0 d1 d2 number one two is rest =
     (record { array = n; storage = boxes.storage })) number)
 
 -- ---- one more of two lists
-left : {A : Type 0} (xs : List A) (at : ℕ) (x : A) → at < length xs
-    → drop at xs ≡ get_or xs at x ∷ drop (at + 1) xs
-left xs at x below =
-    let more : suc at ≡ at + 1 = omega arith in
-    drop-cons xs at x below ∙ ap (λ n. get_or xs at x ∷ drop n xs) more
 
 pub given_next : {A B : Type 0} (line : ℕ) (text : A → List ℕ) (of : B → Given) (names : List A)
     (givens : List B) (at : ℕ) (name : A) (given : B) (frame last : Framed)
@@ -127,7 +122,7 @@ given_next line text of names givens at name given frame last begun draft new wh
     (map of (drop (at + 1) givens)) frame after rest)
     ∙ sym (ap₂ (λ xs ys. grown draft
     (named_givens line (map text xs) (map of ys) frame draft.next rest))
-    (left names at name first) (left givens at given second))
+    (drop_more names at name first) (drop_more givens at given second))
     ∙ so_far rest
 
 -- one of two lists is at its end
@@ -176,7 +171,7 @@ pub variable_next : {A : Type 0} (entry : Entry) (of : A → Declared) (variable
 variable_next entry of variables at variable frame last begun draft new whole below one so_far rest =
     one (λ frame after. all_declared_code entry (map of (drop (at + 1) variables)) frame after rest)
     ∙ sym (ap (λ xs. grown draft (all_declared_code entry (map of xs) frame draft.next rest))
-    (left variables at variable below))
+    (drop_more variables at variable below))
     ∙ so_far rest
 
 pub variables_end : {A : Type 0} (entry : Entry) (of : A → Declared) (variables : List A) (at : ℕ)

@@ -7,6 +7,9 @@ use Rattle.std.specs.Str.{bytes_eq}
 use Rattle.std.proofs.lemmas.Slice.Eq.{bytes_eq-Decides}
 use Rattle.std.proofs.lemmas.List.Elements.{recursion_from_All}
 use Rattle.std.proofs.lemmas.List.Sums.{sum_by-cons, sum_by-append}
+use Rattle.std.proofs.lemmas.Bool.{and_parts, not-true, not-false}
+use Rattle.std.proofs.lemmas.List.{map-append}
+use Rattle.std.proofs.lemmas.Option.{same_Some as some_same, none-some}
 use Rattle.zpl_tree.specs.Grammar.{IsProgram}
 use Rattle.zpl_tree.specs.Syntax.{Name, Expr, Number, Truth, Coord, Named, Shifted, Around, Remap, Call, Paren, Neg, Not, Abs, Pair, Reduce, Scan, Flood, Exprs, NoExpr, ThenExpr, Bracket, NoBracket, Bracketed, Base, Param, VarDef, Decl, Config, Constant, Regions, Directions, Vars, Defined, Program}
 use Rattle.expanded_counts.specs.of_zpl_names.Kinds as kind
@@ -27,8 +30,7 @@ use Rattle.expanded_counts.proofs.of_zpl_names.DeclaredLemmas.{known_scope}
 use Rattle.lower_draft.specs.of_zpl_lowering.Program.{reads_at, reads_round}
 use Rattle.lower_reads.proofs.of_zpl_meaning.DepthLemmas.{Each}
 use Rattle.lower_reads.proofs.of_zpl_meaning.NamesLemmas.{globals_shaped, routine_sound, IsSound}
-use Rattle.lower_reads.proofs.of_zpl_meaning.ProperLemmas.{not_false, taken}
-use Rattle.lower_reads.proofs.of_zpl_meaning.StatementLemmas.{and_true, not_true}
+use Rattle.lower_reads.proofs.of_zpl_meaning.ProperLemmas.{taken}
 use Rattle.lower_reads.proofs.of_zpl_meaning.VisitLemmas.{AllOwn, all_own, find_among, none_there}
 use Rattle.lower_numbers.specs.Arrays.{bracket_arrays, var_arrays, value_arrays, param_arrays, own_arrays, decl_arrays, global_arrays}
 use Rattle.lower_numbers.proofs.SiteLemmas.{IsIn, Told, sites_told}
@@ -38,12 +40,6 @@ use Rattle.lower_numbers.proofs.NameLemmas.{OptFirm, firm_kind, is_array_formal,
 
 abbrev names_in : List Binding → List (List ℕ)
 names_in bindings = map (λ binding. binding.name) bindings
-
-some_same : {X : Type 0} (x y : X) → Some x ≡ Some y → x ≡ y
-some_same x y e = cc
-
-none_some : {X : Type 0} (x : X) → None ≡ Some x → ⊥
-none_some x e = cc
 
 bound_there : (bindings : List Binding) (text : List ℕ) → Among (names_in bindings) text →
     (array : ExpandedArray) × (bound_in bindings text ≡ Some array)
@@ -69,7 +65,7 @@ record IsEntry (entries : List Entry) (text : List ℕ) (thing : Kind) : Type 0 
 
 entry_found : (entries : List Entry) (text : List ℕ) (thing : Kind) →
     kind_in entries text ≡ Some thing → IsEntry entries text thing
-entry_found [] text thing e = absurd (none_some thing e)
+entry_found [] text thing e = absurd (none-some thing e)
 entry_found (first ∷ rest) text thing e =
     by (bytes_eq first.name.text text) (bytes_eq-Decides first.name.text text) e
     (entry_found rest text thing)
@@ -102,7 +98,7 @@ global_there program text thing e =
   where
     by : (o : Option Entry) → option_map (λ entry. entry.kind) o ≡ Some thing →
         (array : ExpandedArray) × (option_map array_of_entry o ≡ Some array)
-    by None e = absurd (none_some thing e)
+    by None e = absurd (none-some thing e)
     by (Some entry) e = (array_of_entry entry, refl)
 
 -- ---- the names of arrays in a call
@@ -184,10 +180,6 @@ pair_of scope param name =
 abbrev paired : Scope → List Param → List Paired
 paired scope params = flat_map (λ param. map (pair_of scope param) param.names) params
 
-map_both : {A B : Type 0} (f : A → B) (xs ys : List A) → map f (xs ++ ys) ≡ map f xs ++ map f ys
-map_both f [] ys = refl
-map_both f (x ∷ xs) ys = ap (λ rest. f x ∷ rest) (map_both f xs ys)
-
 map_twice : {A B C : Type 0} (f : B → C) (g : A → B) (xs : List A) →
     map f (map g xs) ≡ map (λ x. f (g x)) xs
 map_twice f g [] = refl
@@ -198,7 +190,7 @@ each_paired : {B : Type 0} (f : Paired → B) (scope : Scope) (params : List Par
     flat_map (λ param. map (λ name. f (pair_of scope param name)) param.names) params
 each_paired f scope [] = refl
 each_paired f scope (param ∷ params) =
-    map_both f (map (pair_of scope param) param.names) (paired scope params)
+    map-append f (map (pair_of scope param) param.names) (paired scope params)
     ∙ ap₂ (λ a b. a ++ b) (map_twice f (pair_of scope param) param.names)
     (each_paired f scope params)
 
@@ -482,7 +474,7 @@ module _ (program : Program) (caller : Instance) (covers : Covers caller)
       (value_actual (thing_at name) (firm name)
       (subst (λ thing. is_above_zero (first_rank (value_rank thing) (Some 0)) ≡ false)
       (value_here program caller.routine reach k name v)
-      (not_true _ (and_true _ _ f).0)))
+      (not-true _ (and_parts _ _ f).0)))
   actual_told (ScalarFormal by_ref base) formal (Number at value) f v = tt
   actual_told (ArrayFormal by_ref base shape) formal (Number at value) f v = absurd (true≢false (sym f))
   actual_told (ScalarFormal by_ref base) formal (Truth at value) f v = tt
@@ -523,7 +515,7 @@ module _ (program : Program) (caller : Instance) (covers : Covers caller)
   values_count [] (ThenExpr actual rest) fit h = absurd (true≢false (sym fit))
   values_count (pair ∷ pairs) NoExpr fit h = absurd (true≢false (sym fit))
   values_count (pair ∷ pairs) (ThenExpr actual rest) fit h =
-      let fits_are = and_true (fits reach pair.formal actual)
+      let fits_are = and_parts (fits reach pair.formal actual)
       (all_fit reach (map formal_in pairs) rest) fit in
       let parts = split_actual reach actual rest h in
       let one = actual_array program caller pair.name actual in
@@ -545,7 +537,7 @@ module _ (program : Program) (caller : Instance) (covers : Covers caller)
   actual_named by_ref [] actuals fit h pair m is e = absurd m
   actual_named by_ref (first ∷ pairs) NoExpr fit h pair m is e = absurd (true≢false (sym fit))
   actual_named by_ref (first ∷ pairs) (ThenExpr actual rest) fit h pair (inl same) is e =
-      let fits_are = and_true (fits reach first.formal actual)
+      let fits_are = and_parts (fits reach first.formal actual)
       (all_fit reach (map formal_in pairs) rest) fit in
       let parts = split_actual reach actual rest h in
       let one = actual_array program caller first.name actual in
@@ -560,7 +552,7 @@ module _ (program : Program) (caller : Instance) (covers : Covers caller)
       (actual_told first.formal first.name actual fits_are.0 parts.0))
       (actual_arrays program caller by_ref (map name_in pairs) rest))
   actual_named by_ref (first ∷ pairs) (ThenExpr actual rest) fit h pair (inr m) is e =
-      let fits_are = and_true (fits reach first.formal actual)
+      let fits_are = and_parts (fits reach first.formal actual)
       (all_fit reach (map formal_in pairs) rest) fit in
       let parts = split_actual reach actual rest h in
       names_behind
@@ -588,7 +580,7 @@ module _ (program : Program) (routine : Routine) where
       by : (b : Bool) → is_procedure (kind_of reach.scope name) ≡ b →
           cond b (Some (record { name = name; actuals = actuals; shapes = reach.shapes })) None ≡
           Some call → IsMade program routine call
-      by false is e = absurd (none_some call e)
+      by false is e = absurd (none-some call e)
       by true is e =
           subst (λ (call : CallSite). IsMade program routine call)
           (some_same (record { name = name; actuals = actuals; shapes = reach.shapes }) call e)
@@ -602,16 +594,16 @@ module _ (program : Program) (routine : Routine) where
                 not (all_fit reach (formals_in (kind_of reach.scope name)) actuals)) name.at
                 clean.fitting;
           })
-  call_made (AtExpr reach rank expr) told clean call e = absurd (none_some call e)
-  call_made (AtWhole reach role expr) told clean call e = absurd (none_some call e)
-  call_made (AtNamed reach name) told clean call e = absurd (none_some call e)
-  call_made (AtDir reach dir) told clean call e = absurd (none_some call e)
-  call_made (AtRegion reach hint region) told clean call e = absurd (none_some call e)
-  call_made (AtMask reach prefix mask) told clean call e = absurd (none_some call e)
-  call_made (AtStmt reach at prefixes form) told clean call e = absurd (none_some call e)
-  call_made (AtBase base) told clean call e = absurd (none_some call e)
-  call_made (AtPosts reach region posts) told clean call e = absurd (none_some call e)
-  call_made (AtProcedure procedure) told clean call e = absurd (none_some call e)
+  call_made (AtExpr reach rank expr) told clean call e = absurd (none-some call e)
+  call_made (AtWhole reach role expr) told clean call e = absurd (none-some call e)
+  call_made (AtNamed reach name) told clean call e = absurd (none-some call e)
+  call_made (AtDir reach dir) told clean call e = absurd (none-some call e)
+  call_made (AtRegion reach hint region) told clean call e = absurd (none-some call e)
+  call_made (AtMask reach prefix mask) told clean call e = absurd (none-some call e)
+  call_made (AtStmt reach at prefixes form) told clean call e = absurd (none-some call e)
+  call_made (AtBase base) told clean call e = absurd (none-some call e)
+  call_made (AtPosts reach region posts) told clean call e = absurd (none-some call e)
+  call_made (AtProcedure procedure) told clean call e = absurd (none-some call e)
 
   calls_made : (sites : List Site) → Each (Told program routine) sites →
       Each HasNoFault sites → (call : CallSite) → Among (filter_map call_of sites) call →
@@ -825,7 +817,7 @@ module _ (program : Program) (grammar : IsProgram program) (clean : IsFaultless 
       bare_is =
           entry_bare entry
           (ap is_entry (sym e)
-          ∙ not_false (is_entry (entry_of program))
+          ∙ not-false (is_entry (entry_of program))
           (no_place (not (is_entry (entry_of program))) program.name.at
           (none_there (no_entry program) (λ at c. clean NoEntry at c))))
 
@@ -912,7 +904,7 @@ module _ (program : Program) (grammar : IsProgram program) (clean : IsFaultless 
           ap (λ formals. all_fit made.reach formals call.actuals)
           (each_paired formal_in scope params
           ∙ sym (ap (λ (signature : Signature). signature.formals) is_of.signed))
-          ∙ not_false (all_fit made.reach found.0.formals call.actuals)
+          ∙ not-false (all_fit made.reach found.0.formals call.actuals)
           (subst (λ thing. is_procedure thing &&
           not (all_fit made.reach (formals_in thing) call.actuals) ≡ false) found.1 made.fitting)
 

@@ -41,9 +41,6 @@ plus_is : (a b c d : ℕ) → plus (counted a b) (counted c d) ≡ counted (a + 
 plus_is a b c d =
     ap₂ (λ s n. record { arrays = s; copies = n }) (sum_is a c) (sum_is b d)
 
-none_is : no_counts ≡ counted 0 0
-none_is = refl
-
 -- ---- sums over calls
 
 -- what a procedure adds, if it is there
@@ -174,13 +171,6 @@ whole_is program counts is =
     is ∙ count_down-is program longest_chain (entry_of program)
     ∙ ap₂ counted (from_entry program own_arrays (entry_of program))
     (from_entry program (reads_round program) (entry_of program))
-
--- counts that are within a machine's numbers
-within_is : (n m : ℕ) → n < m + 1 → n ≡ min n m
-within_is n m less = omega (arith, less)
-
-pub own_is : (n : ℕ) → n < 2 ^ 64 → n ≡ more 0 n
-own_is n less = within_is n (2 ^ 64 - 1) less ∙ sym (counted_is n)
 
 small : (n m : ℕ) (most : ℕ) → m < most + 1 → min n most ≡ m → m < most → n ≡ m
 small n m most le is less = omega (arith, is, less)

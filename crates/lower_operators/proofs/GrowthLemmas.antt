@@ -100,12 +100,6 @@ hoisted_then f start draft new first rest h k =
     ∙ ap (λ free. grown start (of_hoisted (hoist.both f first (rest free))))
     (ap (λ d. free_of d.next) h)
 
-pub rows_both : (start draft new : Drafted) (xs ys : List Row) →
-    draft ≡ grown start (rows_alone xs) → new ≡ grown draft (rows_alone ys) →
-    new ≡ grown start (rows_alone (xs ++ ys))
-rows_both start draft new xs ys h k =
-    k ∙ ap (λ d. grown d (rows_alone ys)) h ∙ owning_both start 0 0 [] [] xs ys
-
 pub settled_both : {A B C : Type 0} (f : A → B → C) (start draft new : Drafted) (first : Settled A)
     (second : Settled B) →
     draft ≡ grown start (of_settled first) → new ≡ grown draft (of_settled second) →

@@ -5,6 +5,7 @@ use Rattle.std.specs.Ordering.{int_eq}
 use Rattle.std.proofs.lemmas.Bool.Decides.{Decides-int_eq, Decides-eqb}
 use Rattle.std.proofs.lemmas.List.{map-append}
 use Rattle.std.proofs.lemmas.List.Folds.{list_any-append}
+use Rattle.std.proofs.lemmas.Bool.{and_parts}
 use Rattle.indexmap.specs.IndexSet.{insert_key}
 use Rattle.lower_regions.specs.of_zpl_lowering.Reference.{Reference, each_once, is_same, is_same_vector}
 use Rattle.lower_operators.specs.Once.{with_reference, with_references}
@@ -114,16 +115,12 @@ module _ {A : Type 0} (same : A → A → Bool) (sound : (x y : A) → same x y 
 
 -- ---- references
 
-both_true : (a b : Bool) → a && b ≡ true → (a ≡ true) × (b ≡ true)
-both_true true b h = (refl, h)
-both_true false b h = cc
-
 pub same-vector : (v w : List ℤ) → is_same_vector v w ≡ true → v ≡ w
 same-vector [] [] h = refl
 same-vector [] (e ∷ w) h = cc
 same-vector (d ∷ v) [] h = cc
 same-vector (d ∷ v) (e ∷ w) h =
-    let parts = both_true (int_eq d e) (is_same_vector v w) h in
+    let parts = and_parts (int_eq d e) (is_same_vector v w) h in
     let first : d ≡ e = (Decides-int_eq d e).0 parts.0 in
     let rest : v ≡ w = same-vector v w parts.1 in
     cc (first, rest)
@@ -135,9 +132,9 @@ vector-self (d ∷ v) =
 
 pub same-reference : (x y : Reference) → is_same x y ≡ true → x ≡ y
 same-reference x y h =
-    let outer = both_true ((x.slot == y.slot) && (x.array == y.array))
+    let outer = and_parts ((x.slot == y.slot) && (x.array == y.array))
     (is_same_vector x.shift y.shift) h in
-    let inner = both_true (x.slot == y.slot) (x.array == y.array) outer.0 in
+    let inner = and_parts (x.slot == y.slot) (x.array == y.array) outer.0 in
     let slot : x.slot ≡ y.slot = (Decides-eqb x.slot y.slot).0 inner.0 in
     let array : x.array ≡ y.array = (Decides-eqb x.array y.array).0 inner.1 in
     let shift : x.shift ≡ y.shift = same-vector x.shift y.shift outer.1 in
@@ -182,10 +179,3 @@ module _ {K : Type 0} (eq : K → K → Bool) (view : K → Reference)
           ≡ (if b then map view keys else map view keys ++ view k ∷ [])
       by true = refl
       by false = map-append view keys (k ∷ [])
-
--- two tests that are true of what is the same agree
-pub tests-agree : (a b : Bool) → (a ≡ true → b ≡ true) → (b ≡ true → a ≡ true) → a ≡ b
-tests-agree true true h k = refl
-tests-agree false false h k = refl
-tests-agree true false h k = sym (h refl)
-tests-agree false true h k = k refl

@@ -68,12 +68,6 @@ free-behind draft settled =
     let make : ℕ → Free = λ temps. record { scalars = draft.next.scalars + 0; temps = temps } in
     ap make (add-zero draft.next.temps)
 
-pub free-same : {A : Type 0} (draft : Drafted) (settled : Settled A) →
-    free_of (grown draft (of_settled settled)).next ≡ free_of draft.next
-free-same draft settled =
-    let make : ℕ → Free = λ scalars. record { scalars = scalars; temps = draft.next.temps } in
-    free-behind draft settled ∙ ap make (add-zero draft.next.scalars)
-
 module _ (w : Where) (line : ℕ) (own last : List Reference) (exprs : List Placed)
     (draft behind new : Drafted) (slates : Slates)
     (settles : behind ≡ grown draft (of_settled (settled_each w line draft.next exprs)))

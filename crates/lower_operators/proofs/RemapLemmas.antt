@@ -1,6 +1,6 @@
 -- Reads at computed indices, row by row.
 use Rattle.std.proofs.Common.{◌≡◌, ℕ, zero, suc, ◌+◌, ◌<◌, ◌≤◌, Bool, pos, List, [], ◌∷◌, ◌++◌, map, fold, length, take, replicate, get_or, Option, Some, None, refl, sym, ap, ap₂, ◌∙◌, add-one, arith, append_assoc, append-nil, length-append}
-use Rattle.std.proofs.lemmas.List.{map-append}
+use Rattle.std.proofs.lemmas.List.{map-append, length-replicate, replicate_more}
 use Rattle.zpl_nums.specs.declared.operators.Op.TheVariants as op
 use Rattle.zpl_nums.specs.declared.ends.TrapKind.TheVariants as trap
 use Rattle.zpl_nums.specs.declared.folds.Fold.TheVariants as folds
@@ -333,17 +333,6 @@ words-count : (exprs : List Expression) → length (map words_of exprs) ≡ leng
 words-count [] = refl
 words-count (expr ∷ exprs) = ap suc (words-count exprs)
 
-copies-count : {A : Type 0} (n : ℕ) (x : A) → length (replicate n x) ≡ n
-copies-count zero x = refl
-copies-count (suc n) x = ap suc (copies-count n x)
-
-one-copy-more : {A : Type 0} (n : ℕ) (x : A) → replicate n x ++ x ∷ [] ≡ replicate (n + 1) x
-one-copy-more n x = by n ∙ ap (λ k. replicate k x) (sym (add-one n))
-  where
-    by : (k : ℕ) → replicate k x ++ x ∷ [] ≡ replicate (suc k) x
-    by zero = refl
-    by (suc k) = ap (λ l. x ∷ l) (by k)
-
 -- ---- all together
 
 module _ (numbers : Numbers) (line : ℕ) (over : Slotted) (stored : Stored)
@@ -380,7 +369,7 @@ module _ (numbers : Numbers) (line : ℕ) (over : Slotted) (stored : Stored)
   behind-is : d1.next.temps ≡ temp_at + count
   behind-is =
       ap (λ d. d.next.temps) h1
-      ∙ ap₂ (λ n k. n + k) temp-is (copies-count (length indices) over.flood ∙ count-is)
+      ∙ ap₂ (λ n k. n + k) temp-is (length-replicate (length indices) over.flood ∙ count-is)
 
   abbrev test_of : ℕ → Words → List Row
   test_of s out = test_rows line s over.slot out (mask_code numbers over.mask)
@@ -463,7 +452,7 @@ module _ (numbers : Numbers) (line : ℕ) (over : Slotted) (stored : Stored)
       (numbered-temps temp_at left) (puts-are line mask temp_at left) in
       let floods_are : (floods ++ []) ++ flood ∷ [] ≡ replicate (count + 1) flood =
       ap (λ l. l ++ flood ∷ []) (append-nil floods)
-      ∙ ap (λ n. replicate n flood ++ flood ∷ []) count-is ∙ one-copy-more count flood in
+      ∙ ap (λ n. replicate n flood ++ flood ∷ []) count-is ∙ replicate_more count flood in
       all
       ∙ ap (λ s. with_all s (own ++ test) last temps shifts) (number ∙ scalar-is)
       ∙ ap (λ l. with_all scalar_at l last temps shifts) own_is

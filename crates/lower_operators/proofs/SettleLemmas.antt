@@ -16,7 +16,7 @@ use Rattle.lower_operators.specs.declared.phasing.Placed.{Placed}
 use Rattle.lower_operators.specs.Code.{of_settled}
 use Rattle.lower_operators.specs.Sound.{AreSound, IsSound}
 use Rattle.lower_operators.specs.View.{all_placed, slate_of, slates_before, slates_in}
-use Rattle.lower_operators.proofs.GrowthLemmas.{nothing, settled_both}
+use Rattle.lower_operators.proofs.GrowthLemmas.{settled_both}
 
 -- ---- one behind the other
 
@@ -114,15 +114,6 @@ module _ (w : Where) (line : ℕ) (rank : Rank) (draft new : Drafted) (exprs : L
       ∙ sym (at_drop_more (λ l. slates_before slates
       (settled_all w line draft.next rank (exprs_of l)).slate) exprs i d below) ∙ k
 
-pub all-end : (w : Where) (line : ℕ) (rank : Rank) (draft whole : Drafted) (exprs : List Expr)
-    (i : ℕ) → length exprs ≤ i →
-    grown draft (of_settled (settled_all w line draft.next rank (exprs_of (drop i exprs)))) ≡ whole →
-    draft ≡ whole
-all-end w line rank draft whole exprs i past k =
-    nothing draft
-    ∙ sym (at_drop_all (λ l. grown draft
-    (of_settled (settled_all w line draft.next rank (exprs_of l)))) exprs i past) ∙ k
-
 pub slates-end : (w : Where) (line : ℕ) (rank : Rank) (next : Next) (slates : List (Bor Slate))
     (whole : Slates) (exprs : List Expr) (i : ℕ) → length exprs ≤ i →
     slates_before slates (settled_all w line next rank (exprs_of (drop i exprs))).slate ≡ whole →
@@ -164,15 +155,6 @@ module _ (w : Where) (line : ℕ) (draft new : Drafted) (exprs : List Placed) (i
       (then-next draft new one_settled h)
       ∙ sym (at_drop_more (λ l. slates_before slates
       (settled_each w line draft.next (all_placed l)).slate) exprs i d below) ∙ k
-
-pub each-end : (w : Where) (line : ℕ) (draft whole : Drafted) (exprs : List Placed) (i : ℕ) →
-    length exprs ≤ i →
-    grown draft (of_settled (settled_each w line draft.next (all_placed (drop i exprs)))) ≡ whole →
-    draft ≡ whole
-each-end w line draft whole exprs i past k =
-    nothing draft
-    ∙ sym (at_drop_all (λ l. grown draft
-    (of_settled (settled_each w line draft.next (all_placed l)))) exprs i past) ∙ k
 
 pub each-slates-end : (w : Where) (line : ℕ) (next : Next) (slates : List (Bor Slate))
     (whole : Slates) (exprs : List Placed) (i : ℕ) → length exprs ≤ i →

@@ -1,5 +1,5 @@
 -- Loops over the expressions of a statement.
-use Rattle.std.proofs.Common.{◌≡◌, ℕ, ◌+◌, ◌<◌, ◌≤◌, List, [], ◌∷◌, ◌++◌, map, length, drop, get_or, refl, sym, ap, ◌∙◌, append-nil, append_assoc}
+use Rattle.std.proofs.Common.{◌≡◌, ℕ, ◌+◌, ◌<◌, ◌≤◌, List, [], ◌∷◌, ◌++◌, map, length, drop, get_or, refl, sym, ap, ◌∙◌, append_assoc}
 use Rattle.std.specs.Borrow.{Bor}
 use Rattle.std.proofs.lemmas.List.{at_drop_more, at_drop_all}
 use Rattle.node_form.specs.declared.words.ExprOp.{ExprOp}
@@ -98,23 +98,3 @@ left-next numbers line draft new rows more whole slates i d below h same k =
     (free_of (grown draft (of_hoisted first)).next) (slates_in (drop (i + 1) slates))).left)) same
     ∙ sym (at_drop_more (λ l. rows ++ map words_of
     (all_hoisted numbers line (free_of draft.next) (slates_in l)).left) slates i d below) ∙ k
-
-pub hoist-end : (numbers : Numbers) (line : ℕ) (draft whole : Drafted) (slates : List (Bor Slate))
-    (i : ℕ) → length slates ≤ i →
-    grown draft (of_hoisted
-    (all_hoisted numbers line (free_of draft.next) (slates_in (drop i slates)))) ≡ whole →
-    draft ≡ whole
-hoist-end numbers line draft whole slates i past k =
-    nothing draft
-    ∙ sym (at_drop_all (λ l. grown draft (of_hoisted
-    (all_hoisted numbers line (free_of draft.next) (slates_in l)))) slates i past) ∙ k
-
-pub left-end : (numbers : Numbers) (line : ℕ) (draft : Drafted) (rows whole : List (List ExprOp))
-    (slates : List (Bor Slate)) (i : ℕ) → length slates ≤ i →
-    rows ++ map words_of
-    (all_hoisted numbers line (free_of draft.next) (slates_in (drop i slates))).left ≡ whole →
-    rows ≡ whole
-left-end numbers line draft rows whole slates i past k =
-    sym (append-nil rows)
-    ∙ sym (at_drop_all (λ l. rows ++ map words_of
-    (all_hoisted numbers line (free_of draft.next) (slates_in l)).left) slates i past) ∙ k

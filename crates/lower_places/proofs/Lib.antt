@@ -1,3 +1,2 @@
-pub mod LineLemmas
 pub mod SlotLemmas
 pub use Rattle.lower_draft.proofs as of_lower_draft

@@ -1,5 +1,5 @@
 -- How an `OpenIf` is closed behind its other branch.
-use Rattle.std.proofs.Common.{◌≡◌, ◌≢◌, ℕ, suc, ◌+◌, ◌-◌, List, [], ◌∷◌, ◌++◌, drop, get_or, take, length, refl, sym, ◌∙◌, ap, ap₂, append_assoc, length-append, arith}
+use Rattle.std.proofs.Common.{◌≡◌, ℕ, suc, ◌+◌, ◌-◌, List, [], ◌∷◌, ◌++◌, drop, get_or, take, length, refl, sym, ◌∙◌, ap, ap₂, length-append, arith}
 use Rattle.std.proofs.lemmas.List.{length-map}
 use Rattle.flat_form.specs.Row as row
 use Rattle.flat_form.specs.Row.{Member}
@@ -36,15 +36,3 @@ closed_empty old opened [] behind n at is long less =
     ∙ ap (λ l. l ++ row.CloseIf ∷ []) (front old opened row.Otherwise is)
 closed_empty old opened (m ∷ last) behind n at is long less =
     absurd (let k = count old opened (m ∷ last) is in omega (arith, k, at, long))
-
--- it isn't
-pub closed_kept : (old : List FlatMember) (opened last : List Member) (behind : ℕ) →
-    behind ≡ length opened + 1 → members_in old ≡ opened ++ row.Otherwise ∷ last →
-    length old ≢ behind →
-    members_in old ++ row.CloseIf ∷ [] ≡
-    opened ++ (otherwise_members last ++ row.CloseIf ∷ [])
-closed_kept old opened [] behind at is long =
-    absurd (long (let k = count old opened [] is in omega (arith, k, at)))
-closed_kept old opened (m ∷ last) behind at is long =
-    ap (λ l. l ++ row.CloseIf ∷ []) is
-    ∙ append_assoc opened (row.Otherwise ∷ m ∷ last) (row.CloseIf ∷ [])

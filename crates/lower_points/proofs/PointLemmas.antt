@@ -1,21 +1,20 @@
 -- Members and references, one part behind another.
-use Rattle.std.proofs.Common.{◌≡◌, ◌<◌, ◌≤◌, ℕ, ◌+◌, List, [], ◌∷◌, ◌++◌, drop, get_or, length, Option, Some, None, refl, sym, ◌∙◌, ap, ap₂, append_assoc, append-nil, add-one, drop-cons, arith, length-append}
+use Rattle.std.proofs.Common.{◌≡◌, ◌<◌, ◌≤◌, ℕ, ◌+◌, List, [], ◌∷◌, ◌++◌, drop, get_or, length, sym, ◌∙◌, ap, ap₂, append_assoc, arith, length-append}
 use Rattle.std.proofs.lemmas.List.Sums.{fold-append}
-use Rattle.std.proofs.lemmas.List.{at_drop_all}
+use Rattle.std.proofs.lemmas.List.{drop_more}
 use Rattle.zpl_tree.specs.Syntax as plain
-use Rattle.zpl_tree.specs.View.{arms_of, expr_of, statement_of, stmts_of}
+use Rattle.zpl_tree.specs.View.{arms_of, expr_of, stmts_of}
 use Rattle.zpl_tree.specs.declared.statements.Arm.{Arm, out-Arm}
 use Rattle.zpl_tree.specs.declared.statements.Stmt.{Stmt}
 use Rattle.zpl_tree.proofs.Views.{arm_of-parts}
 use Rattle.flat_form.specs.Row as row
 use Rattle.flat_form.specs.Row.{Member}
-use Rattle.zpl_meaning.specs.Store.{Thing, Scalar, ArrayAt, Fixed}
 use Rattle.zpl_lowering.specs.Reference.{Reference, over_reference}
-use Rattle.zpl_lowering.specs.Statement.{Elementwise, Inside, otherwise_members, put_member, put_thing}
+use Rattle.zpl_lowering.specs.Statement.{Inside, otherwise_members}
 use Rattle.zpl_lowering.specs.Where.{Slotted, Where}
 use Rattle.lower_operators.specs.Once.{with_reference, with_references}
 use Rattle.lower_operators.proofs.OnceLemmas.{added-once}
-use Rattle.lower_points.specs.Inside.{arms_at, form_at, needed_of, stmts_at, stored_named}
+use Rattle.lower_points.specs.Inside.{arms_at, needed_of}
 use Rattle.lower_points.specs.declared.points.Point.{Point}
 
 pub references_both : (old xs ys : List Reference) →
@@ -27,64 +26,6 @@ pub between : (old inside close : List Member) (m : Member) →
     ((old ++ m ∷ []) ++ inside) ++ close ≡ old ++ (m ∷ (inside ++ close))
 between old inside close m =
     append_assoc (old ++ m ∷ []) inside close ∙ append_assoc old (m ∷ []) (inside ++ close)
-
-pub dropped : {A : Type 0} (xs : List A) (i : ℕ) (d : A) → i < length xs →
-    drop i xs ≡ get_or xs i d ∷ drop (i + 1) xs
-dropped xs i d less = drop-cons xs i d less ∙ ap (λ n. get_or xs i d ∷ drop n xs) (sym (add-one i))
-
-pub dropped_all : {A : Type 0} (xs : List A) (i : ℕ) → length xs ≤ i → drop i xs ≡ []
-dropped_all xs i past = at_drop_all (λ rest. rest) xs i past
-
--- ---- statements, one after another
-
-module _ (at : Point) (stmts : List Stmt) (i : ℕ) where
-  module _ (d : Stmt) (less : i < length stmts) where
-    pub members_on : (old new all : List Member) →
-        new ≡ old ++ (form_at at (statement_of (get_or stmts i d).form)).members →
-        old ++ (stmts_at at (stmts_of (drop i stmts))).members ≡ all →
-        new ++ (stmts_at at (stmts_of (drop (i + 1) stmts))).members ≡ all
-    members_on old new all is had =
-        let rest = (stmts_at at (stmts_of (drop (i + 1) stmts))).members in
-        ap (λ n. n ++ rest) is
-        ∙ append_assoc old (form_at at (statement_of (get_or stmts i d).form)).members rest
-        ∙ ap (λ s. old ++ (stmts_at at (stmts_of s)).members) (sym (dropped stmts i d less))
-        ∙ had
-
-    pub references_on : (old new all : List Reference) →
-        new ≡ with_references old (form_at at (statement_of (get_or stmts i d).form)).references →
-        with_references old (stmts_at at (stmts_of (drop i stmts))).references ≡ all →
-        with_references new (stmts_at at (stmts_of (drop (i + 1) stmts))).references ≡ all
-    references_on old new all is had =
-        let rest = (stmts_at at (stmts_of (drop (i + 1) stmts))).references in
-        ap (λ n. with_references n rest) is
-        ∙ references_both old (form_at at (statement_of (get_or stmts i d).form)).references rest
-        ∙ ap (λ s. with_references old (stmts_at at (stmts_of s)).references)
-        (sym (dropped stmts i d less))
-        ∙ had
-
-  module _ (past : length stmts ≤ i) where
-    pub members_all : (old all : List Member) →
-        old ++ (stmts_at at (stmts_of (drop i stmts))).members ≡ all → old ≡ all
-    members_all old all had =
-        sym (append-nil old)
-        ∙ ap (λ s. old ++ (stmts_at at (stmts_of s)).members) (sym (dropped_all stmts i past))
-        ∙ had
-
-    pub references_all : (old all : List Reference) →
-        with_references old (stmts_at at (stmts_of (drop i stmts))).references ≡ all → old ≡ all
-    references_all old all had =
-        ap (λ s. with_references old (stmts_at at (stmts_of s)).references)
-        (sym (dropped_all stmts i past))
-        ∙ had
-
--- ---- what is assigned to
-
-pub put_stored : (w : Where) (line slot : ℕ) (value : Elementwise) (thing : Option Thing) →
-    put_thing w line slot value thing ≡ put_member line slot value (stored_named w thing)
-put_stored w line slot value (Some (ArrayAt place home)) = refl
-put_stored w line slot value (Some (Scalar place)) = refl
-put_stored w line slot value (Some (Fixed number)) = refl
-put_stored w line slot value None = refl
 
 -- ---- choices
 
@@ -108,7 +49,7 @@ pub arms_first : (at : Point) (arms : List Arm) (i : ℕ) (one : Arm) (o : plain
     (stmts_of (out-Arm one).body.now)) (arms_of (drop (i + 1) arms))) o
 arms_first at arms i one o less is =
     ap (λ l. arms_at at (arms_of l) o)
-    (dropped arms i one less ∙ ap (λ x. x ∷ drop (i + 1) arms) (sym is))
+    (drop_more arms i one less ∙ ap (λ x. x ∷ drop (i + 1) arms) (sym is))
     ∙ ap (λ a. arms_at at (plain.ThenArm a (arms_of (drop (i + 1) arms))) o) (arm_of-parts one)
 
 -- members behind an open one, and what closes it

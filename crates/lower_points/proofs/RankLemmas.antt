@@ -1,5 +1,6 @@
 -- The rank of an `if` by its tests, one after the other.
 use Rattle.std.proofs.Common.{◌≡◌, ◌<◌, ◌+◌, ℕ, zero, suc, List, length, drop, get_or, Some, None, refl, sym, ◌∙◌, ap}
+use Rattle.std.proofs.lemmas.List.{drop_more}
 use Rattle.zpl_tree.specs.Syntax as plain
 use Rattle.zpl_tree.specs.View.{arms_of, expr_of}
 use Rattle.zpl_tree.specs.declared.statements.Arm.{Arm, out-Arm}
@@ -7,7 +8,6 @@ use Rattle.zpl_tree.proofs.Views.{arm_of-parts}
 use Rattle.zpl_names.specs.Kinds.{Rank}
 use Rattle.zpl_names.specs.Ranks.{first_rank}
 use Rattle.zpl_names.specs.Sites.{Reach, arms_rank, test_rank}
-use Rattle.lower_points.proofs.PointLemmas.{dropped}
 
 first_assoc : (one two three : Rank) →
     first_rank (first_rank one two) three ≡ first_rank one (first_rank two three)
@@ -27,5 +27,5 @@ arms_step reach rank now test arms k d whole less tested next invariant =
     ap (λ now. first_rank now (arms_rank reach rest)) (next ∙ ap (first_rank rank) tested)
     ∙ first_assoc rank (test_rank reach (expr_of (out-Arm arm).test.now)) (arms_rank reach rest)
     ∙ sym (ap (λ one. first_rank rank (arms_rank reach (plain.ThenArm one rest))) (arm_of-parts arm))
-    ∙ sym (ap (λ all. first_rank rank (arms_rank reach (arms_of all))) (dropped arms k d less))
+    ∙ sym (ap (λ all. first_rank rank (arms_rank reach (arms_of all))) (drop_more arms k d less))
     ∙ invariant

@@ -1,45 +1,14 @@
 -- Assignments, behind their phases.
-use Rattle.std.proofs.Common.{◌≡◌, ℕ, List, [], ◌∷◌, Option, Some, sym, ap, ap₂, ◌∙◌}
+use Rattle.std.proofs.Common.{◌≡◌, ℕ, [], Option, sym, ap, ap₂, ◌∙◌}
 use Rattle.zpl_nums.specs.declared.operators.Op.{Op}
 use Rattle.zpl_tree.specs.Syntax.{Expr, Name}
 use Rattle.zpl_names.specs.Sites.{Assigned, Role}
 use Rattle.zpl_meaning.specs.Points.{assigned_expr}
 use Rattle.zpl_meaning.specs.Store.{Thing}
-use Rattle.node_form.specs.Expression.{words_of}
-use Rattle.node_form.specs.declared.words.ExprOp.{ExprOp}
-use Rattle.flat_form.specs.Row as row
-use Rattle.flat_form.specs.Row.{Words}
-use Rattle.zpl_lowering.specs.Hoist.{mask_code}
-use Rattle.zpl_lowering.specs.Lowered.{Phased, first_left, then_rows}
 use Rattle.zpl_lowering.specs.Slate.{Placed}
-use Rattle.zpl_lowering.specs.Statement.{lowered_array, lowered_scalar, lowered_to, placed_in, put_row, set_row}
+use Rattle.zpl_lowering.specs.Statement.{lowered_array, lowered_scalar, lowered_to, placed_in}
 use Rattle.zpl_lowering.specs.Where.{Slotted, Stored, Where}
-use Rattle.lower_draft.specs.Drafted.{Drafted, grown, pushed}
-use Rattle.lower_statements.proofs.RowLemmas.{then_rows_grown}
-
--- the row of a scalar
-pub scalar_set : (d0 d1 d2 : Drafted) (phases : Phased) (line scalar : ℕ) (words : List ExprOp) →
-    d1 ≡ grown d0 phases.lowered → words ≡ words_of (first_left phases.left) →
-    d2 ≡ pushed d1 (row.Set scalar words line) →
-    d2 ≡ grown d0 (then_rows phases (set_row line (first_left phases.left) (Some scalar)))
-scalar_set d0 d1 d2 phases line scalar words one same two =
-    then_rows_grown d0 d1 d2 phases
-    (row.Set scalar (words_of (first_left phases.left)) line ∷ []) one
-    (two ∙ ap (λ w. pushed d1 (row.Set scalar w line)) same)
-
--- the row of an array
-pub array_put : (d0 d1 d2 : Drafted) (phases : Phased) (w : Where) (line : ℕ) (over : Slotted)
-    (stored : Stored) (words : List ExprOp) (mask : Option Words) →
-    d1 ≡ grown d0 phases.lowered → words ≡ words_of (first_left phases.left) →
-    mask ≡ mask_code w.numbers over.mask →
-    d2 ≡ pushed d1 (row.Loop over.slot (row.Put stored.array words mask line ∷ [])) →
-    d2 ≡ grown d0 (then_rows phases
-    (put_row w line over (first_left phases.left) (Some stored)))
-array_put d0 d1 d2 phases w line over stored words mask one same masked two =
-    then_rows_grown d0 d1 d2 phases
-    (put_row w line over (first_left phases.left) (Some stored)) one
-    (two ∙ ap₂ (λ e m. pushed d1 (row.Loop over.slot (row.Put stored.array e m line ∷ []))) same
-    masked)
+use Rattle.lower_draft.specs.Drafted.{Drafted, grown}
 
 -- what is assigned to
 module _ (d0 d2 : Drafted) (w : Where) (role : Role) (line : ℕ) (expr : Expr)

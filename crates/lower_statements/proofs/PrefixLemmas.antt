@@ -52,11 +52,6 @@ pub not_last : (borders : Bool) (prefixes : List InMemory) (i : ℕ) → i < len
     false ≡ is_last borders (map prefix_of (drop i prefixes))
 not_last borders prefixes i less = sym (last_more prefix_of borders prefixes i less)
 
-pub last_one : (borders : Bool) (prefixes : List InMemory) (i : ℕ) → length prefixes ≤ i →
-    borders ≡ is_last borders (map prefix_of (drop i prefixes))
-last_one borders prefixes i past =
-    sym (at_drop_all (λ l. is_last borders (map prefix_of l)) prefixes i past)
-
 module _ (prefixes : List InMemory) (i : ℕ) (d : InMemory) (less : i < length prefixes)
     (fit : AreFitPrefixes (map prefix_of (drop i prefixes))) where
   both_fit : AreFitPrefixes (prefix_of (get_or prefixes i d)

@@ -4,8 +4,8 @@ use Rattle.std.proofs.lemmas.List.{length-map}
 use Rattle.node_form.specs.Expression.{Expression, words_of}
 use Rattle.node_form.specs.declared.words.ExprOp.{ExprOp}
 use Rattle.flat_form.specs.Row as row
-use Rattle.flat_form.specs.Row.{Row, with_row, with_rows}
-use Rattle.zpl_lowering.specs.Lowered.{Phased, rows_alone, then_rows}
+use Rattle.flat_form.specs.Row.{with_row, with_rows}
+use Rattle.zpl_lowering.specs.Lowered.{Phased, rows_alone}
 use Rattle.zpl_lowering.specs.Statement.{value_rows, with_values}
 use Rattle.lower_draft.specs.Drafted.{Drafted, all_pushed, grown, with_scalars}
 use Rattle.lower_draft.proofs.GrowthLemmas.{both_grown, rows_grown, scalars_grown}
@@ -14,18 +14,6 @@ use Rattle.lower_statements.specs.Values.{set_rows}
 -- nothing was pushed
 pub nothing_grown : (draft : Drafted) → draft ≡ grown draft (rows_alone [])
 nothing_grown draft = rows_grown draft []
-
--- a statement's own rows
-pub then_rows_grown : (d0 d1 d2 : Drafted) (phases : Phased) (rows : List Row) →
-    d1 ≡ grown d0 phases.lowered → d2 ≡ all_pushed d1 rows → d2 ≡ grown d0 (then_rows phases rows)
-then_rows_grown d0 d1 d2 phases rows one two =
-    two ∙ ap (λ d. all_pushed d rows) one ∙ rows_grown (grown d0 phases.lowered) rows
-    ∙ both_grown d0 phases.lowered (rows_alone rows)
-
--- no row of its own
-pub then_none_grown : (d0 d1 : Drafted) (phases : Phased) → d1 ≡ grown d0 phases.lowered →
-    d1 ≡ grown d0 (then_rows phases [])
-then_none_grown d0 d1 phases one = then_rows_grown d0 d1 d1 phases [] one refl
 
 -- values in scalars of their own
 pub rows_of_values : (line scalar : ℕ) (exprs : List Expression) →

@@ -1,6 +1,6 @@
 -- Prints, item by item.
 use Rattle.std.proofs.Common.{◌≡◌, ◌<◌, ◌≤◌, ℕ, ◌+◌, Bool, List, [], ◌∷◌, ◌++◌, drop, get_or, length, map, refl, sym, ap, ap₂, ◌∙◌, arith, append_assoc, append-nil, add-zero, subst}
-use Rattle.std.proofs.lemmas.List.{at_drop_more, at_drop_all, drop_all, drop_more, map-append}
+use Rattle.std.proofs.lemmas.List.{at_drop_more, at_drop_all, drop_more, map-append}
 use Rattle.row_runs.specs.Code.{Straight}
 use Rattle.row_runs.specs.Structured.{Rows, Then}
 use Rattle.node_form.specs.Expression.{Expression, words_of}
@@ -13,7 +13,7 @@ use Rattle.flat_form.specs.Row as row
 use Rattle.flat_form.specs.Row.{Row, with_rows}
 use Rattle.zpl_lowering.specs.Check.{flat_row}
 use Rattle.zpl_lowering.specs.Lowered.{Lowered, followed, rows_alone}
-use Rattle.zpl_lowering.specs.Statement.{Prints, items_of, newline, of_prints, printed_exprs, shown_of}
+use Rattle.zpl_lowering.specs.Statement.{Prints, items_of, of_prints, printed_exprs, shown_of}
 use Rattle.zpl_lowering.specs.Slate.{Placed}
 use Rattle.zpl_lowering.specs.Where.{Next, Where}
 use Rattle.lower_draft.specs.Drafted.{Drafted, all_pushed, grown, pushed, rows_from}
@@ -112,23 +112,6 @@ module _ (w : Where) (line : ℕ) (ends : Bool) where
           (prints-more had.left had.are) had.prints;
     }
 
-  pub ahead_first : (start : Drafted) (items : List Item) (exprs : List Expression)
-      (words : List (List ExprOp)) → words ≡ map words_of exprs →
-      AreAhead start start items items exprs words []
-  ahead_first start items exprs words is =
-      record { left = exprs; are = is; values = refl; prints = refl }
-
-  module _ (start draft : Drafted) (items : List Item) (exprs : List Expression)
-      (words : List (List ExprOp)) (old : List Row) where
-    pub ahead_values : AreAhead start draft items [] exprs words old →
-        draft ≡ grown start (values_of (ahead start.next items exprs))
-    ahead_values had = nothing_grown draft ∙ had.values
-
-    pub ahead_prints : (more : List Row) → more ≡ old ++ newline ends →
-        AreAhead start draft items [] exprs words old →
-        more ≡ (ahead start.next items exprs).prints
-    ahead_prints more is had = is ∙ had.prints
-
   module _ (start draft new : Drafted) (items : List ItemThere) (i : ℕ) (exprs : List Expression)
       (words words' : List (List ExprOp)) (old more : List Row) where
     abbrev here : List ItemThere → Type 0
@@ -148,11 +131,6 @@ module _ (w : Where) (line : ℕ) (ends : Bool) where
         (item_of one) (map item_of (drop (i + 1) items)) grows prints-more
         goes-on (subst here (drop_more items i one less
         ∙ ap (λ x. x ∷ drop (i + 1) items) (sym there)) had)
-
-    pub loop_end : length items ≤ i →
-        AreAhead start draft (map item_of items) (map item_of (drop i items)) exprs words old →
-        AreAhead start draft (map item_of items) [] exprs words old
-    loop_end past had = subst here (drop_all i items past) had
 
 -- ---- expressions
 

@@ -1,7 +1,8 @@
 -- The home box and the storage of a declared array are as the text says, and within the limit.
-use Rattle.std.proofs.Common.{◌≡◌, Bool, true, false, ◌||◌, List, [], ◌∷◌, length, take, refl, sym, ap, ◌∙◌, subst, append-nil, true≢false}
+use Rattle.std.proofs.Common.{◌≡◌, false, List, [], ◌∷◌, length, take, refl, sym, ap, ◌∙◌, subst, append-nil, true≢false}
 use Rattle.std.specs.Prelude.{Contains, Option, Some, None, option_map}
 use Rattle.std.specs.List.{list_any}
+use Rattle.std.proofs.lemmas.Bool.{or_parts}
 use Rattle.zpl_region.specs.declared.dims.Dim.{Dim}
 use Rattle.zpl_region.specs.declared.dims.Dim.TheVariants as dim
 use Rattle.zpl_region.specs.declared.regions.Region.{Region}
@@ -42,18 +43,14 @@ use Rattle.lowered_flat.proofs.ShapeLemmas.{SameName, same_shape}
 
 -- ---- flood dimensions
 
-no_either : (a b : Bool) → a || b ≡ false → (a ≡ false) × (b ≡ false)
-no_either true b e = let no : ⊥ = cc in absurd no
-no_either false b e = (refl, e)
-
 floods_ranges : (shape : Shape) (dims : List Dim) → AreFloods shape dims →
     has_flood (Some shape) ≡ false → AllRanges (take (length shape) dims)
 floods_ranges [] dims are none = tt
 floods_ranges (flood ∷ shape) [] are none = absurd are
 floods_ranges (flood ∷ shape) (dim.Range lo hi step align ∷ dims) are none =
-    floods_ranges shape dims are.1 (no_either flood (list_any (λ flood. flood) shape) none).1
+    floods_ranges shape dims are.1 (or_parts flood (list_any (λ flood. flood) shape) none).1
 floods_ranges (flood ∷ shape) (dim.Flood ∷ dims) are none =
-    absurd (true≢false (are.0 ∙ (no_either flood (list_any (λ flood. flood) shape) none).0))
+    absurd (true≢false (are.0 ∙ (or_parts flood (list_any (λ flood. flood) shape) none).0))
 
 same_one : (a b : Shape) → Some a ≡ Some b → a ≡ b
 same_one a b e = cc

@@ -4,6 +4,7 @@ use Rattle.std.specs.Prelude.{◌==◌, Option, Some, None, option_map, find}
 use Rattle.std.specs.Str.{bytes_eq}
 use Rattle.std.proofs.lemmas.Bool.{eq-eqb, eqb-true}
 use Rattle.std.proofs.lemmas.Slice.Eq.{bytes_eq-Decides}
+use Rattle.std.proofs.lemmas.Option.{same_Some, none-some}
 use Rattle.zpl_region.specs.declared.regions.Region.{Region}
 use Rattle.zpl_tree.specs.Syntax.{Name, Base, Program}
 use Rattle.zpl_names.specs.Kinds as kind
@@ -124,12 +125,6 @@ pub record IsToldHome (program : Program) (known : Known) (text name : List ℕ)
   pub stands : StandsFor program text name variable
   pub is : IsHomeAt program known variable home
 
-some_same : {A : Type 0} (x y : A) → Some x ≡ Some y → x ≡ y
-some_same x y e = cc
-
-none_some : {A : Type 0} (x : A) → None ≡ Some x → ⊥
-none_some x e = cc
-
 -- a local array
 pub local_declared : (program : Program) (routine : Routine) (name : List ℕ) (array : ExpandedArray) →
     is_array_name program routine name ≡ true →
@@ -143,8 +138,8 @@ local_declared program routine name array is found =
     by : (b : Bool) (local : Option ExpandedArray) (formal : Option FormalName) → b ≡ true →
         local ≡ Some array →
         cond b (first_variable local formal (global_array program name)) None ≡ Some array.storage
-    by true (Some one) formal is found = ap (λ (one : ExpandedArray). Some one.storage) (some_same one array found)
-    by true None formal is found = absurd (none_some array found)
+    by true (Some one) formal is found = ap (λ (one : ExpandedArray). Some one.storage) (same_Some one array found)
+    by true None formal is found = absurd (none-some array found)
     by false local formal is found = absurd (true≢false (sym is))
 
 -- a global one
@@ -163,8 +158,8 @@ global_declared program routine name at is local formal global =
         one ≡ None → two ≡ None →
         cond b (first_variable one two (global_array program name)) None ≡ Some at
     by true None None is local formal = global
-    by true None (Some two) is local formal = absurd (none_some two (sym formal))
-    by true (Some one) two is local formal = absurd (none_some one (sym local))
+    by true None (Some two) is local formal = absurd (none-some two (sym formal))
+    by true (Some one) two is local formal = absurd (none-some one (sym local))
     by false one two is local formal = absurd (true≢false (sym is))
 
 pub stands_itself : (program : Program) (text name : List ℕ) (routine : Routine) (variable : ℕ) →

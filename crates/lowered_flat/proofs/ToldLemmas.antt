@@ -5,6 +5,7 @@ use Rattle.std.specs.Prelude.{Contains, Option, Some, None}
 use Rattle.std.specs.List.{cons_option, filter_map, flat_map}
 use Rattle.std.specs.Str.{bytes_eq}
 use Rattle.std.proofs.lemmas.List.Elements.{All-from_recursion}
+use Rattle.std.proofs.lemmas.Bool.{not-false}
 use Rattle.zpl_region.specs.declared.regions.Region.{Region}
 use Rattle.zpl_region.specs.Dim.{HasStep}
 use Rattle.zpl_region.specs.Tests.{is_within_limit}
@@ -34,7 +35,6 @@ use Rattle.lowering_fits.specs.of_zpl_meaning.Regions.{vector_in}
 use Rattle.lowering_fits.specs.of_zpl_meaning.Store.{ArrayAt, Environment, thing_of}
 use Rattle.lowering_fits.specs.of_zpl_meaning.Visited.{first_setup}
 use Rattle.lowering_fits.proofs.of_zpl_meaning.NamesLemmas.{IsSound, routine_sound}
-use Rattle.lowering_fits.proofs.of_zpl_meaning.ProperLemmas.{not_false}
 use Rattle.lowering_fits.proofs.of_zpl_meaning.VisitLemmas.{find_among}
 use Rattle.lowering_fits.proofs.of_meaning_ranks.RegionLemmas.{names_once}
 use Rattle.lowering_fits.specs.of_zpl_lowering.Program.{Entry, Framed}
@@ -104,7 +104,7 @@ module _ (program : Program) (text : List ℕ) (routine : Routine)
       (Contains-from_among (filter_map call_of sites) call
       (filter_there call_of sites (AtCall reach role name actuals) call good.1
       (ap (λ b. cond b (Some call) None)
-      (not_false (is_procedure (kind_of reach.scope name))
+      (not-false (is_procedure (kind_of reach.scope name))
       (no_place (not (is_procedure (kind_of reach.scope name))) name.at good.0.known)))))
 
   pub read_there : (reach : Reach) (rank : Rank) (at : ℕ) (name : Name) (shift : Dir) →

@@ -7,6 +7,7 @@ use Rattle.std.proofs.lemmas.Bool.Decides.{nat_tests}
 use Rattle.std.specs.Option.{IsSomeAnd}
 use Rattle.std.specs.Str.{bytes_eq}
 use Rattle.std.proofs.lemmas.List.{length-map}
+use Rattle.std.proofs.lemmas.Option.{same_Some}
 use Rattle.zpl_region.specs.declared.regions.Region.{Region}
 use Rattle.zpl_arrays.specs.Array.{Array, array_of}
 use Rattle.zpl_tree.specs.Grammar.{IsProgram}
@@ -106,9 +107,6 @@ kept_one : (storages : List Region) (arrays : List Stored) (one : Stored) →
 kept_one storages [] one are is = (is, tt)
 kept_one storages (first ∷ arrays) one are is = (are.0, kept_one storages arrays one are.1 is)
 
-some_same : {A : Type 0} (x y : A) → Some x ≡ Some y → x ≡ y
-some_same x y e = cc
-
 -- names of arrays stand for arrays of the shapes that the text says
 has_arrays : (storages : List Region) (scope : Scope) (environment : Environment)
     (numbers : Numbers) → FitNames scope environment numbers →
@@ -129,7 +127,7 @@ has_arrays storages scope environment numbers names kept name place home is =
     of (Some shape) stored like held =
         subst (λ o. IsSomeAnd o (λ storage. (storage.rank ≡ length shape)
         × AreFloods shape storage.dims × (length storage.dims ≡ 3))) (sym held.there) (
-          sym (some_same (length shape) stored.storage.rank like.rank),
+          sym (same_Some (length shape) stored.storage.rank like.rank),
           like.floods shape refl,
           held.three,
         )

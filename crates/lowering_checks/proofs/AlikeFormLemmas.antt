@@ -3,6 +3,8 @@
 use Rattle.std.proofs.Common.{◌≡◌, ℕ, zero, suc, ◌<◌, Bool, true, false, ◌||◌, List, [], ◌∷◌, ◌++◌, length, option_map, refl, sym, ap, ◌∙◌, subst}
 use Rattle.std.specs.Prelude.{Option, Some, None, Contains, slice_get}
 use Rattle.std.specs.Option.{IsSomeAnd}
+use Rattle.std.proofs.lemmas.Option.{same_Some}
+use Rattle.std.proofs.lemmas.List.Elements.{Contains-append_left, Contains-append_right}
 use Rattle.zpl_nums.specs.declared.operators.Op.{Op}
 use Rattle.zpl_region.specs.declared.regions.Region.{Region}
 use Rattle.zpl_tree.specs.Grammar.{IsProgram}
@@ -32,13 +34,10 @@ use Rattle.lowering_fits.specs.of_zpl_lowering.Where.{Stored, Numbers, Slotted, 
 use Rattle.lowering_fits.specs.of_zpl_lowering.Slate.{Placed}
 use Rattle.lowering_fits.specs.of_zpl_lowering.Statement.{placed_in, lowered_array, lowered_to, Inside as Members, elementwise, put_member, put_thing, otherwise_members, stmt_inside, stmts_inside, form_inside, arms_inside, otherwise_inside, shattered}
 use Rattle.lowering_fits.specs.Reach.{place_at}
-use Rattle.lowering_fits.proofs.PartLemmas.{contains_first, contains_later, contains_left, contains_right}
+use Rattle.lowering_fits.proofs.PartLemmas.{contains_first, contains_later}
 use Rattle.lowering_checks.proofs.AlikeLemmas.{Marks, PutsOf}
 use Rattle.lowering_checks.proofs.AlikeCodeLemmas.{GoLowered, scalar_go, array_go, shattered_go}
 use Rattle.lowering_checks.proofs.MarkLemmas.{AreMarked, IsSlotOf, slot_there, slot_put}
-
-some_same : {A : Type 0} (x y : A) → Some x ≡ Some y → x ≡ y
-some_same x y e = cc
 
 or_first : (a b : Bool) → a || b ≡ false → a ≡ false
 or_first true b is = let no : ⊥ = cc in absurd no
@@ -91,10 +90,6 @@ current_rank currents (Some (suc zero)) has = (1, refl, tt)
 current_rank currents (Some (suc (suc zero))) has = (2, refl, tt)
 current_rank currents (Some (suc (suc (suc zero)))) has = (3, refl, tt)
 current_rank currents (Some (suc (suc (suc (suc k))))) has = absurd has
-
-array_rank_is : (rank : Rank) → IsArrayRank rank → (k : ℕ) × (rank ≡ Some k)
-array_rank_is None is = absurd is
-array_rank_is (Some k) is = (k, refl)
 
 -- the ranks of tests go by names and the prefix alone
 arms_same : (one other : Reach) → one.scope ≡ other.scope → one.prefix ≡ other.prefix →
@@ -343,7 +338,7 @@ module _ (program : Program) (settings : List Setting) (laws : Laws program)
               (sym (ap (option_map length) is) ∙ ranked)
               (assigned_slot at prefixes name op value h own is) in
               subst (λ s. Of s array)
-              (some_same own shape (sym own_is.mark ∙ slot.mark)) of
+              (same_Some own shape (sym own_is.mark ∙ slot.mark)) of
 
           member : (found : Option Stored) →
               IsSomeAnd found
@@ -396,10 +391,10 @@ module _ (program : Program) (settings : List Setting) (laws : Laws program)
             let parts = placed_part at prefixes (If arms otherwise) place shapes h in
             arms_put next arms (otherwise_inside w line next rank otherwise)
             (λ part in_it. parts part
-            (contains_left (arms_parts arms) (else_parts otherwise) part in_it)) point.0 ranked.0
+            (Contains-append_left (arms_parts arms) (else_parts otherwise) part in_it)) point.0 ranked.0
             (else_puts next otherwise
             (λ part in_it. parts part
-            (contains_right (arms_parts arms) (else_parts otherwise) part in_it)) point.1 ranked.1)
+            (Contains-append_right (arms_parts arms) (else_parts otherwise) part in_it)) point.1 ranked.1)
         form_puts next at prefixes (While test body) h point ranked =
             puts_both (stmts_inside w line next rank body).members (row.CloseWhile ∷ [])
             (stmts_put next body (placed_part at prefixes (While test body) place shapes h) point.1
@@ -425,11 +420,11 @@ module _ (program : Program) (settings : List Setting) (laws : Laws program)
             puts_both (inside.members ++ otherwise_members others.members) (row.CloseIf ∷ [])
             (puts_both inside.members (otherwise_members others.members)
             (stmts_put next body
-            (λ part in_it. parts part (contains_left (list_of body) (arms_parts rest) part in_it))
+            (λ part in_it. parts part (Contains-append_left (list_of body) (arms_parts rest) part in_it))
             points.0.1 ranked.0.1)
             (otherwise_puts others.members
             (arms_put next rest last
-            (λ part in_it. parts part (contains_right (list_of body) (arms_parts rest) part in_it))
+            (λ part in_it. parts part (Contains-append_right (list_of body) (arms_parts rest) part in_it))
             points.1 ranked.1 puts))) tt
 
         else_puts : (next : Next) (otherwise : Otherwise) →

@@ -2,7 +2,7 @@
 -- nothing; and behind it stands no loop but one that stood before it, or one over a slot of its own.
 use Rattle.std.proofs.Common.{◌≡◌, ◌⊎◌, inl, inr, ℕ, suc, ◌+◌, ◌<◌, ◌≤◌, Bool, true, false, ℤ, List, [], ◌∷◌, ◌++◌, length, map, replicate, refl, sym, ap, ◌∙◌, subst, arith, length-append}
 use Rattle.std.specs.Prelude.{Option, Some, None, slice_get}
-use Rattle.std.proofs.lemmas.List.{length-replicate}
+use Rattle.std.proofs.lemmas.List.{length-replicate, map-append}
 use Rattle.zpl_nums.specs.declared.folds.Fold.{Fold}
 use Rattle.zpl_region.specs.declared.regions.Region.{Region}
 use Rattle.zpl_arrays.specs.Around.{copy_shift}
@@ -27,7 +27,7 @@ use Rattle.lowering_fits.specs.of_zpl_lowering.Reference.{Reference, all_conform
 use Rattle.lowering_fits.specs.of_zpl_lowering.Hoist.{Hoisted, Free, behind, stored_element, fold_rows, kept_rows, scan_with, scan_without, masked_scan, number_of, scanning, temps_from, rooms, index_puts, remap_code, remapping, border_vectors, border_rows, copy_rows, wrapping, mask_code, trap_if, hoisted, all_hoisted}
 use Rattle.lowering_fits.specs.of_zpl_lowering.Lowered.{Lowered, phased_with, free_at}
 use Rattle.lowering_checks.specs.Walked.{laid}
-use Rattle.lowering_checks.proofs.WalkLemmas.{map_both, laid_rows, laid_then}
+use Rattle.lowering_checks.proofs.WalkLemmas.{laid_rows, laid_then}
 use Rattle.lowering_checks.proofs.SlateLemmas.{AllQuiet, quiet_both, each_quiet, all_conforming_quiet, needs_quiet}
 use Rattle.lowering_checks.proofs.HoistLemmas.{part_rows, flood_rows, read_rows, place_rows}
 use Rattle.lowering_checks.proofs.EachLemmas.{GoesAlong, phases_each}
@@ -452,7 +452,7 @@ module _ (Of : Shape → ℕ → Type 0) where
         let leave = Jump (at + size one + size other + 2) in (
           tt,
           subst (AreAlike Of None)
-              (sym (map_both flat_row (flattened (at + 1) one) (leave ∷ flattened start other)))
+              (sym (map-append flat_row (flattened (at + 1) one) (leave ∷ flattened start other)))
               (alike_both Of None (laid (at + 1) one) (flat_row leave ∷ laid start other)
               (first (at + 1) None) (tt, second start None)),
         );
@@ -461,11 +461,11 @@ module _ (Of : Shape → ℕ → Type 0) where
         let start = at + size head + 1 in
         let back = Jump at ∷ [] in
         subst (AreAlike Of last)
-        (sym (map_both flat_row (flattened at head) (Unless test end ∷ (flattened start body ++ back))))
+        (sym (map-append flat_row (flattened at head) (Unless test end ∷ (flattened start body ++ back))))
         (alike_both Of last (laid at head)
         (map flat_row (Unless test end ∷ (flattened start body ++ back))) (before at last) (
           tt,
-          subst (AreAlike Of None) (sym (map_both flat_row (flattened start body) back))
+          subst (AreAlike Of None) (sym (map-append flat_row (flattened start body) back))
               (alike_both Of None (laid start body) (map flat_row back) (inside start None)
               (tt, tt)),
         ));
@@ -475,10 +475,10 @@ module _ (Of : Shape → ℕ → Type 0) where
         let state = behind_rows None (laid (at + 1) body) in (
           tt,
           subst (AreAlike Of None)
-              (sym (map_both flat_row (flattened (at + 1) body) (flattened later head ++ back)))
+              (sym (map-append flat_row (flattened (at + 1) body) (flattened later head ++ back)))
               (alike_both Of None (laid (at + 1) body) (map flat_row (flattened later head ++ back))
               (inside (at + 1) None)
-              (subst (AreAlike Of state) (sym (map_both flat_row (flattened later head) back))
+              (subst (AreAlike Of state) (sym (map-append flat_row (flattened later head) back))
               (alike_both Of state (laid later head) (map flat_row back) (before later state)
               (tt, tt)))),
         );

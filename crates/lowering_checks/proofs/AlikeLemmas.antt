@@ -2,6 +2,7 @@
 -- that both put is of one shape. What is known of slots are the shapes of their regions (`Marks`).
 use Rattle.std.proofs.Common.{◌≡◌, ◌⊎◌, inl, inr, ℕ, ◌+◌, ◌<◌, ◌≤◌, ◌==◌, Bool, true, false, cond, List, [], ◌∷◌, ◌++◌, map, refl, sym, ap, ◌∙◌, subst, arith, eqb-true}
 use Rattle.std.specs.Prelude.{Option, Some, None}
+use Rattle.std.proofs.lemmas.List.{map-append}
 use Rattle.zpl_names.specs.Kinds.{Shape}
 use Rattle.node_form.specs.declared.instructions.Instr.{Instr}
 use Rattle.node_form.specs.declared.instructions.Instr.TheVariants as instr
@@ -13,7 +14,7 @@ use Rattle.lowering_fits.specs.of_flat_form.Row.{Row, Member}
 use Rattle.lowering_fits.specs.of_zpl_lowering.Check.{Check, flat_row}
 use Rattle.lowering_fits.specs.of_zpl_lowering.Statement.{has_put}
 use Rattle.lowering_checks.specs.Walked.{laid}
-use Rattle.lowering_checks.proofs.WalkLemmas.{map_both, laid_rows, laid_then}
+use Rattle.lowering_checks.proofs.WalkLemmas.{laid_rows, laid_then}
 use Rattle.lowering_checks.proofs.SlateLemmas.{AllQuiet}
 
 -- ---- the last loop, where checks alone stand behind it
@@ -239,7 +240,7 @@ module _ (Of : Shape → ℕ → Type 0) where
       let here = first (at + 1) None tt in
       go_behind marks n k last (flat_row (Unless test start)) _ tt refl
       (subst (GoesOn marks n k None)
-      (sym (map_both flat_row (flattened (at + 1) one) (leave ∷ flattened start other)))
+      (sym (map-append flat_row (flattened (at + 1) one) (leave ∷ flattened start other)))
       (go_both marks n m k None (laid (at + 1) one) (flat_row leave ∷ laid start other) less here
       (go_behind here.later m k (behind_rows None (laid (at + 1) one)) (flat_row leave)
       (laid start other) tt refl (second here.later here.keeps start None tt))))
@@ -255,12 +256,12 @@ module _ (Of : Shape → ℕ → Type 0) where
       let here = before at last is in
       let turn = inside here.later here.keeps start None tt in
       subst (GoesOn marks n k last)
-      (sym (map_both flat_row (flattened at head) (Unless test end ∷ (flattened start body ++ back))))
+      (sym (map-append flat_row (flattened at head) (Unless test end ∷ (flattened start body ++ back))))
       (go_both marks n m k last (laid at head)
       (map flat_row (Unless test end ∷ (flattened start body ++ back))) less here
       (go_behind here.later m k (behind_rows last (laid at head)) (flat_row (Unless test end))
       (map flat_row (flattened start body ++ back)) tt refl
-      (subst (GoesOn here.later m k None) (sym (map_both flat_row (flattened start body) back))
+      (subst (GoesOn here.later m k None) (sym (map-append flat_row (flattened start body) back))
       (go_both here.later m k k None (laid start body) (map flat_row back) more turn
       (go_one turn.later k k (behind_rows None (laid start body)) (flat_row (Jump at)) tt refl)))))
 
@@ -276,11 +277,11 @@ module _ (Of : Shape → ℕ → Type 0) where
       turn.marked in
       go_behind marks n k last (flat_row (Jump (at + 1))) _ tt refl
       (subst (GoesOn marks n k None)
-      (sym (map_both flat_row (flattened (at + 1) body) (flattened later head ++ back)))
+      (sym (map-append flat_row (flattened (at + 1) body) (flattened later head ++ back)))
       (go_both marks n m k None (laid (at + 1) body) (map flat_row (flattened later head ++ back))
       less turn
       (subst (GoesOn turn.later m k (behind_rows None (laid (at + 1) body)))
-      (sym (map_both flat_row (flattened later head) back))
+      (sym (map-append flat_row (flattened later head) back))
       (go_both turn.later m k k (behind_rows None (laid (at + 1) body)) (laid later head)
       (map flat_row back) more rest
       (go_one rest.later k k

@@ -1,10 +1,12 @@
 -- Loops over one slot with checks alone between them put arrays of one rank with the same flood
 -- dimensions, in the tables of a program.
-use Rattle.std.proofs.Common.{◌≡◌, ◌⊎◌, inl, inr, ℕ, zero, suc, ◌+◌, ◌==◌, Bool, true, false, ◌&&◌, ℤ, List, [], ◌∷◌, ◌++◌, map, length, refl, sym, ap, ◌∙◌, subst, arith, append_assoc}
+use Rattle.std.proofs.Common.{◌≡◌, ◌⊎◌, inl, inr, ℕ, zero, suc, ◌+◌, ◌==◌, true, false, ℤ, List, [], ◌∷◌, ◌++◌, map, length, refl, sym, ap, ◌∙◌, subst, arith, append_assoc}
 use Rattle.std.specs.Prelude.{Option, Some, None, flat_map, filter, slice_get, slice_index_or}
 use Rattle.std.specs.List.{AllByRecursion, list_all}
 use Rattle.std.specs.Option.{IsSomeAnd}
 use Rattle.std.specs.Cmp.Lexicographic.{pointwise}
+use Rattle.std.proofs.lemmas.List.{map-append}
+use Rattle.std.proofs.lemmas.Bool.{and_from}
 use Rattle.zpl_region.specs.declared.dims.Dim.{Dim}
 use Rattle.zpl_region.specs.declared.dims.Dim.TheVariants as dim
 use Rattle.zpl_region.specs.declared.regions.Region.{Region}
@@ -40,7 +42,6 @@ use Rattle.lowering_fits.specs.Declarations.{FitsProgram}
 use Rattle.lowering_fits.proofs.PartLemmas.{AreRight}
 use Rattle.lowering_checks.specs.Stands.{PutsAlike}
 use Rattle.lowering_checks.specs.Walked.{laid}
-use Rattle.lowering_checks.proofs.WalkLemmas.{map_both}
 use Rattle.lowering_checks.proofs.TableLemmas.{found, false_true}
 use Rattle.lowering_checks.proofs.AlikeLemmas.{Last, behind_rows, PutsOf, ArePutAlike, MayJoin, AreAlike, alike_both, alike_rest}
 use Rattle.lowering_checks.proofs.AlikeCodeLemmas.{StoresAt}
@@ -147,10 +148,6 @@ abbrev IsStorageOf : Shape → Region → Type 0
 IsStorageOf shape storage =
     (storage.rank ≡ length shape) × AreFloods shape storage.dims × (length storage.dims ≡ 3)
 
-both_are : (a b : Bool) → a ≡ true → b ≡ true → (a && b) ≡ true
-both_are true b first rest = rest
-both_are false b first rest = let no : ⊥ = cc in absurd no
-
 same_rank : (m n : ℕ) → m ≡ n → (m == n) ≡ true
 same_rank m n same = subst (λ k. (m == k) ≡ true) same (itself m)
   where
@@ -164,7 +161,7 @@ rows_alike shifts shape k l one other is are =
     let same : one.rank ≡ other.rank = is.0 ∙ sym are.0 in
     let fs = fringes_of k shifts in
     let gs = fringes_of l shifts in
-    both_are (one.rank == other.rank) _ (same_rank one.rank other.rank same)
+    and_from (one.rank == other.rank) _ (same_rank one.rank other.rank same)
     (subst (λ r. pointwise is_same_kind (stored_dims one.rank one.dims fs)
     (stored_dims r other.dims gs) ≡ true) same
     (dims_alike one.rank shape one.dims other.dims fs gs is.0 is.1 are.1 (is.2 ∙ sym are.2)
@@ -288,14 +285,14 @@ module _ (program : Program) (settings : List Setting) where
       AllOf shape others → list_all (are_like tables array) others ≡ true
   one_alike shape array [] is are = refl
   one_alike shape array (other ∷ others) is are =
-      both_are (are_like tables array other) _ (arrays_alike shape array other is are.0)
+      and_from (are_like tables array other) _ (arrays_alike shape array other is are.0)
       (one_alike shape array others is are.1)
 
   all_alike : (shape : Shape) (firsts others : List ℕ) → AllOf shape firsts →
       AllOf shape others → Alike firsts others
   all_alike shape [] others is are = refl
   all_alike shape (first ∷ firsts) others is are =
-      both_are (list_all (are_like tables first) others) _
+      and_from (list_all (are_like tables first) others) _
       (one_alike shape first others is.0 are) (all_alike shape firsts others is.1 are)
 
   alike_none : (firsts : List ℕ) → Alike firsts []
@@ -339,7 +336,7 @@ module _ (program : Program) (settings : List Setting) where
       Walk (behind_rows last (map (inlined tables) xs)) ys
   walk_rest last xs ys walk =
       alike_rest Of last (map (inlined tables) xs) (map (inlined tables) ys)
-      (subst (AreAlike Of last) (map_both (inlined tables) xs ys) walk)
+      (subst (AreAlike Of last) (map-append (inlined tables) xs ys) walk)
 
   behind_checks : (last : Last) (slot other : ℕ) (back between : List Instr) →
       AllByRecursion (λ row. is_check row ≡ true) between →

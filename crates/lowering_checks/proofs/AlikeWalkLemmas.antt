@@ -3,6 +3,7 @@
 use Rattle.std.proofs.Common.{◌≡◌, ℕ, ◌+◌, ◌≤◌, Bool, true, false, List, [], ◌∷◌, ◌++◌, map, length, option_to_list, refl, sym, ap, ◌∙◌, subst, arith, length-append}
 use Rattle.std.specs.Prelude.{Option, Some, None, Contains, is_some}
 use Rattle.std.specs.List.{AllByRecursion}
+use Rattle.std.proofs.lemmas.List.Elements.{Contains-append_left, Contains-append_right}
 use Rattle.zpl_nums.specs.declared.operators.Op.{Op}
 use Rattle.zpl_region.specs.declared.regions.Region.{Region}
 use Rattle.zpl_tree.specs.Grammar.{IsProgram, IsPrefix}
@@ -39,7 +40,7 @@ use Rattle.lowering_fits.specs.of_zpl_lowering.Lowered.{Lowered, rows_alone, beh
 use Rattle.lowering_fits.specs.of_zpl_lowering.Statement.{Calling, Lowering, placed_in, Testing, test_of, value_exprs, with_values, set_row, head_exprs, scalar_of, lowered_invoke, lowered_to, lowered_assign, target_of, is_border, prefix_opened, current_for, under_prefix, of_opened, is_last, lowered_under, shattered, choose_code, while_code, repeat_code, ends_arms, lowered, lowered_all, lowered_form, lowered_arms, lowered_arm, lowered_otherwise}
 use Rattle.lowering_fits.specs.Reach.{place_at}
 use Rattle.lowering_fits.specs.Standing.{calling_of}
-use Rattle.lowering_fits.proofs.PartLemmas.{AreRight, contains_first, contains_later, contains_left, contains_right}
+use Rattle.lowering_fits.proofs.PartLemmas.{AreRight, contains_first, contains_later}
 use Rattle.lowering_fits.proofs.MadeAssignLemmas.{IsWithin}
 use Rattle.lowering_checks.proofs.SlateLemmas.{opened_quiet}
 use Rattle.lowering_checks.proofs.AlikeLemmas.{Marks, Keeps, keeps_both, more_alike, when_alike, choose_alike, while_alike, repeat_alike, quiet_then, quiet_code}
@@ -551,12 +552,12 @@ module _ (program : Program) (settings : List Setting) (laws : Laws program)
             (arms_go marks w result currents edge shapes next stands at arms otherwise
             (λ after. lowered_otherwise context after otherwise)
             (λ part in_it. parts part
-            (contains_left (arms_parts arms) (else_parts otherwise) part in_it))
+            (Contains-append_left (arms_parts arms) (else_parts otherwise) part in_it))
             (λ later after more keeps.
             otherwise_go later w result currents edge shapes after
             (stands_more marks later next.slots after.slots w shapes more keeps stands) otherwise
             (λ part in_it. parts part
-            (contains_right (arms_parts arms) (else_parts otherwise) part in_it)))) laid
+            (Contains-append_right (arms_parts arms) (else_parts otherwise) part in_it)))) laid
         form_go marks w result currents edge shapes next stands at (While test body) whole prefixes
             placed laid =
             let context : Lowering = record { place = w; call = call } in
@@ -656,12 +657,12 @@ module _ (program : Program) (settings : List Setting) (laws : Laws program)
             (λ later after more keeps.
             all_go later w result currents edge shapes after
             (stands_more marks later next.slots after.slots w shapes more keeps stands) body
-            (λ part in_it. parts part (contains_left (list_of body) (arms_parts rest) part in_it)))
+            (λ part in_it. parts part (Contains-append_left (list_of body) (arms_parts rest) part in_it)))
             (λ later after more keeps.
             arms_go later w result currents edge shapes after
             (stands_more marks later next.slots after.slots w shapes more keeps stands)
             (arms_at rest) rest otherwise last
-            (λ part in_it. parts part (contains_right (list_of body) (arms_parts rest) part in_it))
+            (λ part in_it. parts part (Contains-append_right (list_of body) (arms_parts rest) part in_it))
             (goes_more marks later next after last more keeps lasts)) laid
 
         otherwise_go : (marks : Marks) (w : Where) (result : ℕ) (currents : Currents)

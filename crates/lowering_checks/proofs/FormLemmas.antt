@@ -2,6 +2,7 @@
 -- what they call.
 use Rattle.std.proofs.Common.{◌≡◌, ℕ, ◌+◌, ◌≤◌, Bool, true, false, List, [], ◌∷◌, ◌++◌, length, sym, subst, arith}
 use Rattle.std.specs.Prelude.{Option, Some, None, Contains}
+use Rattle.std.proofs.lemmas.List.Elements.{Contains-append_left, Contains-append_right}
 use Rattle.zpl_nums.specs.declared.operators.Op.{Op}
 use Rattle.zpl_tree.specs.Syntax.{Name, Expr, Number, Truth, Coord, Named, Shifted, Around, Remap, Call, Paren, Neg, Not, Abs, Pair, Reduce, Scan, Flood, Exprs, Dir, Prefix, Stmt, Prefixed, Stmts, NoStmt, ThenStmt, Form, Assign, Invoke, Block, If, While, Repeat, For, Border, Write, Return, Tested, Arms, NoArm, ThenArm, Otherwise, NoElse, Else}
 use Rattle.zpl_names.specs.Kinds.{Rank}
@@ -26,7 +27,7 @@ use Rattle.lowering_fits.specs.of_zpl_lowering.Lowered.{Lowered, behind, followe
 use Rattle.lowering_fits.specs.of_zpl_lowering.Statement.{Calling, Lowering, placed_in, Testing, test_of, value_exprs, with_values, lowered_invoke, lowered_assign, target_of, lowered_to, is_border, prefix_opened, current_for, under_prefix, of_opened, is_last, lowered_under, shattered, choose_code, while_code, repeat_code, ends_arms, lowered, lowered_all, lowered_form, lowered_arms, lowered_arm, lowered_otherwise}
 use Rattle.lowering_fits.specs.Reach.{place_at}
 use Rattle.lowering_fits.specs.Standing.{calling_of}
-use Rattle.lowering_fits.proofs.PartLemmas.{AreRight, contains_first, contains_later, contains_left, contains_right}
+use Rattle.lowering_fits.proofs.PartLemmas.{AreRight, contains_first, contains_later}
 use Rattle.lowering_fits.proofs.MadeAssignLemmas.{IsWithin}
 use Rattle.lowering_checks.specs.Walked.{HasChecks}
 use Rattle.lowering_checks.proofs.WalkLemmas.{then_check, when_check, choose_check, while_check, repeat_check}
@@ -357,11 +358,11 @@ module _ (base : ℕ) (setup : Setup) (scope : Scope) (environment : Environment
         (arms_check w result currents edge next here at arms otherwise
         (λ after. lowered_otherwise context after otherwise)
         (λ part in_it. held part
-        (contains_left (arms_parts arms) (else_parts otherwise) part in_it))
+        (Contains-append_left (arms_parts arms) (else_parts otherwise) part in_it))
         (λ after more. otherwise_checks w result currents edge after
         (here_more next.slots after.slots w currents more here) otherwise
         (λ part in_it. held part
-        (contains_right (arms_parts arms) (else_parts otherwise) part in_it))))
+        (Contains-append_right (arms_parts arms) (else_parts otherwise) part in_it))))
     form_checks w result currents edge next here at (While test body) start whole prefixes visited
         under proper ranked =
         let context : Lowering = record { place = w; call = call } in
@@ -423,10 +424,10 @@ module _ (base : ℕ) (setup : Setup) (scope : Scope) (environment : Environment
         last)
         (λ after more. all_check w result currents edge after
         (here_more next.slots after.slots w currents more here) body
-        (λ part in_it. visited part (contains_left (list_of body) (arms_parts rest) part in_it)))
+        (λ part in_it. visited part (Contains-append_left (list_of body) (arms_parts rest) part in_it)))
         (λ after more. arms_check w result currents edge after
         (here_more next.slots after.slots w currents more here) (arms_at rest) rest otherwise last
-        (λ part in_it. visited part (contains_right (list_of body) (arms_parts rest) part in_it))
+        (λ part in_it. visited part (Contains-append_right (list_of body) (arms_parts rest) part in_it))
         (λ far further. lasts far (omega (arith, more, further))))
 
     otherwise_checks : (w : Where) (result : ℕ) (currents : Currents) (edge : Option Edge)

@@ -3,6 +3,8 @@
 use Rattle.std.proofs.Common.{◌≡◌, inl, inr, ℕ, zero, suc, ◌+◌, ◌<◌, ◌≤◌, Bool, true, false, ℤ, List, [], ◌∷◌, ◌++◌, map, refl, sym, ap, ap₂, ◌∙◌, subst, arith, append_assoc}
 use Rattle.std.specs.Prelude.{◌≢◌, Option, Some, None, slice_get}
 use Rattle.std.specs.List.{list_all}
+use Rattle.std.proofs.lemmas.Bool.{and_parts}
+use Rattle.std.proofs.lemmas.List.{map-append}
 use Rattle.zpl_nums.specs.declared.operators.UnaryOp.{UnaryOp}
 use Rattle.zpl_nums.specs.declared.operators.UnaryOp.TheVariants as unary
 use Rattle.zpl_nums.specs.declared.folds.Fold.{Fold}
@@ -28,8 +30,7 @@ use Rattle.lowering_fits.specs.of_zpl_lowering.Lowered.{Phased, phased_with, fre
 use Rattle.lowering_fits.specs.of_zpl_lowering.Statement.{has_put}
 use Rattle.lowering_checks.specs.Walked.{Since, behind_row, behind_rows, laid}
 use Rattle.lowering_checks.specs.Reads.{totals_in, totals_by, totals_of, FreeWords, FreeExprs, FreeMembers, MayRead, AreFree}
-use Rattle.lowering_checks.proofs.WalkLemmas.{map_both, laid_rows, laid_then}
-use Rattle.lowering_checks.proofs.KnownLemmas.{both_true}
+use Rattle.lowering_checks.proofs.WalkLemmas.{laid_rows, laid_then}
 use Rattle.lowering_checks.proofs.SlateLemmas.{AllQuiet, settled_fresh}
 use Rattle.lowering_checks.proofs.HoistLemmas.{Away, IsEither, all_end, behind_then}
 use Rattle.lowering_checks.proofs.PhaseLemmas.{phase_rows}
@@ -268,7 +269,7 @@ module _ (free : ℕ → Bool) where
           let ys = code_totals other in (
             tt,
             subst (AreFree free None)
-                (sym (map_both flat_row (flattened (at + 1) one)
+                (sym (map-append flat_row (flattened (at + 1) one)
                 (Jump (at + size one + size other + 2) ∷ flattened (at + size one + 2) other)))
                 (free_both None (laid (at + 1) one)
                 (flat_row (Jump (at + size one + size other + 2)) ∷ laid (at + size one + 2) other)
@@ -289,13 +290,13 @@ module _ (free : ℕ → Bool) where
           let end = at + size head + size body + 2 in
           let start = at + size head + 1 in
           subst (AreFree free last)
-          (sym (map_both flat_row (flattened at head)
+          (sym (map-append flat_row (flattened at head)
           (Unless test end ∷ (flattened start body ++ Jump at ∷ []))))
           (free_both last (laid at head)
           (flat_row (Unless test end) ∷ map flat_row (flattened start body ++ Jump at ∷ []))
           (before.reads all (owns_first n a a b xs ys (omega arith) inside.within owns) at last) (
             tt,
-            subst (AreFree free None) (sym (map_both flat_row (flattened start body) (Jump at ∷ [])))
+            subst (AreFree free None) (sym (map-append flat_row (flattened start body) (Jump at ∷ [])))
                 (free_both None (laid start body) (flat_row (Jump at) ∷ [])
                 (inside.reads all (owns_rest n a a b xs ys (omega arith) before.within owns) start
                 None) (tt, tt)),
@@ -310,14 +311,14 @@ module _ (free : ℕ → Bool) where
           let later = at + size body + 1 in (
             tt,
             subst (AreFree free None)
-                (sym (map_both flat_row (flattened (at + 1) body)
+                (sym (map-append flat_row (flattened (at + 1) body)
                 (flattened later head ++ Unless test (at + 1) ∷ [])))
                 (free_both None (laid (at + 1) body)
                 (map flat_row (flattened later head ++ Unless test (at + 1) ∷ []))
                 (inside.reads all (owns_first n a a b xs ys (omega arith) before.within owns) (at + 1)
                 None)
                 (subst (AreFree free (behind_rows None (laid (at + 1) body)))
-                (sym (map_both flat_row (flattened later head) (Unless test (at + 1) ∷ [])))
+                (sym (map-append flat_row (flattened later head) (Unless test (at + 1) ∷ [])))
                 (free_both (behind_rows None (laid (at + 1) body)) (laid later head)
                 (flat_row (Unless test (at + 1)) ∷ [])
                 (before.reads all (owns_rest n a a b xs ys (omega arith) inside.within owns) later
@@ -407,9 +408,9 @@ module _ (free : ℕ → Bool) where
   pub scalar_free : (scalars : List ℕ) (k : ℕ) → list_all free scalars ≡ true →
       FreeTree (variable_code (slice_get scalars k))
   scalar_free [] k all = tt
-  scalar_free (s ∷ scalars) zero all = (both_true (free s) (list_all free scalars) all).0
+  scalar_free (s ∷ scalars) zero all = (and_parts (free s) (list_all free scalars) all).0
   scalar_free (s ∷ scalars) (suc k) all =
-      scalar_free scalars k (both_true (free s) (list_all free scalars) all).1
+      scalar_free scalars k (and_parts (free s) (list_all free scalars) all).1
 
   wrapping_free : (line : ℕ) (stored : Option Stored) (home : Region) (shift : List ℤ)
       (copy first : ℕ) → FreeTree (wrapping line stored home shift copy first).left

@@ -3,6 +3,7 @@
 use Rattle.std.proofs.Common.{◌≡◌, ◌⊎◌, inl, inr, ℕ, zero, suc, Bool, true, false, ◌&&◌, ◌||◌, not, if◌then◌else◌, List, [], ◌∷◌, ◌++◌, refl, sym, ap, ◌∙◌, subst}
 use Rattle.std.specs.Prelude.{Option, Some, None, IsSome, slice_get}
 use Rattle.std.specs.List.{list_all}
+use Rattle.std.proofs.lemmas.Bool.{and_parts, not-false}
 use Rattle.zpl_nums.specs.declared.operators.Op.{Op}
 use Rattle.zpl_tree.specs.Syntax.{Name, Expr, Number, Truth, Coord, Named, Shifted, Around, Remap, Call, Paren, Neg, Not, Abs, Pair, Reduce, Scan, Flood, Prefix, Stmt, Prefixed, Stmts, NoStmt, ThenStmt, Form, Assign, Invoke, Block, If, While, Repeat, For, Border, Write, Return, Arm, Tested, Arms, NoArm, ThenArm, Otherwise, NoElse, Else}
 use Rattle.zpl_names.specs.Kinds.{Rank}
@@ -24,7 +25,6 @@ use Rattle.lowering_fits.specs.of_zpl_lowering.Slate.{Slate, Settled, behind as 
 use Rattle.lowering_fits.specs.of_zpl_lowering.Hoist.{Free, Hoisted, behind, hoisted}
 use Rattle.lowering_fits.specs.of_zpl_lowering.Statement.{Inside, Elementwise, elementwise, put_member, put_thing, otherwise_members, stmt_inside, stmts_inside, form_inside, arms_inside, arm_inside, otherwise_inside}
 use Rattle.lowering_checks.specs.Reads.{FreeWords, FreeMembers}
-use Rattle.lowering_checks.proofs.KnownLemmas.{both_true}
 use Rattle.lowering_checks.proofs.FreeLemmas.{FreeTree, stored_free, scalar_free, tree_words}
 
 -- a site whose rank is known, and of a shattered statement that has what it may have
@@ -47,10 +47,6 @@ above (Some (suc rank)) other some either = refl
 none_then : (b : Bool) (xs : List ℕ) → b ≡ true → (if b then xs else []) ≡ [] → xs ≡ []
 none_then true xs is none = none
 none_then false xs is none = let no : ⊥ = cc in absurd no
-
-twice : (a : Bool) → not a ≡ false → a ≡ true
-twice true is = refl
-twice false is = let no : ⊥ = cc in absurd no
 
 plain_test : (a b c : Bool) → a ≡ true → (a && (not b || c)) ≡ false → b ≡ true
 plain_test true true c is none = refl
@@ -112,7 +108,7 @@ module _ (free : ℕ → Bool) (w : Where) (line : ℕ) (rank : Rank)
   tree_free next from (Not at operand) e = tree_free next from operand e
   tree_free next from (Abs at operand) e = tree_free next from operand e
   tree_free next from (Pair at op left right) e =
-      let are = both_true (is_elementwise left) (is_elementwise right) e in
+      let are = and_parts (is_elementwise left) (is_elementwise right) e in
       let first : Settled Slate = settled w line next rank left in
       let one : Hoisted Expression = hoisted w.numbers line from first.slate in (
         tree_free next from left are.0,
@@ -212,7 +208,7 @@ module _ (free : ℕ → Bool) (w : Where) (line : ℕ) (rank : Rank)
         let last = both_none (at_if (is_other_target (kind_at reach name) reach.shattered) at)
         (at_if (not (is_elementwise value)) (at_of value)) form.1 in
         let e : is_elementwise value ≡ true =
-        twice (is_elementwise value) (no_place (not (is_elementwise value)) (at_of value) last.1) in
+        not-false (is_elementwise value) (no_place (not (is_elementwise value)) (at_of value) last.1) in
         put_free (slotted_at w.currents rank).slot
         (elementwise w line next rank (assigned_expr name op value))
         (thing_of w.environment name.text)

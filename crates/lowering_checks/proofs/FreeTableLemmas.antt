@@ -3,6 +3,8 @@
 use Rattle.std.proofs.Common.{◌≡◌, ◌⊎◌, inl, inr, ℕ, ◌+◌, ◌==◌, ◌||◌, not, Bool, true, false, List, [], ◌∷◌, ◌++◌, map, length, refl, sym, ap, ap₂, ◌∙◌, subst, append_assoc}
 use Rattle.std.specs.Prelude.{◌≢◌, Contains, Option, Some, None, flat_map, slice_index_or}
 use Rattle.std.specs.List.{AllByRecursion, list_all, list_any}
+use Rattle.std.proofs.lemmas.Bool.{and_parts, and_from}
+use Rattle.std.proofs.lemmas.List.{map-append}
 use Rattle.node_form.specs.declared.arrays.Item.{Item}
 use Rattle.node_form.specs.declared.words.ExprOp.TheVariants as word
 use Rattle.node_form.specs.declared.members.Member as number
@@ -29,12 +31,10 @@ use Rattle.lowering_fits.specs.of_zpl_lowering.Tables.{empty_tables, flat_tables
 use Rattle.lowering_checks.specs.Walked.{Since, behind_row, behind_rows}
 use Rattle.lowering_checks.specs.Stands.{ReadsApart}
 use Rattle.lowering_checks.specs.Reads.{total_of, totals_in, totals_by, totals_of, is_free, FreeWords, FreeExprs, FreeMembers, MayRead, AreFree}
-use Rattle.lowering_checks.proofs.WalkLemmas.{map_both}
 use Rattle.lowering_checks.proofs.FreeLemmas.{words_both}
-use Rattle.lowering_checks.proofs.TableLemmas.{both_are, found, false_true}
+use Rattle.lowering_checks.proofs.TableLemmas.{found, false_true}
 use Rattle.lowering_checks.proofs.TotalLemmas.{members_put}
 use Rattle.lowering_checks.proofs.FreeWholeLemmas.{rows_read_free}
-use Rattle.lowering_checks.proofs.KnownLemmas.{both_true}
 
 module _ (free : ℕ → Bool) (tables : Tables) where
   expr_free : (expr : ℕ) → FreeWords free (words_at tables expr) →
@@ -92,7 +92,7 @@ module _ (free : ℕ → Bool) (tables : Tables) where
       Walk (behind_rows last (map (inlined tables) xs)) ys
   walk_rest last xs ys walk =
       free_rest last (map (inlined tables) xs) (map (inlined tables) ys)
-      (subst (AreFree free last) (map_both (inlined tables) xs ys) walk)
+      (subst (AreFree free last) (map-append (inlined tables) xs ys) walk)
 
   -- the group of a loop, seen inline
   abbrev seen : ℕ → List Member
@@ -161,7 +161,7 @@ module _ (free : ℕ → Bool) (tables : Tables) where
       list_all free (flat_map scalars_in words) ≡ true
   words_free [] are = refl
   words_free (word.Scalar scalar ∷ words) are =
-      both_are (free scalar) (list_all free (flat_map scalars_in words)) are.0
+      and_from (free scalar) (list_all free (flat_map scalars_in words)) are.0
       (words_free words are.1)
   words_free (one ∷ words) are = words_free words are.1
 
@@ -175,7 +175,7 @@ none_shared : (totals reads : List ℕ) → list_all (is_free totals) reads ≡ 
     share reads totals ≡ false
 none_shared totals [] all = refl
 none_shared totals (s ∷ reads) all =
-    let are = both_true (is_free totals s) (list_all (is_free totals) reads) all in
+    let are = and_parts (is_free totals s) (list_all (is_free totals) reads) all in
     by (list_any (λ total. s == total) totals) are.0 (none_shared totals reads are.1)
   where
     by : (b : Bool) → not b ≡ true → share reads totals ≡ false → (b || share reads totals) ≡ false

@@ -4,6 +4,7 @@ use Rattle.std.proofs.Common.{◌≡◌, inr, ℕ, zero, suc, ◌+◌, ◌==◌,
 use Rattle.std.specs.Prelude.{◌≢◌, ◌||◌, Option, Some, None, IsSome, Contains}
 use Rattle.std.specs.List.{list_all, list_any}
 use Rattle.std.proofs.lemmas.Bool.Decides.{Decides-eqb}
+use Rattle.std.proofs.lemmas.List.{map-append}
 use Rattle.zpl_tree.specs.Syntax.{Prefix, Form, Assign, Invoke, Block, If, While, Repeat, For, Border, Write, Return, Tested, Arms, NoArm, ThenArm, Program}
 use Rattle.zpl_names.specs.Kinds.{Rank}
 use Rattle.zpl_names.specs.Accepted.{HasKnownRank, IsFaultless}
@@ -30,7 +31,7 @@ use Rattle.lowering_fits.specs.of_zpl_lowering.Tables.{rows_of}
 use Rattle.lowering_checks.specs.Totals.{has_total}
 use Rattle.lowering_checks.specs.Walked.{behind_rows, laid}
 use Rattle.lowering_checks.specs.Reads.{totals_in, totals_of, is_free, FreeExprs, FreeMembers, AreFree}
-use Rattle.lowering_checks.proofs.WalkLemmas.{map_both, laid_rows, laid_then}
+use Rattle.lowering_checks.proofs.WalkLemmas.{laid_rows, laid_then}
 use Rattle.lowering_checks.proofs.SlateLemmas.{needs_quiet}
 use Rattle.lowering_checks.proofs.ShatterLemmas.{apart_quiet}
 use Rattle.lowering_checks.proofs.TotalLemmas.{form_none, masked_none}
@@ -150,18 +151,18 @@ totals_laid at (piece.When test body) = totals_laid (at + 1) body
 totals_laid at (piece.Choose test one other) =
     let start = at + size one + 2 in
     let leave = Jump (at + size one + size other + 2) in
-    ap totals_of (map_both flat_row (flattened (at + 1) one) (leave ∷ flattened start other))
+    ap totals_of (map-append flat_row (flattened (at + 1) one) (leave ∷ flattened start other))
     ∙ totals_both (laid (at + 1) one) (flat_row leave ∷ laid start other)
     ∙ ap₂ (λ xs ys. xs ++ ys) (totals_laid (at + 1) one) (totals_laid start other)
 totals_laid at (piece.While head test body) =
     let end = at + size head + size body + 2 in
     let start = at + size head + 1 in
     let back = Jump at ∷ [] in
-    ap totals_of (map_both flat_row (flattened at head) (Unless test end ∷ (flattened start body ++ back)))
+    ap totals_of (map-append flat_row (flattened at head) (Unless test end ∷ (flattened start body ++ back)))
     ∙ totals_both (laid at head)
     (map flat_row (Unless test end ∷ (flattened start body ++ back)))
     ∙ ap₂ (λ xs ys. xs ++ ys) (totals_laid at head)
-    (ap totals_of (map_both flat_row (flattened start body) back)
+    (ap totals_of (map-append flat_row (flattened start body) back)
     ∙ totals_both (laid start body) (map flat_row back)
     ∙ last (totals_of (laid start body)) ∙ totals_laid start body)
   where
@@ -171,10 +172,10 @@ totals_laid at (piece.While head test body) =
 totals_laid at (piece.Repeat body head test) =
     let later = at + size body + 1 in
     let back = Unless test (at + 1) ∷ [] in
-    ap totals_of (map_both flat_row (flattened (at + 1) body) (flattened later head ++ back))
+    ap totals_of (map-append flat_row (flattened (at + 1) body) (flattened later head ++ back))
     ∙ totals_both (laid (at + 1) body) (map flat_row (flattened later head ++ back))
     ∙ ap₂ (λ xs ys. xs ++ ys) (totals_laid (at + 1) body)
-    (ap totals_of (map_both flat_row (flattened later head) back)
+    (ap totals_of (map-append flat_row (flattened later head) back)
     ∙ totals_both (laid later head) (map flat_row back)
     ∙ last (totals_of (laid later head)) ∙ totals_laid later head)
   where

@@ -5,6 +5,7 @@ use Rattle.std.proofs.Common.{◌≡◌, ◌⊎◌, inl, inr, ℕ, suc, ◌+◌,
 use Rattle.std.specs.Prelude.{Option, Some, None, slice_get}
 use Rattle.std.specs.Ordering.{int_eq}
 use Rattle.std.proofs.lemmas.Bool.Decides.{Decides-int_eq}
+use Rattle.std.proofs.lemmas.Bool.{and_parts}
 use Rattle.zpl_nums.specs.Integer.{is_true}
 use Rattle.zpl_nums.specs.declared.operators.UnaryOp.{UnaryOp}
 use Rattle.zpl_nums.specs.declared.operators.UnaryOp.TheVariants as unary
@@ -32,7 +33,7 @@ use Rattle.lowering_fits.specs.of_zpl_lowering.Reference.{Reference, is_unmoved,
 use Rattle.lowering_fits.specs.of_zpl_lowering.Hoist.{Hoisted, Free, behind, neighbour_if, stored_element, unary_code, fold_rows, folding, kept_rows, part_folding, flooding, scan_with, scan_without, masked_scan, number_of, scanning, temps_from, three_of, rooms, index_puts, remap_code, remapping, border_vectors, border_rows, copy_rows, wrapping, mask_code, outside_code, trap_if, hoisted, all_hoisted}
 use Rattle.lowering_checks.specs.Walked.{IsKnown, Since, behind_rows, MayRun, AreChecked, laid, HasChecks}
 use Rattle.lowering_checks.proofs.WalkLemmas.{behind_both, laid_rows, laid_then, rows_check, then_check, when_check}
-use Rattle.lowering_checks.proofs.KnownLemmas.{both_true, AllKnown, all_left, all_right, KnowsTree}
+use Rattle.lowering_checks.proofs.KnownLemmas.{AllKnown, all_left, all_right, KnowsTree}
 use Rattle.lowering_checks.proofs.SlateLemmas.{IsThree, Reads, Fresh, AllFresh, AllQuiet, quiet_checked}
 
 -- ---- what stands behind code
@@ -95,9 +96,9 @@ unmoved_is (a ∷ []) long is = let no : ⊥ = omega (arith, long) in absurd no
 unmoved_is (a ∷ b ∷ []) long is = let no : ⊥ = omega (arith, long) in absurd no
 unmoved_is (a ∷ b ∷ c ∷ d ∷ shift) long is = let no : ⊥ = omega (arith, long) in absurd no
 unmoved_is (a ∷ b ∷ c ∷ []) long is =
-    let first = both_true (not (is_true a)) (is_unmoved (b ∷ c ∷ [])) is in
-    let second = both_true (not (is_true b)) (is_unmoved (c ∷ [])) first.1 in
-    let third = both_true (not (is_true c)) true second.1 in
+    let first = and_parts (not (is_true a)) (is_unmoved (b ∷ c ∷ [])) is in
+    let second = and_parts (not (is_true b)) (is_unmoved (c ∷ [])) first.1 in
+    let third = and_parts (not (is_true c)) true second.1 in
     ap (λ x. x ∷ b ∷ c ∷ []) (not_true a first.0)
     ∙ ap (λ x. pos 0 ∷ x ∷ c ∷ []) (not_true b second.0)
     ∙ ap (λ x. pos 0 ∷ pos 0 ∷ x ∷ []) (not_true c third.0)

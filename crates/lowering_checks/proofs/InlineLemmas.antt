@@ -1,6 +1,7 @@
 -- Each row of a program has its expressions, its group and its text in its place.
 use Rattle.std.proofs.Common.{ℕ, ◌+◌, List, [], ◌∷◌, ◌++◌, map, sym, subst}
 use Rattle.std.specs.Prelude.{Option, Some, None}
+use Rattle.std.proofs.lemmas.List.{map-append}
 use Rattle.zpl_tree.specs.Syntax.{Form, Program}
 use Rattle.zpl_names.specs.Sites.{tests_rank}
 use Rattle.zpl_binding.specs.Settings.{Setting}
@@ -23,7 +24,7 @@ use Rattle.lowering_fits.specs.of_zpl_lowering.Statement.{lowered_array, put_row
 use Rattle.lowering_fits.specs.of_zpl_lowering.Program.{lowered_program}
 use Rattle.lowering_fits.specs.of_zpl_lowering.Tables.{rows_of}
 use Rattle.lowering_checks.specs.Walked.{laid}
-use Rattle.lowering_checks.proofs.WalkLemmas.{map_both, laid_rows, laid_then}
+use Rattle.lowering_checks.proofs.WalkLemmas.{laid_rows, laid_then}
 use Rattle.lowering_checks.proofs.SlateLemmas.{AllQuiet, needs_quiet}
 use Rattle.lowering_checks.proofs.EachLemmas.{GoesAlong, phases_each, program_each, shattered_each}
 
@@ -73,7 +74,7 @@ along = record {
       let jump = flat_row (Jump (at + size one + size other + 2)) ∷ laid start other in (
         tt,
         subst AreInline
-            (sym (map_both flat_row (flattened (at + 1) one)
+            (sym (map-append flat_row (flattened (at + 1) one)
             (Jump (at + size one + size other + 2) ∷ flattened start other)))
             (both_inline (laid (at + 1) one) jump (first (at + 1)) (tt, second start)),
       );
@@ -82,11 +83,11 @@ along = record {
       let start = at + size head + 1 in
       let back = Jump at ∷ [] in
       subst AreInline
-      (sym (map_both flat_row (flattened at head) (Unless test end ∷ (flattened start body ++ back))))
+      (sym (map-append flat_row (flattened at head) (Unless test end ∷ (flattened start body ++ back))))
       (both_inline (laid at head)
       (map flat_row (Unless test end ∷ (flattened start body ++ back))) (before at) (
         tt,
-        subst AreInline (sym (map_both flat_row (flattened start body) back))
+        subst AreInline (sym (map-append flat_row (flattened start body) back))
             (both_inline (laid start body) (map flat_row back) (inside start) (tt, tt)),
       ));
   repeat = λ body head test inside before at.
@@ -94,10 +95,10 @@ along = record {
       let back = Unless test (at + 1) ∷ [] in (
         tt,
         subst AreInline
-            (sym (map_both flat_row (flattened (at + 1) body) (flattened later head ++ back)))
+            (sym (map-append flat_row (flattened (at + 1) body) (flattened later head ++ back)))
             (both_inline (laid (at + 1) body) (map flat_row (flattened later head ++ back))
             (inside (at + 1))
-            (subst AreInline (sym (map_both flat_row (flattened later head) back))
+            (subst AreInline (sym (map-append flat_row (flattened later head) back))
             (both_inline (laid later head) (map flat_row back) (before later) (tt, tt)))),
       );
   fold = λ numbers line scalar operator over operand.

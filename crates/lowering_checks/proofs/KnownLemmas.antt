@@ -1,10 +1,11 @@
 -- References that are known: each once in checks, and in the members of groups.
-use Rattle.std.proofs.Common.{◌≡◌, ℕ, ◌==◌, ◌&&◌, ◌||◌, not, Bool, true, false, ℤ, List, [], ◌∷◌, ◌++◌, map, filter, refl, sym, ap, ◌∙◌, subst, cond}
+use Rattle.std.proofs.Common.{◌≡◌, ℕ, ◌==◌, ◌&&◌, not, Bool, true, false, ℤ, List, [], ◌∷◌, ◌++◌, map, filter, refl, sym, ap, ◌∙◌, subst, cond}
 use Rattle.std.specs.Prelude.{Option, Some, None}
 use Rattle.std.specs.Cmp.Lexicographic.{pointwise}
 use Rattle.std.specs.Ordering.{int_eq}
 use Rattle.std.proofs.lemmas.Bool.Decides.{Decides-int_eq, Decides-eqb}
 use Rattle.std.proofs.lemmas.Slice.Eq.{slice_eq-Decides}
+use Rattle.std.proofs.lemmas.Bool.{and_parts, or_left, or_right}
 use Rattle.node_form.specs.declared.arrays.Item.{Item}
 use Rattle.node_form.specs.declared.words.ExprOp.{ExprOp}
 use Rattle.node_form.specs.declared.words.ExprOp.TheVariants as word
@@ -20,14 +21,6 @@ use Rattle.lowering_fits.specs.of_zpl_lowering.Reference.{Reference, each_once, 
 use Rattle.lowering_checks.specs.Walked.{IsKnown, KnowsWord, KnowsWords, KnowsMask, KnowsMember, KnowsMembers, Since, behind_rows}
 
 -- ---- an item among items
-
-pub or_left : (a b : Bool) → a ≡ true → (a || b) ≡ true
-or_left true b is = refl
-or_left false b is = let no : ⊥ = cc in absurd no
-
-pub or_right : (a b : Bool) → b ≡ true → (a || b) ≡ true
-or_right true b is = refl
-or_right false b is = is
 
 itself : (item : Item) → is_item item item ≡ true
 itself item =
@@ -114,12 +107,6 @@ pub all_right : (known : List Item) (xs ys : List Reference) → AllKnown known 
 all_right known [] ys all = all
 all_right known (x ∷ xs) ys all = all_right known xs ys all.1
 
-all_later : (item : Item) (known : List Item) (refs : List Reference) → AllKnown known refs →
-    AllKnown (item ∷ known) refs
-all_later item known [] all = tt
-all_later item known (one ∷ refs) all =
-    (known_later item (item_of one) known all.0, all_later item known refs all.1)
-
 -- behind their checks
 abbrev known_after : List Item → List Reference → List Item
 known_after known [] = known
@@ -140,26 +127,21 @@ all_after known (one ∷ refs) = (
 
 -- ---- each once
 
-pub both_true : (a b : Bool) → (a && b) ≡ true → (a ≡ true) × (b ≡ true)
-both_true true true is = (refl, refl)
-both_true true false is = let no : ⊥ = cc in absurd no
-both_true false b is = let no : ⊥ = cc in absurd no
-
 same_vector : (v w : List ℤ) → is_same_vector v w ≡ true → v ≡ w
 same_vector [] [] is = refl
 same_vector [] (d ∷ w) is = let no : ⊥ = cc in absurd no
 same_vector (d ∷ v) [] is = let no : ⊥ = cc in absurd no
 same_vector (d ∷ v) (e ∷ w) is =
-    let are = both_true (int_eq d e) (is_same_vector v w) is in
+    let are = and_parts (int_eq d e) (is_same_vector v w) is in
     let heads : d ≡ e = (Decides-int_eq d e).0 are.0 in
     let tails : v ≡ w = same_vector v w are.1 in
     ap (λ c. c ∷ v) heads ∙ ap (λ u. e ∷ u) tails
 
 same_item : (one other : Reference) → is_same one other ≡ true → item_of one ≡ item_of other
 same_item one other is =
-    let front = both_true ((one.slot == other.slot) && (one.array == other.array))
+    let front = and_parts ((one.slot == other.slot) && (one.array == other.array))
     (is_same_vector one.shift other.shift) is in
-    let are = both_true (one.slot == other.slot) (one.array == other.array) front.0 in
+    let are = and_parts (one.slot == other.slot) (one.array == other.array) front.0 in
     let slots : one.slot ≡ other.slot = (Decides-eqb one.slot other.slot).0 are.0 in
     let arrays : one.array ≡ other.array = (Decides-eqb one.array other.array).0 are.1 in
     let shifts : one.shift ≡ other.shift = same_vector one.shift other.shift front.1 in

@@ -2,6 +2,8 @@
 -- says, and so is that of each bracket's slot.
 use Rattle.std.proofs.Common.{◌≡◌, ◌⊎◌, inl, inr, ℕ, zero, suc, ◌+◌, ◌<◌, ◌≤◌, Bool, true, false, if◌then◌else◌, ℤ, pos, List, [], ◌∷◌, ◌++◌, map, take, length, refl, sym, ap, ◌∙◌, subst, arith, length-append, option_map, not, ◌&&◌, ◌||◌}
 use Rattle.std.specs.Prelude.{Option, Some, None, slice_get, get_or, option_and_then}
+use Rattle.std.proofs.lemmas.Bool.{or_parts}
+use Rattle.std.proofs.lemmas.Option.{same_Some}
 use Rattle.zpl_region.specs.declared.dims.Dim.{Dim}
 use Rattle.zpl_region.specs.declared.dims.Dim.TheVariants as dim
 use Rattle.zpl_region.specs.declared.regions.Region.{Region}
@@ -34,18 +36,14 @@ use Rattle.lowering_checks.proofs.AlikeLemmas.{Marks, Keeps, with_mark, mark_the
 
 -- ---- shapes that differ in no flood dimension
 
-or_false : (a b : Bool) → a || b ≡ false → (a ≡ false) × (b ≡ false)
-or_false true b is = absurd (let no : ⊥ = cc in no)
-or_false false b is = (refl, is)
-
 same_shapes : (shape own : Shape) → length shape ≡ length own → reaches_beyond shape own ≡ false →
     reaches_beyond own shape ≡ false → shape ≡ own
 same_shapes [] [] long one other = refl
 same_shapes [] (b ∷ own) long one other = absurd (omega (arith, long))
 same_shapes (b ∷ shape) [] long one other = absurd (omega (arith, long))
 same_shapes (flood ∷ shape) (b ∷ own) long one other =
-    let first = or_false (flood && not b) (reaches_beyond shape own) one in
-    let second = or_false (b && not flood) (reaches_beyond own shape) other in
+    let first = or_parts (flood && not b) (reaches_beyond shape own) one in
+    let second = or_parts (b && not flood) (reaches_beyond own shape) other in
     ap (λ c. c ∷ shape) (by flood b first.0 second.0)
     ∙ ap (λ cs. b ∷ cs) (same_shapes shape own (omega (arith, long)) first.1 second.1)
   where
@@ -217,7 +215,7 @@ slot_put marks n shapes slots are own is there free =
     || both_known reaches_beyond (Some own) (Some shape) ≡ false =
     subst (λ (o : Option Shape). both_known reaches_beyond o (Some own)
     || both_known reaches_beyond (Some own) o ≡ false) found.1 free in
-    let clash = or_false (reaches_beyond shape own) (reaches_beyond own shape) known in
+    let clash = or_parts (reaches_beyond shape own) (reaches_beyond own shape) known in
     subst (IsSlotOf marks n (slotted_at slots (Some k)))
     (same_shapes shape own found.2 clash.0 clash.1) found.3
 
@@ -266,9 +264,6 @@ module _ (marks : Marks) (n : ℕ) (current : Current) (slotted : Slotted)
       by None os f g e = cc
 
 -- ---- bounds that are known before the run
-
-some_same : {A : Type 0} (x y : A) → Some x ≡ Some y → x ≡ y
-some_same x y e = cc
 
 dims_front : (n : ℕ) (dims : List Dim) → length dims ≤ n → take (length dims) (dims_of n dims) ≡ dims
 dims_front n [] less = refl
@@ -403,7 +398,7 @@ module _ (w : Where) (marks : Marks) (n : ℕ)
       (if index then Some (false ∷ []) else region_shape (kind_of w.scope name)) ≡ Some shape →
       IsOpened marks n shape (name_opened index w n line slotted pre name post)
   name_opens true pre name post e =
-      filled_opened (false ∷ []) _ (some_same (false ∷ []) shape e)
+      filled_opened (false ∷ []) _ (same_Some (false ∷ []) shape e)
   name_opens false pre name post e =
       let one = declared name shape e in
       let below = one.below in
@@ -434,7 +429,7 @@ module _ (w : Where) (marks : Marks) (n : ℕ)
   name_constant true pre name post region e is =
       span_flood w.environment slotted (ThenDim (One (Named name.at name)) NoDim) region
       (omega arith) is
-      ∙ some_same (false ∷ []) shape e
+      ∙ same_Some (false ∷ []) shape e
   name_constant false pre name post region e is =
       let known = w.setup.known in
       let outcome = before known pre (behind known (region_named known name) post) in

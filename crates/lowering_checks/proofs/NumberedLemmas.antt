@@ -4,6 +4,7 @@ use Rattle.std.proofs.Common.{◌≡◌, ℕ, zero, suc, ◌+◌, ◌<◌, ◌�
 use Rattle.std.specs.Prelude.{Option, Some, None, cond, find, slice_get}
 use Rattle.std.specs.List.{list_all}
 use Rattle.std.specs.Str.{bytes_eq}
+use Rattle.std.proofs.lemmas.Bool.{and_parts, and_from}
 use Rattle.zpl_nums.specs.declared.operators.Op.{Op}
 use Rattle.zpl_nums.specs.declared.folds.Fold.{Fold}
 use Rattle.zpl_nums.specs.declared.folds.Fold.TheVariants as fold
@@ -53,8 +54,6 @@ use Rattle.lowering_fits.specs.of_zpl_lowering.Statement.{Given, Valued, Copied,
 use Rattle.lowering_fits.specs.of_zpl_lowering.Program.{Framed, with_scalar, with_array, Entry, zero_row, clear_row, made_copy, givens_code, names_code, locals_code, where_in, reads_round, in_call, routine_code, call_code, region_rows, scalars_from, globals_made, first_next, entry_calling, entry_code, lowered_program}
 use Rattle.zpl_meaning.proofs.DepthLemmas.{Each, each_left, each_right}
 use Rattle.lowering_fits.specs.Whole.{local_frame}
-use Rattle.lowering_checks.proofs.KnownLemmas.{both_true}
-use Rattle.lowering_checks.proofs.TableLemmas.{both_are}
 use Rattle.lowering_checks.proofs.SlateLemmas.{AllQuiet, quiet_both, each_quiet, all_conforming_quiet, needs_quiet, opened_quiet}
 use Rattle.lowering_checks.proofs.HoistLemmas.{borders_quiet}
 use Rattle.lowering_checks.proofs.AssignLemmas.{set_quiet, values_quiet, edges_quiet, prints_quiet}
@@ -385,21 +384,21 @@ all_left : {A : Type 0} (has : A → Bool) (xs ys : List A) → list_all has (xs
     list_all has xs ≡ true
 all_left has [] ys all = refl
 all_left has (x ∷ xs) ys all =
-    let are = both_true (has x) (list_all has (xs ++ ys)) all in
-    both_are (has x) (list_all has xs) are.0 (all_left has xs ys are.1)
+    let are = and_parts (has x) (list_all has (xs ++ ys)) all in
+    and_from (has x) (list_all has xs) are.0 (all_left has xs ys are.1)
 
 all_right : {A : Type 0} (has : A → Bool) (xs ys : List A) → list_all has (xs ++ ys) ≡ true →
     list_all has ys ≡ true
 all_right has [] ys all = all
 all_right has (x ∷ xs) ys all =
-    all_right has xs ys (both_true (has x) (list_all has (xs ++ ys)) all).1
+    all_right has xs ys (and_parts (has x) (list_all has (xs ++ ys)) all).1
 
 all_both : {A : Type 0} (has : A → Bool) (xs ys : List A) → list_all has xs ≡ true →
     list_all has ys ≡ true → list_all has (xs ++ ys) ≡ true
 all_both has [] ys first rest = rest
 all_both has (x ∷ xs) ys first rest =
-    let are = both_true (has x) (list_all has xs) first in
-    both_are (has x) (list_all has (xs ++ ys)) are.0 (all_both has xs ys are.1 rest)
+    let are = and_parts (has x) (list_all has xs) first in
+    and_from (has x) (list_all has (xs ++ ys)) are.0 (all_both has xs ys are.1 rest)
 
 referring_valued : (thing : Option Thing) (rest : List Given) →
     valued (referring thing ++ rest) ≡ valued rest
@@ -441,7 +440,7 @@ values_new has low high all w scalar [] actuals from to = refl
 values_new has low high all w scalar (formal ∷ formals) NoExpr from to = refl
 values_new has low high all w scalar (ScalarFormal false base ∷ formals) (ThenExpr first rest) from
     to =
-    both_are (has scalar) (list_all has (valued (given_to w (suc scalar) formals rest)))
+    and_from (has scalar) (list_all has (valued (given_to w (suc scalar) formals rest)))
     (all scalar from (omega (arith, to)))
     (values_new has low high all w (suc scalar) formals rest (omega (arith, from))
     (omega (arith, to)))
@@ -1036,10 +1035,10 @@ module _ (P : List ℕ → ℕ → ℕ → Piece Row Check → Type 0) (K : Rank
   givens_each v line (formal ∷ formals) (Valued scalar ∷ actuals) frame next rest has given each =
       givens_each v line formals actuals (with_scalar frame formal.name scalar) next rest
       (λ some all.
-      let are = both_true (some scalar) (list_all some (valued actuals)) (given some all) in
+      let are = and_parts (some scalar) (list_all some (valued actuals)) (given some all) in
       all_both some frame.numbers.scalars (scalar ∷ []) (has some all)
-      (both_are (some scalar) true are.0 refl))
-      (λ some all. (both_true (some scalar) (list_all some (valued actuals)) (given some all)).1)
+      (and_from (some scalar) true are.0 refl))
+      (λ some all. (and_parts (some scalar) (list_all some (valued actuals)) (given some all)).1)
       each
   givens_each v line (formal ∷ formals) (Referring thing ∷ actuals) frame next rest has given each =
       givens_each v line formals actuals
@@ -1067,7 +1066,7 @@ module _ (P : List ℕ → ℕ → ℕ → Piece Row Check → Type 0) (K : Rank
       (piece.Rows (zero_row entry next.scalars)) others.code (omega arith)
       (λ some all between.
       all_both some v (next.scalars ∷ []) all
-      (both_are (some next.scalars) true
+      (and_from (some next.scalars) true
       (between next.scalars (omega arith) (omega arith)) refl))
       (along.quiet v next.scalars 0 (zero_row entry next.scalars) (if_quiet entry.clears
       (row.Set next.scalars (words_of (Constant (pos 0))) entry.line ∷ []) (tt, tt)))
@@ -1157,7 +1156,7 @@ module _ (P : List ℕ → ℕ → ℕ → Piece Row Check → Type 0) (K : Rank
       list_all has (scalars_from k values) ≡ true
   globals_new has high k [] all few = refl
   globals_new has high k (value ∷ values) all few =
-      both_are (has k) (list_all has (scalars_from (suc k) values))
+      and_from (has k) (list_all has (scalars_from (suc k) values))
       (all k (omega arith) (omega (arith, few)))
       (globals_new has high (suc k) values all (omega (arith, few)))
 

@@ -1,6 +1,7 @@
 -- The loops of a program that put arrays are prepared for.
 use Rattle.std.proofs.Common.{◌≡◌, ℕ, suc, ◌+◌, ◌≤◌, Bool, true, false, List, [], ◌∷◌, ◌++◌, map, length, refl, sym, ap, ◌∙◌, subst, arith, length-append, append_assoc}
 use Rattle.std.specs.Prelude.{Option, Some, None, cond, slice_get}
+use Rattle.std.proofs.lemmas.List.{map-append}
 use Rattle.zpl_tree.specs.Syntax.{Stmt, Prefixed, Stmts, NoStmt, ThenStmt, Form, Assign, Invoke, Block, If, While, Repeat, For, Border, Write, Return, Arm, Tested, Arms, NoArm, ThenArm, Otherwise, NoElse, Else, Program}
 use Rattle.zpl_names.specs.Kinds.{Rank}
 use Rattle.zpl_names.specs.Sites.{tests_rank}
@@ -25,7 +26,7 @@ use Rattle.lowering_fits.specs.of_zpl_lowering.Program.{lowered_program}
 use Rattle.lowering_fits.specs.of_zpl_lowering.Tables.{rows_of}
 use Rattle.lowering_checks.specs.Walked.{laid}
 use Rattle.lowering_checks.specs.Prepared.{putting_in, prepared_in, ArePrepared}
-use Rattle.lowering_checks.proofs.WalkLemmas.{map_both, laid_rows, laid_then}
+use Rattle.lowering_checks.proofs.WalkLemmas.{laid_rows, laid_then}
 use Rattle.lowering_checks.proofs.SlateLemmas.{AllQuiet, quiet_both, each_quiet, all_conforming_quiet, needs_quiet}
 use Rattle.lowering_checks.proofs.EachLemmas.{GoesAlong, all_each, phases_each, program_each, shattered_each}
 
@@ -103,16 +104,16 @@ along = record {
       let jump = flat_row (Jump (at + size one + size other + 2)) ∷ laid start other in
       let whole : ArePrepared (laid (at + 1) one ++ jump) =
       both_prepared (laid (at + 1) one) jump (first (at + 1)) (omega (arith, second start)) in
-      let same = map_both flat_row (flattened (at + 1) one)
+      let same = map-append flat_row (flattened (at + 1) one)
       (Jump (at + size one + size other + 2) ∷ flattened start other) in
       omega (arith, whole, ap putting_in same, ap prepared_in same);
   while = λ head test body before inside at.
       let end = at + size head + size body + 2 in
       let start = at + size head + 1 in
       let back = Jump at ∷ [] in
-      let same = map_both flat_row (flattened at head)
+      let same = map-append flat_row (flattened at head)
       (Unless test end ∷ (flattened start body ++ back)) in
-      let also = map_both flat_row (flattened start body) back in
+      let also = map-append flat_row (flattened start body) back in
       let turn : ArePrepared (laid start body ++ map flat_row back) =
       both_prepared (laid start body) (map flat_row back) (inside start) (omega arith) in
       let later : ArePrepared (map flat_row (Unless test end ∷ (flattened start body ++ back))) =
@@ -125,8 +126,8 @@ along = record {
   repeat = λ body head test inside before at.
       let later = at + size body + 1 in
       let back = Unless test (at + 1) ∷ [] in
-      let same = map_both flat_row (flattened (at + 1) body) (flattened later head ++ back) in
-      let also = map_both flat_row (flattened later head) back in
+      let same = map-append flat_row (flattened (at + 1) body) (flattened later head ++ back) in
+      let also = map-append flat_row (flattened later head) back in
       let turn : ArePrepared (laid later head ++ map flat_row back) =
       both_prepared (laid later head) (map flat_row back) (before later) (omega arith) in
       let ends : ArePrepared (map flat_row (flattened later head ++ back)) =

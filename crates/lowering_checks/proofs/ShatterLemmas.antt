@@ -1,6 +1,7 @@
 -- Shattered statements: one loop, whose references are checked in front of it.
 use Rattle.std.proofs.Common.{◌≡◌, ℕ, Bool, true, false, List, [], ◌∷◌, ◌++◌, refl}
 use Rattle.std.specs.Prelude.{Option, Some, None, slice_get}
+use Rattle.std.proofs.lemmas.Bool.{and_parts}
 use Rattle.zpl_nums.specs.declared.operators.Op.{Op}
 use Rattle.zpl_tree.specs.Syntax.{Name, Expr, Number, Truth, Coord, Named, Shifted, Around, Remap, Call, Paren, Neg, Not, Abs, Pair, Reduce, Scan, Flood, Stmt, Prefixed, Stmts, NoStmt, ThenStmt, Form, Assign, Invoke, Block, If, While, Repeat, For, Border, Write, Return, Arm, Tested, Arms, NoArm, ThenArm, Otherwise, NoElse, Else}
 use Rattle.zpl_names.specs.Kinds.{Rank}
@@ -22,7 +23,7 @@ use Rattle.lowering_fits.specs.of_zpl_lowering.Hoist.{Free, Hoisted, behind, mas
 use Rattle.lowering_fits.specs.of_zpl_lowering.Statement.{Inside, both_inside, Elementwise, elementwise, put_member, put_thing, opening, otherwise_members, stmt_inside, stmts_inside, form_inside, arms_inside, arm_inside, otherwise_inside, masked_members, has_put, apart_rows, shattered}
 use Rattle.lowering_checks.specs.Walked.{KnowsWords, KnowsMask, KnowsMember, KnowsMembers, HasChecks}
 use Rattle.lowering_checks.proofs.WalkLemmas.{checked_both, rows_check, then_check}
-use Rattle.lowering_checks.proofs.KnownLemmas.{both_true, AllKnown, all_left, all_right, KnowsTree, tree_words}
+use Rattle.lowering_checks.proofs.KnownLemmas.{AllKnown, all_left, all_right, KnowsTree, tree_words}
 use Rattle.lowering_checks.proofs.SlateLemmas.{AllQuiet, quiet_checked, needs_quiet}
 use Rattle.lowering_checks.proofs.HoistLemmas.{element_known, variable_known}
 use Rattle.lowering_checks.proofs.PhaseLemmas.{mask_known, needs_run}
@@ -58,7 +59,7 @@ module _ (w : Where) (line : ℕ) (rank : Rank) (known : List Item) where
   tree_known next free (Not at operand) e all = tree_known next free operand e all
   tree_known next free (Abs at operand) e all = tree_known next free operand e all
   tree_known next free (Pair at op left right) e all =
-      let are = both_true (is_elementwise left) (is_elementwise right) e in
+      let are = and_parts (is_elementwise left) (is_elementwise right) e in
       let first : Settled Slate = settled w line next rank left in
       let rest : Settled Slate = settled w line (settled_behind next first) rank right in
       let one : Hoisted Expression = hoisted w.numbers line free first.slate in (

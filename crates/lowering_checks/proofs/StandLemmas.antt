@@ -3,20 +3,20 @@
 use Rattle.std.proofs.Common.{◌≡◌, ℕ, Bool, true, false, ◌&&◌, List, [], ◌∷◌, refl}
 use Rattle.std.specs.Prelude.{◌≢◌, not, flat_map}
 use Rattle.std.specs.List.{list_all, list_any}
+use Rattle.std.proofs.lemmas.Bool.{and_parts}
 use Rattle.node_form.specs.declared.tables.Tables.{Tables}
 use Rattle.code_parts.specs.Uses.{member_words, members_of, put_by, scalars_in, share}
 use Rattle.pass_parts.specs.of_fuse_contract.Fusing.{all_accumulated, are_like, are_put_alike, is_accumulating}
 use Rattle.pass_parts.specs.Checks.{StandsWithWhatFollows}
 use Rattle.lowering_checks.specs.Totals.{NoneAccumulates, FirstPuts}
 use Rattle.lowering_checks.specs.Stands.{ReadsApart, PutsAlike}
-use Rattle.lowering_checks.proofs.KnownLemmas.{both_true}
 
 first_alike : (tables : Tables) (firsts others : List ℕ) → firsts ≢ [] →
     list_all (λ array. list_all (are_like tables array) others) firsts ≡ true →
     are_put_alike tables firsts others ≡ true
 first_alike tables [] others some all = absurd (some refl)
 first_alike tables (array ∷ firsts) others some all =
-    (both_true (list_all (are_like tables array) others)
+    (and_parts (list_all (are_like tables array) others)
     (list_all (λ one. list_all (are_like tables one) others) firsts) all).0
 
 all_four : (a b c d : Bool) → a ≡ false → b ≡ false → c ≡ false → d ≡ true →

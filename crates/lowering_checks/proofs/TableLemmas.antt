@@ -1,8 +1,10 @@
 -- What the walk over rows says of tables that they are laid out in.
-use Rattle.std.proofs.Common.{◌≡◌, ◌⊎◌, inl, inr, ℕ, zero, suc, ◌&&◌, ◌||◌, Bool, true, false, List, [], ◌∷◌, ◌++◌, map, refl, sym, ◌∙◌, subst, append_assoc}
+use Rattle.std.proofs.Common.{◌≡◌, ◌⊎◌, inl, inr, ℕ, zero, suc, true, false, List, [], ◌∷◌, ◌++◌, map, refl, sym, ◌∙◌, subst, append_assoc}
 use Rattle.std.specs.Prelude.{Option, Some, None, flat_map, slice_get, slice_index_or}
 use Rattle.std.specs.List.{AllByRecursion, list_all}
 use Rattle.std.proofs.lemmas.List.Folds.{list_any-append}
+use Rattle.std.proofs.lemmas.Bool.{and_parts, or_left, or_right, and_from, or_cases}
+use Rattle.std.proofs.lemmas.List.{map-append}
 use Rattle.node_form.specs.declared.arrays.Item.{Item}
 use Rattle.node_form.specs.declared.words.ExprOp.TheVariants as word
 use Rattle.node_form.specs.declared.members.Member as number
@@ -16,34 +18,30 @@ use Rattle.pass_parts.specs.of_fuse_contract.Fusing.{reference, references_in, r
 use Rattle.pass_parts.specs.Checks.{ChecksWhatFollows, is_check, checked_by, checked_in, is_one_of}
 use Rattle.lowering_fits.specs.of_flat_form.Row.{Row, Words, words_at, member_inlined, inlined, all_inlined}
 use Rattle.lowering_checks.specs.Walked.{IsKnown, KnowsWords, KnowsMember, KnowsMembers, Since, behind_rows, AreChecked}
-use Rattle.lowering_checks.proofs.WalkLemmas.{checked_rest, map_both}
-use Rattle.lowering_checks.proofs.KnownLemmas.{or_left, or_right, both_true, words_both, members_grow}
+use Rattle.lowering_checks.proofs.WalkLemmas.{checked_rest}
+use Rattle.lowering_checks.proofs.KnownLemmas.{words_both, members_grow}
 
 -- ---- the references of a loop
 
 abbrev AllOne : List Item → List Item → Type 0
 AllOne known items = list_all (is_one_of known) items ≡ true
 
-pub both_are : (a b : Bool) → a ≡ true → b ≡ true → (a && b) ≡ true
-both_are true b first rest = rest
-both_are false b first rest = let no : ⊥ = cc in absurd no
-
 all_both : (known xs ys : List Item) → AllOne known xs → AllOne known ys → AllOne known (xs ++ ys)
 all_both known [] ys first rest = rest
 all_both known (x ∷ xs) ys first rest =
-    let are = both_true (is_one_of known x) (list_all (is_one_of known) xs) first in
-    both_are (is_one_of known x) (list_all (is_one_of known) (xs ++ ys)) are.0
+    let are = and_parts (is_one_of known x) (list_all (is_one_of known) xs) first in
+    and_from (is_one_of known x) (list_all (is_one_of known) (xs ++ ys)) are.0
     (all_both known xs ys are.1 rest)
 
 words_one : (known : List Item) (slot : ℕ) (words : Words) → KnowsWords known slot words →
     AllOne known (flat_map (references_in slot) words)
 words_one known slot [] knows = refl
 words_one known slot (word.Here array ∷ words) knows =
-    both_are (is_one_of known (reference slot array unmoved))
+    and_from (is_one_of known (reference slot array unmoved))
     (list_all (is_one_of known) (flat_map (references_in slot) words)) knows.0
     (words_one known slot words knows.1)
 words_one known slot (word.Shifted array shift ∷ words) knows =
-    both_are (is_one_of known (reference slot array shift))
+    and_from (is_one_of known (reference slot array shift))
     (list_all (is_one_of known) (flat_map (references_in slot) words)) knows.0
     (words_one known slot words knows.1)
 words_one known slot (one ∷ words) knows = words_one known slot words knows.1
@@ -123,7 +121,7 @@ module _ (tables : Tables) where
       AllOne known (map (λ array. reference slot array unmoved) (flat_map put_by group))
   puts_one known slot [] knows = refl
   puts_one known slot (member.Put array expr mask line ∷ group) knows =
-      both_are (is_one_of known (reference slot array unmoved))
+      and_from (is_one_of known (reference slot array unmoved))
       (list_all (is_one_of known)
       (map (λ array. reference slot array unmoved) (flat_map put_by group))) knows.0.0
       (puts_one known slot group knows.1)
@@ -148,7 +146,7 @@ module _ (tables : Tables) where
       Walk (behind_rows last (map (inlined tables) xs)) ys
   walk_rest last xs ys walk =
       checked_rest last (map (inlined tables) xs) (map (inlined tables) ys)
-      (subst (AreChecked last) (map_both (inlined tables) xs ys) walk)
+      (subst (AreChecked last) (map-append (inlined tables) xs ys) walk)
 
   gather : (slot other : ℕ) (back between : List Instr) (known : List Item) →
       AllByRecursion (λ row. is_check row ≡ true) between →
@@ -162,14 +160,10 @@ module _ (tables : Tables) where
   gather slot other back (one ∷ between) known checks walk =
       absurd (false_true checks.0)
 
-or_is : (a b : Bool) → (a || b) ≡ true → (a ≡ true) ⊎ (b ≡ true)
-or_is true b is = inl refl
-or_is false b is = inr is
-
 known_either : (xs ys : List Item) (item : Item) → IsKnown (xs ++ ys) item →
     IsKnown xs item ⊎ IsKnown ys item
 known_either xs ys item is =
-    or_is (is_one_of xs item) (is_one_of ys item)
+    or_cases (is_one_of xs item) (is_one_of ys item)
     (sym (list_any-append (is_item item) xs ys) ∙ is)
 
 known_left : (xs ys : List Item) (item : Item) → IsKnown xs item → IsKnown (xs ++ ys) item

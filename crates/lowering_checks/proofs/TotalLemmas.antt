@@ -2,6 +2,7 @@
 use Rattle.std.proofs.Common.{◌≡◌, ℕ, suc, ◌+◌, Bool, true, false, List, [], ◌∷◌, ◌++◌, map, refl, sym, ap₂, ◌∙◌, subst, append_assoc}
 use Rattle.std.specs.Prelude.{◌≢◌, Option, Some, None, flat_map, slice_get, slice_index_or}
 use Rattle.std.specs.List.{AllByRecursion, list_any}
+use Rattle.std.proofs.lemmas.List.{map-append}
 use Rattle.zpl_tree.specs.Syntax.{Stmt, Prefixed, Stmts, NoStmt, ThenStmt, Form, Assign, Invoke, Block, If, While, Repeat, For, Border, Write, Return, Arm, Tested, Arms, NoArm, ThenArm, Otherwise, NoElse, Else, Program}
 use Rattle.zpl_names.specs.Kinds.{Rank}
 use Rattle.zpl_names.specs.Sites.{tests_rank}
@@ -35,7 +36,7 @@ use Rattle.lowering_fits.proofs.of_zpl_lowering.PutLemmas.{masked_put}
 use Rattle.lowering_fits.specs.of_zpl_lowering.Tables.{rows_of}
 use Rattle.lowering_checks.specs.Walked.{laid}
 use Rattle.lowering_checks.specs.Totals.{has_total, behind_plain, behind_one, behind_all, MayLead, MayFollow, AreApart, NoneAccumulates, FirstPuts}
-use Rattle.lowering_checks.proofs.WalkLemmas.{map_both, laid_rows, laid_then}
+use Rattle.lowering_checks.proofs.WalkLemmas.{laid_rows, laid_then}
 use Rattle.lowering_checks.proofs.SlateLemmas.{AllQuiet, needs_quiet}
 use Rattle.lowering_checks.proofs.TableLemmas.{found, false_true}
 use Rattle.lowering_checks.proofs.EachLemmas.{GoesAlong, phases_each, program_each}
@@ -153,7 +154,7 @@ along = record {
       let leave = flat_row (Jump (at + size one + size other + 2)) in
       jump_over (flat_row (Unless test start)) _ (tt, tt)
       (subst AreOver
-      (sym (map_both flat_row (flattened (at + 1) one)
+      (sym (map-append flat_row (flattened (at + 1) one)
       (Jump (at + size one + size other + 2) ∷ flattened start other)))
       (both_over (laid (at + 1) one) (leave ∷ laid start other) (first (at + 1))
       (jump_over leave (laid start other) (tt, tt) (second start))));
@@ -162,11 +163,11 @@ along = record {
       let start = at + size head + 1 in
       let back = Jump at ∷ [] in
       subst AreOver
-      (sym (map_both flat_row (flattened at head) (Unless test end ∷ (flattened start body ++ back))))
+      (sym (map-append flat_row (flattened at head) (Unless test end ∷ (flattened start body ++ back))))
       (both_over (laid at head)
       (map flat_row (Unless test end ∷ (flattened start body ++ back))) (before at)
       (jump_over (flat_row (Unless test end)) (map flat_row (flattened start body ++ back)) (tt, tt)
-      (subst AreOver (sym (map_both flat_row (flattened start body) back))
+      (subst AreOver (sym (map-append flat_row (flattened start body) back))
       (both_over (laid start body) (map flat_row back) (inside start)
       (quiet_over (map flat_row back) (tt, tt))))));
   repeat = λ body head test inside before at.
@@ -174,10 +175,10 @@ along = record {
       let back = Unless test (at + 1) ∷ [] in
       jump_over (flat_row (Jump later)) _ (tt, tt)
       (subst AreOver
-      (sym (map_both flat_row (flattened (at + 1) body) (flattened later head ++ back)))
+      (sym (map-append flat_row (flattened (at + 1) body) (flattened later head ++ back)))
       (both_over (laid (at + 1) body) (map flat_row (flattened later head ++ back))
       (inside (at + 1))
-      (subst AreOver (sym (map_both flat_row (flattened later head) back))
+      (subst AreOver (sym (map-append flat_row (flattened later head) back))
       (both_over (laid later head) (map flat_row back) (before later)
       (quiet_over (map flat_row back) (tt, tt))))));
   fold = λ numbers line scalar operator over operand.
@@ -408,7 +409,7 @@ module _ (tables : Tables) where
       Walk (behind_all last (map (inlined tables) xs)) ys
   walk_rest last xs ys walk =
       apart_rest last (map (inlined tables) xs) (map (inlined tables) ys)
-      (subst (AreApart last) (map_both (inlined tables) xs ys) walk)
+      (subst (AreApart last) (map-append (inlined tables) xs ys) walk)
 
   group_puts : (group : List number.Member) →
       has_put (map (member_inlined tables) group) ≡ true → flat_map put_by group ≢ []

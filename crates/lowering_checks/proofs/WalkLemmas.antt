@@ -1,6 +1,7 @@
 -- The walk over rows goes part by part, and over structured code piece by piece.
 use Rattle.std.proofs.Common.{◌≡◌, ℕ, ◌+◌, List, [], ◌∷◌, ◌++◌, map, refl, sym, ap, subst}
 use Rattle.std.specs.Prelude.{Option, None}
+use Rattle.std.proofs.lemmas.List.{map-append}
 use Rattle.row_runs.specs.Code.{Jump, Unless}
 use Rattle.row_runs.specs.Structured as piece
 use Rattle.row_runs.specs.Structured.{Piece, flattened, size}
@@ -26,11 +27,6 @@ pub behind_both : (last : Option Since) (xs ys : List Row) →
 behind_both last [] ys = refl
 behind_both last (x ∷ xs) ys = behind_both (behind_row last x) xs ys
 
-pub map_both : {A B : Type 0} (f : A → B) (xs ys : List A) →
-    map f (xs ++ ys) ≡ map f xs ++ map f ys
-map_both f [] ys = refl
-map_both f (x ∷ xs) ys = ap (λ rest. f x ∷ rest) (map_both f xs ys)
-
 -- ---- structured code
 
 pub laid_rows : (at : ℕ) (rows : List Row) → laid at (piece.Rows rows) ≡ rows
@@ -39,7 +35,7 @@ laid_rows at (one ∷ rows) = ap (λ rest. one ∷ rest) (laid_rows at rows)
 
 pub laid_then : (at : ℕ) (first rest : Piece Row Check) →
     laid at (piece.Then first rest) ≡ laid at first ++ laid (at + size first) rest
-laid_then at first rest = map_both flat_row (flattened at first) (flattened (at + size first) rest)
+laid_then at first rest = map-append flat_row (flattened at first) (flattened (at + size first) rest)
 
 -- rows that are right whatever stands before them
 pub rows_check : (rows : List Row) → ((last : Option Since) → AreChecked last rows) →
@@ -69,7 +65,7 @@ pub choose_check : (test : Check) (one other : Piece Row Check) → HasChecks on
 choose_check test one other first second at last = (
   tt,
   subst (AreChecked None)
-      (sym (map_both flat_row (flattened (at + 1) one)
+      (sym (map-append flat_row (flattened (at + 1) one)
       (Jump (at + size one + size other + 2) ∷ flattened (at + size one + 2) other)))
       (checked_both None (laid (at + 1) one)
       (flat_row (Jump (at + size one + size other + 2)) ∷ laid (at + size one + 2) other)
@@ -82,13 +78,13 @@ while_check head test body before inside at last =
     let end = at + size head + size body + 2 in
     let start = at + size head + 1 in
     subst (AreChecked last)
-    (sym (map_both flat_row (flattened at head)
+    (sym (map-append flat_row (flattened at head)
     (Unless test end ∷ (flattened start body ++ Jump at ∷ []))))
     (checked_both last (laid at head)
     (flat_row (Unless test end) ∷ map flat_row (flattened start body ++ Jump at ∷ []))
     (before at last) (
       tt,
-      subst (AreChecked None) (sym (map_both flat_row (flattened start body) (Jump at ∷ [])))
+      subst (AreChecked None) (sym (map-append flat_row (flattened start body) (Jump at ∷ [])))
           (checked_both None (laid start body) (flat_row (Jump at) ∷ []) (inside start None) (tt, tt)),
     ))
 
@@ -98,12 +94,12 @@ repeat_check body head test inside before at last =
     let later = at + size body + 1 in (
       tt,
       subst (AreChecked None)
-          (sym (map_both flat_row (flattened (at + 1) body)
+          (sym (map-append flat_row (flattened (at + 1) body)
           (flattened later head ++ Unless test (at + 1) ∷ [])))
           (checked_both None (laid (at + 1) body)
           (map flat_row (flattened later head ++ Unless test (at + 1) ∷ [])) (inside (at + 1) None)
           (subst (AreChecked (behind_rows None (laid (at + 1) body)))
-          (sym (map_both flat_row (flattened later head) (Unless test (at + 1) ∷ [])))
+          (sym (map-append flat_row (flattened later head) (Unless test (at + 1) ∷ [])))
           (checked_both (behind_rows None (laid (at + 1) body)) (laid later head)
           (flat_row (Unless test (at + 1)) ∷ [])
           (before later (behind_rows None (laid (at + 1) body))) (tt, tt)))),

@@ -2,6 +2,7 @@
 use Rattle.std.proofs.Common.{◌≡◌, ℕ, suc, ◌+◌, ◌<◌, Bool, true, false, List, [], ◌∷◌, ◌++◌, length, refl, sym, ap, ◌∙◌, subst, arith}
 use Rattle.std.specs.Prelude.{Option, Some, None, slice_get, Contains}
 use Rattle.std.specs.Option.{IsSomeAnd}
+use Rattle.std.proofs.lemmas.List.Elements.{Contains-append_left, Contains-append_right}
 use Rattle.zpl_nums.specs.declared.operators.Op.{Op}
 use Rattle.meaning_ranks.specs.of_zpl_tree.Syntax.{Name, Expr, Number, Truth, Coord, Named, Shifted, Around, Remap, Call, Paren, Neg, Not, Abs, Pair, Reduce, Scan, Flood, Exprs, NoExpr, ThenExpr, Prefix, ForHead, Stmt, Prefixed, Stmts, NoStmt, ThenStmt, Form, Assign, Invoke, Block, If, While, Repeat, For, Border, Write, Return, Tested, Arms, NoArm, ThenArm, Otherwise, NoElse, Else}
 use Rattle.meaning_ranks.specs.of_zpl_names.Kinds.{Formal, ScalarFormal, ArrayFormal}
@@ -30,7 +31,7 @@ use Rattle.lowering_fits.specs.Inline.{FitsScalar, FitRows, FitsPiece}
 use Rattle.lowering_fits.specs.Reach.{place_at, HasFlatRemaps, HaveFlatRemaps, IsReach}
 use Rattle.lowering_fits.specs.Lowerings.{IsLaidOut, FitsLowered, IsSoundStmt, AreSoundStmts, IsSoundForm, AreSoundArms, IsSoundElse}
 use Rattle.lowering_fits.specs.Standing.{HasAnswer, calling_of, CallsFit, IsStanding}
-use Rattle.lowering_fits.proofs.PartLemmas.{contains_first, contains_later, contains_left, contains_right, AreRight}
+use Rattle.lowering_fits.proofs.PartLemmas.{contains_first, contains_later, AreRight}
 use Rattle.lowering_fits.proofs.TreeLemmas.{scalar_tree, IsBelow, below_at}
 use Rattle.lowering_fits.proofs.SlateLemmas.{set_fits}
 use Rattle.lowering_fits.proofs.BracketLemmas.{LimitsAreTold}
@@ -154,9 +155,6 @@ lefts_count base (one ∷ placed) (first ∷ rest) fits =
 
 module _ (limits : LimitsAreTold) (base : Tables) (w : Where) (result : ℕ) (currents : Currents)
     (edge : Option Edge) (reach : IsReach base w currents) where
-  abbrev pub Here : Place
-  Here = place_at w result currents edge
-
   -- ---- assignments
 
   flat_assigned : (name : Name) (op : Option Op) (value : Expr) → HasFlatRemaps w.scope value →
@@ -582,10 +580,10 @@ mutual
       (λ tests ranks laid'. arms_fit base setup call with_all answers w result currents edge stands
       next at arms otherwise (λ after. lowered_otherwise context after otherwise)
       (λ part in_it. held part
-      (contains_left (arms_parts arms) (else_parts otherwise) part in_it)) tests ranks sound.0
+      (Contains-append_left (arms_parts arms) (else_parts otherwise) part in_it)) tests ranks sound.0
       (λ after laid''. otherwise_fits base setup call with_all answers w result currents edge stands
       after otherwise (λ part in_it. held part
-      (contains_right (arms_parts arms) (else_parts otherwise) part in_it)) sound.1 laid'')
+      (Contains-append_right (arms_parts arms) (else_parts otherwise) part in_it)) sound.1 laid'')
       laid') laid
   form_fits base setup call with_all answers w result currents edge stands next at
       (While test body) start whole prefixes visited under proper ranked sound laid =
@@ -667,11 +665,11 @@ mutual
       ranks.0 sound.0.0)
       (λ after. all_fit base setup call with_all answers w result currents edge stands after body
       (λ part in_it. visited part
-      (contains_left (list_of body) (arms_parts rest) part in_it)) sound.0.1)
+      (Contains-append_left (list_of body) (arms_parts rest) part in_it)) sound.0.1)
       (λ after. arms_fit base setup call with_all answers w result currents edge stands after
       (arms_at rest) rest otherwise last
       (λ part in_it. visited part
-      (contains_right (list_of body) (arms_parts rest) part in_it)) tests.1 ranks.1 sound.1 lasts)
+      (Contains-append_right (list_of body) (arms_parts rest) part in_it)) tests.1 ranks.1 sound.1 lasts)
       laid
 
   otherwise_fits : (base : Tables) (setup : Setup) (call : Calling → Next → Lowered) →

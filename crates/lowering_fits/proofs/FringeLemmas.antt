@@ -5,7 +5,7 @@ use Rattle.std.specs.List.{AllByRecursion}
 use Rattle.std.specs.Option.{IsSomeAnd}
 use Rattle.std.specs.Ordering.{int_eq}
 use Rattle.std.proofs.lemmas.Int.{ints, clamps}
-use Rattle.std.proofs.lemmas.Bool.{eq-eqb}
+use Rattle.std.proofs.lemmas.Bool.{eq-eqb, and_from}
 use Rattle.std.proofs.lemmas.List.Elements.{All-head, All-tail}
 use Rattle.zpl_region.specs.declared.dims.Dim.{Dim}
 use Rattle.zpl_region.specs.declared.dims.Dim.TheVariants as dim
@@ -134,15 +134,11 @@ copy_level home v =
 
 -- ---- shifts within fringes
 
-both_hold : (a b : Bool) → a ≡ true → b ≡ true → (a && b) ≡ true
-both_hold true b first second = second
-both_hold false b first second = let no : ⊥ = cc in absurd no
-
 between : (low d high : ℤ) (rest : Bool) → neg_ℤ low ≤ℤ d → d ≤ℤ high → rest ≡ true →
     (int_le (neg_ℤ low) d && int_le d high && rest) ≡ true
 between low d high rest above below holds =
-    both_hold (int_le (neg_ℤ low) d && int_le d high) rest
-    (both_hold (int_le (neg_ℤ low) d) (int_le d high) (test_from_le (neg_ℤ low) d above)
+    and_from (int_le (neg_ℤ low) d && int_le d high) rest
+    (and_from (int_le (neg_ℤ low) d) (int_le d high) (test_from_le (neg_ℤ low) d above)
     (test_from_le d high below)) holds
 
 abbrev AllZero : List ℤ → Type 0
@@ -178,7 +174,7 @@ dims_hold (suc rank) (dim.Flood ∷ dims) (array.Range lo hi low high ∷ rows) 
     between low d high (is_in_fringe rows shift) covered.0.0 covered.0.1
     (dims_hold rank dims rows shift are covered.1 level.1 past)
 dims_hold (suc rank) (dim.Flood ∷ dims) (array.Star ∷ rows) (d ∷ shift) are covered level past =
-    both_hold (int_eq d (pos 0)) (is_in_fringe rows shift)
+    and_from (int_eq d (pos 0)) (is_in_fringe rows shift)
     (ap (λ e. int_eq e (pos 0)) level.0) (dims_hold rank dims rows shift are covered level.1 past)
 
 pub within_fringe : (tables : Tables) (rank array : ℕ) (storage : Region) (shift : List ℤ) →

@@ -158,10 +158,6 @@ components_count zero parts = refl
 components_count (suc n) [] = ap suc (components_count n [])
 components_count (suc n) (part ∷ parts) = ap suc (components_count n parts)
 
-none_out : (rank : Rank) → IsOut rank (Gives (three_components []))
-none_out None = tt
-none_out (Some rank) = (zeros_fit rank 3, refl)
-
 abbrev HasCount : ℕ → Outcome (List ℤ) → Type 0
 HasCount n (Gives parts) = length parts ≡ n
 HasCount n (Fails fault) = Unit {0}

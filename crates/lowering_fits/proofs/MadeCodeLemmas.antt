@@ -25,12 +25,6 @@ in_order xs ys = record {
   calls = λ n. calls_append n xs ys;
 }
 
-pub swapped : (xs ys : List Site) → IsOf (xs ++ ys) ys xs
-swapped xs ys = record {
-  reads = rounds_append xs ys ∙ omega arith;
-  calls = λ n. calls_append n xs ys ∙ omega arith;
-}
-
 -- what code has of its own is what sites ask for: by the calls' names so many arrays, and so many
 -- behind the copies of the procedure
 pub record IsMade (Fine : Region → Type 0) (arrays_of later_of : List ℕ → ℕ) (sites : List Site)

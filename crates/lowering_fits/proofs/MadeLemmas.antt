@@ -1,7 +1,8 @@
 -- What the code of expressions and statements has of its own: a copy for each read that wraps round
 -- in the text, and in its calls what these have.
-use Rattle.std.proofs.Common.{◌≡◌, ℕ, Bool, true, false, ◌&&◌, List, [], ◌∷◌, ◌++◌, length, refl, sym, ◌∙◌, subst, arith, length-append}
+use Rattle.std.proofs.Common.{◌≡◌, ℕ, true, List, [], ◌∷◌, ◌++◌, length, refl, sym, ◌∙◌, subst, arith, length-append}
 use Rattle.std.specs.Prelude.{Option, Some, None}
+use Rattle.std.proofs.lemmas.Bool.{and_parts}
 use Rattle.zpl_region.specs.declared.regions.Region.{Region}
 use Rattle.stored_shifts.specs.of_zpl_arrays.Around.{copy_storage}
 use Rattle.meaning_ranks.specs.of_zpl_tree.Syntax.{Name, Expr, Number, Truth, Coord, Named, Shifted, Around, Remap, Call, Paren, Neg, Not, Abs, Pair, Reduce, Scan, Flood, Exprs, NoExpr, ThenExpr, Dir, Inner, Rexpr, Dims, NoBracket, Bracketed, Blank, Star, One, Span, DimTexts, NoDim, ThenDim}
@@ -108,10 +109,6 @@ mutual
 
 -- ---- elementwise expressions ask for nothing
 
-both_true : (a b : Bool) → (a && b) ≡ true → (a ≡ true) × (b ≡ true)
-both_true true b is = (refl, is)
-both_true false b is = let no : ⊥ = cc in absurd no
-
 pub elementwise_silent : (reach : Reach) (rank : Rank) (one : Expr) → is_elementwise one ≡ true →
     IsSilent (expr_sites reach rank one)
 elementwise_silent reach rank (Number at value) is = record { reads = refl; calls = λ n. refl }
@@ -131,7 +128,7 @@ elementwise_silent reach rank (Abs at operand) is =
     let later = elementwise_silent reach rank operand is in
     record { reads = later.reads; calls = later.calls }
 elementwise_silent reach rank (Pair at op left right) is =
-    let are = both_true (is_elementwise left) (is_elementwise right) is in
+    let are = and_parts (is_elementwise left) (is_elementwise right) is in
     let later = silent_both (expr_sites reach rank left) (expr_sites reach rank right)
     (elementwise_silent reach rank left are.0) (elementwise_silent reach rank right are.1) in
     record { reads = later.reads; calls = later.calls }

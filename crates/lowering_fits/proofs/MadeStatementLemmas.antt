@@ -4,6 +4,7 @@ use Rattle.std.proofs.Common.{◌≡◌, ℕ, ◌+◌, Bool, true, false, List, 
 use Rattle.std.specs.Prelude.{Option, Some, None, Contains}
 use Rattle.std.specs.Option.{option_to_list}
 use Rattle.std.specs.List.{flat_map}
+use Rattle.std.proofs.lemmas.List.Elements.{Contains-append_left, Contains-append_right}
 use Rattle.stored_shifts.specs.of_node_form.Expression.{Variable}
 use Rattle.zpl_region.specs.declared.regions.Region.{Region}
 use Rattle.stored_shifts.specs.of_zpl_arrays.Around.{copy_storage}
@@ -33,7 +34,7 @@ use Rattle.lower_numbers.specs.of_zpl_lowering.Lowered.{Lowered, rows_alone, beh
 use Rattle.lower_numbers.specs.of_zpl_lowering.Statement.{Calling, Lowering, placed_in, Testing, test_of, with_values, value_rows, lowered_borders, is_border, prefix_opened, current_for, under_prefix, of_opened, is_last, lowered_under, head_exprs, counter_from, counted, lowered_for, scalar_of, set_row, printed_exprs, items_of, of_prints, lowered_write, shattered, choose_code, chosen, when, while_code, repeat_code, ends_arms, lowered, lowered_all, lowered_form, lowered_arms, lowered_arm, lowered_otherwise}
 use Rattle.lowering_fits.specs.Reach.{place_at}
 use Rattle.lowering_fits.specs.Standing.{calling_of}
-use Rattle.lowering_fits.proofs.PartLemmas.{AreRight, contains_first, contains_later, contains_left, contains_right}
+use Rattle.lowering_fits.proofs.PartLemmas.{AreRight, contains_first, contains_later}
 use Rattle.lowering_fits.proofs.TallyLemmas.{rounds_append, calls_append, IsSilent, no_sites, silent_both, region_silent}
 use Rattle.lowering_fits.proofs.MadeLemmas.{inner_tame, IsSettled, all_clean}
 use Rattle.lowering_fits.proofs.MadeCodeLemmas.{in_order, IsMade, nothing_made, joined_made, recoded_made, behind_made, before_made, silent_made, phased_made, no_settled, first_settled, one_settled}
@@ -493,11 +494,11 @@ module _ (Fine : Region → Type 0) (arrays_of later_of : List ℕ → ℕ) (set
         (λ tests. arms_made w here result currents edge next at reach within arms otherwise
         (λ after. lowered_otherwise context after otherwise)
         (λ part in_it. held part
-        (contains_left (arms_parts arms) (else_parts otherwise) part in_it)) tests
+        (Contains-append_left (arms_parts arms) (else_parts otherwise) part in_it)) tests
         (each_left Good xs ys good)
         (λ after. otherwise_made w here result currents edge after within otherwise
         (λ part in_it. held part
-        (contains_right (arms_parts arms) (else_parts otherwise) part in_it))
+        (Contains-append_right (arms_parts arms) (else_parts otherwise) part in_it))
         (each_right Good xs ys good)))
     form_made w here result currents edge next at reach (While test body) start whole prefixes
         visited under proper ranked good =
@@ -596,11 +597,11 @@ module _ (Fine : Region → Type 0) (arrays_of later_of : List ℕ → ℕ) (set
         (test_made w here result currents edge next reach test at tests.0
         (each_left Good xs ys first))
         (λ after. all_made w here result currents edge after within body
-        (λ part in_it. visited part (contains_left (list_of body) (arms_parts rest) part in_it))
+        (λ part in_it. visited part (Contains-append_left (list_of body) (arms_parts rest) part in_it))
         (each_right Good xs ys first))
         (λ after. arms_made w here result currents edge after (arms_at rest) reach within rest
         otherwise last
-        (λ part in_it. visited part (contains_right (list_of body) (arms_parts rest) part in_it))
+        (λ part in_it. visited part (Contains-append_right (list_of body) (arms_parts rest) part in_it))
         tests.1 (each_right Good (xs ++ ys) zs good) lasts))
 
     otherwise_made : (w : Where) → Here w → (result : ℕ) (currents : Currents)

@@ -16,6 +16,7 @@ use Rattle.meaning_ranks.specs.of_zpl_names.Expansion.{FormalName, formal_names,
 use Rattle.meaning_ranks.specs.of_zpl_names.Sites.{Reach, AtExpr, routine_sites}
 use Rattle.std.specs.Str.{bytes_eq}
 use Rattle.std.proofs.lemmas.List.{length-map}
+use Rattle.std.proofs.lemmas.Bool.{not-false}
 use Rattle.meaning_ranks.proofs.of_zpl_names.ListLemmas.{Among}
 use Rattle.meaning_ranks.specs.of_zpl_binding.Settings.{Setting}
 use Rattle.meaning_ranks.specs.of_zpl_meaning.Store.{Scalar, ArrayAt, Fixed, Names, Environment, thing_of}
@@ -50,7 +51,6 @@ use Rattle.meaning_ranks.specs.of_zpl_binding.Storages.{Border, borders_of}
 use Rattle.meaning_ranks.specs.of_zpl_meaning.Context.{no_currents}
 use Rattle.meaning_ranks.specs.of_zpl_meaning.Program.{first_frame}
 use Rattle.meaning_ranks.specs.of_zpl_meaning.Variables.{with_scalar_named, with_array_named, with_thing, with_name, with_names, with_values, with_declared, with_declarations, empty_frame}
-use Rattle.meaning_ranks.proofs.of_zpl_meaning.ProperLemmas.{not_false}
 use Rattle.meaning_ranks.proofs.of_zpl_meaning.VisitLemmas.{none_there}
 use Rattle.lower_numbers.specs.of_zpl_lowering.Lowered.{behind as behind_of}
 use Rattle.lower_numbers.specs.of_zpl_lowering.Program.{global_numbers, globals_made, scalars_from, arrays_from, first_next, entry_calling, entry_code, lowered_program}
@@ -199,7 +199,7 @@ pub entry_is_bare : (program : Program) → IsFaultless program → (entry : Rou
 entry_is_bare program clean entry is =
     bare_none entry.procedure.params entry.procedure.result
     (ap is_entry (sym is)
-    ∙ not_false (is_entry (entry_of program))
+    ∙ not-false (is_entry (entry_of program))
     (no_place (not (is_entry (entry_of program))) program.name.at
     (none_there (no_entry program) (λ at c. clean NoEntry at c))))
 
@@ -215,7 +215,7 @@ pub entry_has_no_result : (program : Program) → IsFaultless program → (entry
 entry_has_no_result program clean entry is =
     no_result entry.procedure.params entry.procedure.result
     (ap is_entry (sym is)
-    ∙ not_false (is_entry (entry_of program))
+    ∙ not-false (is_entry (entry_of program))
     (no_place (not (is_entry (entry_of program))) program.name.at
     (none_there (no_entry program) (λ at c. clean NoEntry at c))))
 
@@ -223,7 +223,7 @@ pub entry_is_there : (program : Program) → IsFaultless program →
     (entry : Routine) × (entry_of program ≡ Some entry)
 entry_is_there program clean =
     by (entry_of program)
-    (not_false (is_entry (entry_of program))
+    (not-false (is_entry (entry_of program))
     (no_place (not (is_entry (entry_of program))) program.name.at
     (none_there (no_entry program) (λ at c. clean NoEntry at c))))
   where

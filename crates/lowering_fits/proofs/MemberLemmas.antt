@@ -2,6 +2,7 @@
 use Rattle.std.proofs.Common.{◌≡◌, ℕ, ◌+◌, ◌≤◌, true, List, [], ◌∷◌, ◌++◌, length, refl, sym, ap, ◌∙◌, subst, arith, length-append, append_assoc, inl, inr}
 use Rattle.std.specs.Prelude.{Bool, false, pos, Option, Some, None, option_and_then, slice_get, flat_map}
 use Rattle.std.specs.Option.{IsSomeAnd}
+use Rattle.std.proofs.lemmas.Bool.{and_parts}
 use Rattle.zpl_nums.specs.declared.operators.Op.{Op}
 use Rattle.meaning_ranks.specs.of_zpl_tree.Syntax.{Name, Expr, Number, Truth, Coord, Named, Shifted, Around, Remap, Call, Paren, Neg, Not, Abs, Pair, Reduce, Scan, Flood, Stmt, Prefixed, Stmts, NoStmt, ThenStmt, Form, Assign, Invoke, Block, If, While, Repeat, For, Border, Write, Return, Arm, Tested, Arms, NoArm, ThenArm, Otherwise, NoElse, Else}
 use Rattle.meaning_ranks.specs.of_zpl_names.Kinds.{Rank}
@@ -38,7 +39,7 @@ use Rattle.lowering_fits.proofs.SlateLemmas.{rows_both, set_fits, hoisted_fits, 
 use Rattle.lowering_fits.proofs.BracketLemmas.{rank_number, LimitsAreTold}
 use Rattle.lowering_fits.proofs.SettleLemmas.{over_of, settled_fits}
 use Rattle.lowering_fits.proofs.PhaseLemmas.{both_fit, rows_alone_fit, FitReferences, references_both, needs_fit, over_referred, referred_fit}
-use Rattle.lowering_fits.proofs.StillLemmas.{both_true, alone_is, bare_nothing, form_still, masked_are_still}
+use Rattle.lowering_fits.proofs.StillLemmas.{alone_is, bare_nothing, form_still, masked_are_still}
 
 -- ---- members that are closed
 
@@ -168,7 +169,7 @@ flat_of scope (Neg at operand) e = flat_of scope operand e
 flat_of scope (Not at operand) e = flat_of scope operand e
 flat_of scope (Abs at operand) e = flat_of scope operand e
 flat_of scope (Pair at op left right) e =
-    let are = both_true (is_elementwise left) (is_elementwise right) e in
+    let are = and_parts (is_elementwise left) (is_elementwise right) e in
     (flat_of scope left are.0, flat_of scope right are.1)
 flat_of scope (Reduce at operator over operand) e = let no : ⊥ = cc in absurd no
 flat_of scope (Scan at operator along operand) e = let no : ⊥ = cc in absurd no

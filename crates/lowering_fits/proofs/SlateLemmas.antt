@@ -569,11 +569,6 @@ module _ (base : Tables) where
   puts_kept line temp mask flood (one ∷ exprs) at =
       (at.0.1, puts_kept line (suc temp) mask flood exprs at.1)
 
-  trees_both : (rank : ℕ) (xs ys : List Expression) → FitTrees base rank xs →
-      FitTrees base rank ys → FitTrees base rank (xs ++ ys)
-  trees_both rank [] ys first rest = rest
-  trees_both rank (x ∷ xs) ys first rest = (first.0, trees_both rank xs ys first.1 rest)
-
   past_fit : (rank temp : ℕ) (flood : List Bool) (dims : List Dim) (exprs : List Expression) →
       IsRank rank → length flood ≡ rank → length dims ≤ length exprs →
       TempsAt base temp (replicate (length exprs) flood) →

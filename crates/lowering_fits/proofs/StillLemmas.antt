@@ -18,6 +18,7 @@ use Rattle.lower_numbers.specs.of_zpl_lowering.Slate.{Slate, Settled, settled, n
 use Rattle.lower_numbers.specs.of_zpl_lowering.Hoist.{Hoisted, Free, behind as behind_hoisted, hoisted, stored_element}
 use Rattle.lower_numbers.specs.of_zpl_lowering.Statement.{Inside, Elementwise, elementwise, put_member, put_thing, otherwise_members, stmt_inside, stmts_inside, form_inside, arms_inside, arm_inside, otherwise_inside, masked_members}
 use Rattle.std.specs.List.{list_all}
+use Rattle.std.proofs.lemmas.Bool.{and_parts}
 use Rattle.zpl_nums.specs.declared.operators.UnaryOp.{UnaryOp}
 use Rattle.zpl_nums.specs.declared.operators.UnaryOp.TheVariants as unary
 use Rattle.meaning_ranks.specs.of_zpl_meaning.Context.{Place}
@@ -56,11 +57,6 @@ named_bare over (Some (Fixed value)) = tt
 named_bare over (Some (ArrayAt place home)) = refl
 named_bare over None = tt
 
-pub both_true : (a b : Bool) → (a && b) ≡ true → (a ≡ true) × (b ≡ true)
-both_true true true e = (refl, refl)
-both_true true false e = let no : ⊥ = cc in absurd no
-both_true false b e = let no : ⊥ = cc in absurd no
-
 no_list : {A : Type 0} (xs ys : List A) → xs ≡ [] → ys ≡ [] → xs ++ ys ≡ []
 no_list xs ys first rest = ap (λ zs. zs ++ ys) first ∙ rest
 
@@ -92,7 +88,7 @@ alone_is w line next rank (Abs at operand) e =
     let one = alone_is w line next rank operand e in
     record { no_slots = one.no_slots; no_copies = one.no_copies; bare = one.bare }
 alone_is w line next rank (Pair at op left right) e =
-    let are = both_true (is_elementwise left) (is_elementwise right) e in
+    let are = and_parts (is_elementwise left) (is_elementwise right) e in
     let first : Settled Slate = settled w line next rank left in
     let rest : Settled Slate = settled w line (behind_settled next first) rank right in
     let one = alone_is w line next rank left are.0 in

@@ -1,6 +1,7 @@
 -- What all groups of lowered code have: those without loops, and those of shattered statements.
 use Rattle.std.proofs.Common.{◌≡◌, ℕ, suc, ◌+◌, true, List, [], ◌∷◌, ◌++◌, map, refl, sym, subst}
 use Rattle.std.specs.Prelude.{Option, Some, None}
+use Rattle.std.proofs.lemmas.List.{map-append}
 use Rattle.zpl_tree.specs.Syntax.{Form, Prefix, Program}
 use Rattle.zpl_names.specs.Kinds.{Rank}
 use Rattle.zpl_names.specs.Sites.{Reach, Site, AtStmt, is_shattered, tests_rank, text_sites}
@@ -23,7 +24,7 @@ use Rattle.zpl_lowering.specs.Statement.{lowered_array, put_row, Inside, form_in
 use Rattle.zpl_lowering.specs.Program.{lowered_program}
 use Rattle.zpl_lowering.specs.Tables.{rows_of}
 use Rattle.lowering_checks.specs.Walked.{laid}
-use Rattle.lowering_checks.proofs.WalkLemmas.{map_both, laid_rows, laid_then}
+use Rattle.lowering_checks.proofs.WalkLemmas.{laid_rows, laid_then}
 use Rattle.lowering_checks.proofs.SlateLemmas.{AllQuiet, needs_quiet}
 use Rattle.lowering_checks.proofs.EachLemmas.{GoesAlong, IsSeen, phases_each, program_from, shattered_each}
 use Rattle.lowering_loops.specs.Turns.{turns_in, RowsHave}
@@ -88,7 +89,7 @@ module _ (G : List Member → Type 0) (bare : (group : List Member) → turns_in
           let start = at + size one + 2 in
           let jump = flat_row (Jump (at + size one + size other + 2)) ∷ laid start other in (
             tt,
-            subst Have (sym (map_both flat_row (flattened (at + 1) one)
+            subst Have (sym (map-append flat_row (flattened (at + 1) one)
                 (Jump (at + size one + size other + 2) ∷ flattened start other)))
                 (have_both (laid (at + 1) one) jump (first (at + 1)) (tt, second start)),
           );
@@ -97,9 +98,9 @@ module _ (G : List Member → Type 0) (bare : (group : List Member) → turns_in
           let start = at + size head + 1 in
           let back = Jump at ∷ [] in
           let turn : Have (map flat_row (flattened start body ++ back)) =
-          subst Have (sym (map_both flat_row (flattened start body) back))
+          subst Have (sym (map-append flat_row (flattened start body) back))
           (have_both (laid start body) (map flat_row back) (inside start) (tt, tt)) in
-          subst Have (sym (map_both flat_row (flattened at head)
+          subst Have (sym (map-append flat_row (flattened at head)
           (Unless test end ∷ (flattened start body ++ back))))
           (have_both (laid at head)
           (map flat_row (Unless test end ∷ (flattened start body ++ back))) (before at) (tt, turn));
@@ -107,10 +108,10 @@ module _ (G : List Member → Type 0) (bare : (group : List Member) → turns_in
           let later = at + size body + 1 in
           let back = Unless test (at + 1) ∷ [] in
           let turn : Have (map flat_row (flattened later head ++ back)) =
-          subst Have (sym (map_both flat_row (flattened later head) back))
+          subst Have (sym (map-append flat_row (flattened later head) back))
           (have_both (laid later head) (map flat_row back) (before later) (tt, tt)) in (
             tt,
-            subst Have (sym (map_both flat_row (flattened (at + 1) body)
+            subst Have (sym (map-append flat_row (flattened (at + 1) body)
                 (flattened later head ++ back)))
                 (have_both (laid (at + 1) body) (map flat_row (flattened later head ++ back))
                 (inside (at + 1)) turn),

@@ -232,13 +232,6 @@ temps_rest rows k [] more h = subst (λ (i : ℕ). TempsAt rows i more) (omega a
 temps_rest rows k (flood ∷ temps) more h =
     subst (λ (i : ℕ). TempsAt rows i more) (omega arith) (temps_rest rows (suc k) temps more h.1)
 
--- copies are arrays of the tables
-pub copies_stored : (rows : List ArrayRow) (arrays temps k : ℕ) (copies : List Region)
-    → CopiesAt rows arrays temps k copies → RowsAt rows k copies
-copies_stored rows arrays temps k [] h = tt
-copies_stored rows arrays temps k (storage ∷ copies) h =
-    (h.2, copies_stored rows arrays temps (suc k) copies h.3)
-
 -- arrays that are all behind so many, and before temporaries, may be copies
 pub stored_copies : (rows : List ArrayRow) (arrays temps k : ℕ) (copies : List Region)
     → arrays ≤ k → k + length copies ≤ temps → RowsAt rows k copies

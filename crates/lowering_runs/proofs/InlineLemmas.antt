@@ -2,6 +2,7 @@
 use Rattle.std.proofs.Common.{◌≡◌, ℕ, zero, suc, ◌+◌, Bool, true, false, List, [], ◌∷◌, ◌++◌, map}
 use Rattle.std.proofs.Common.{length, Option, Some, None, refl, sym, ap, ◌∙◌, subst}
 use Rattle.std.specs.Prelude.{slice_get}
+use Rattle.std.proofs.lemmas.List.{map-append}
 use Rattle.zpl_region.specs.declared.regions.Region.{Region}
 use Rattle.zpl_tree.specs.Syntax.{Name, Expr, Number, Truth, Coord, Named, Shifted, Around, Remap, Call, Paren, Neg, Not, Abs, Pair, Reduce, Scan, Flood, Exprs, NoExpr, ThenExpr, Bracket, NoBracket, Bracketed, VarDef, Item, Str, Value, Stmt, Prefixed, Stmts, NoStmt, ThenStmt, Form, Assign, Invoke, Block, If, While, Repeat, For, Border, Write, Return, Tested, Arms, NoArm, ThenArm, Otherwise, NoElse, Else}
 use Rattle.zpl_names.specs.Kinds.{Rank, Formal, ScalarFormal, ArrayFormal}
@@ -56,14 +57,10 @@ pub every_append : (one other : List Row) → Every IsInline one → Every IsInl
 every_append [] other h k = k
 every_append (first ∷ one) other h k = (h.0, every_append one other h.1 k)
 
-map_append : {A B : Type 0} (f : A → B) (xs ys : List A) → map f (xs ++ ys) ≡ map f xs ++ map f ys
-map_append f [] ys = refl
-map_append f (x ∷ xs) ys = ap (λ zs. f x ∷ zs) (map_append f xs ys)
-
 pub flat_append : (xs ys : List (CodeRow Row Check)) → Every IsInline (map flat_row xs)
     → Every IsInline (map flat_row ys) → Every IsInline (map flat_row (xs ++ ys))
 flat_append xs ys h k =
-    subst (λ (rows : List Row). Every IsInline rows) (sym (map_append flat_row xs ys))
+    subst (λ (rows : List Row). Every IsInline rows) (sym (map-append flat_row xs ys))
     (every_append (map flat_row xs) (map flat_row ys) h k)
 
 straight_inline : (rows : List Row) → Every IsInline rows

@@ -79,19 +79,6 @@ module _ (before after : Whole) where
   set_spot v from (Answer value ∷ spots) to p k h e here other =
       ap (λ ys. value ∷ ys) (set_spot v from spots to p k h e here other)
 
--- where there is no number, a place isn't in the store
-pub set_none : (whole : Whole) (v : ℤ) (spots : List Spot) (p : ℕ)
-    → slice_get (numbered spots) p ≡ None
-    → slice_set (map (seen_spot whole) spots) (place_of spots p) v ≡ map (seen_spot whole) spots
-set_none whole v [] p e = refl
-set_none whole v (At k ∷ spots) zero e = absurd (some_none k e)
-  where
-    some_none : {A : Type 0} (k : A) → Some k ≡ None → ⊥
-    some_none k e = cc
-set_none whole v (At k ∷ spots) (suc p) e =
-    ap (λ ys. scalar_in whole k ∷ ys) (set_none whole v spots p e)
-set_none whole v (Answer value ∷ spots) p e = ap (λ ys. value ∷ ys) (set_none whole v spots p e)
-
 -- what stands at a place
 abbrev pub scalar_or : Whole → Option ℕ → ℤ
 scalar_or whole None = pos 0

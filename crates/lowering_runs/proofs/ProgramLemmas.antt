@@ -71,9 +71,6 @@ module _ (program : Program) (settings : List Setting) (s : IsScalarProgram prog
   abbrev next : Next
   next = behind (low.first_next program) (low.globals_made known frame)
 
-  abbrev entry_own : Lowered
-  entry_own = low.entry_code setup longest_chain calling next
-
   -- ---- inline
 
   rows_are_inline : Every IsInline (rows_of own)

@@ -5,6 +5,7 @@ use Rattle.std.proofs.Common.{append-nil, append_assoc, length-append, ◌≤◌
 use Rattle.std.proofs.Common.{map, length, Some, refl, sym, ap, ◌∙◌, subst, arith}
 use Rattle.std.proofs.lemmas.List.Elements.{All-from_recursion}
 use Rattle.std.specs.Prelude.{All, slice_get, slice_index_or}
+use Rattle.std.proofs.lemmas.List.{map-append}
 use Rattle.zpl_region.specs.declared.regions.Region.{Region}
 use Rattle.zpl_arrays.specs.Array.{Array}
 use Rattle.zpl_tree.specs.Syntax.{Program}
@@ -213,10 +214,6 @@ stored_length : (k : ℕ) (shifts : List Shifted) (storages : List Region)
 stored_length k shifts [] = refl
 stored_length k shifts (storage ∷ storages) = ap suc (stored_length (suc k) shifts storages)
 
-map_append : {A B : Type 0} (f : A → B) (xs ys : List A) → map f (xs ++ ys) ≡ map f xs ++ map f ys
-map_append f [] ys = refl
-map_append f (x ∷ xs) ys = ap (λ zs. f x ∷ zs) (map_append f xs ys)
-
 module _ (program : Program) (settings : List Setting) where
   abbrev pub known : Known
   known = known_of program settings
@@ -271,7 +268,7 @@ module _ (program : Program) (settings : List Setting) where
     rows_are =
         shared-inline (unshared_tables program settings)
         ∙ (rows_again (1 ∷ 0 ∷ 0 ∷ []) own (rows_of own) inline
-        ∙ sym (map_append flat_row (flattened 0 own.code) (Straight (row.Plain instr.End) ∷ [])))
+        ∙ sym (map-append flat_row (flattened 0 own.code) (Straight (row.Plain instr.End) ∷ [])))
 
     scalars_are : tables.scalars ≡ own.scalars
     scalars_are = scalars_again (1 ∷ 0 ∷ 0 ∷ []) own (rows_of own)

@@ -22,6 +22,7 @@ use Rattle.zpl_names.specs.Expansion.{ExpandedArray, Instance, array_named, inst
 use Rattle.zpl_names.proofs.ListLemmas.{Among}
 use Rattle.zpl_names.proofs.FaultlessLemmas.{left-among, right-among}
 use Rattle.std.specs.Prelude.{sum, not, ◌&&◌, ◌-◌}
+use Rattle.std.proofs.lemmas.Bool.{and_parts}
 use Rattle.lowering_sizes.proofs.Costs.{cost, cost_both, no_text}
 use Rattle.lowering_sizes.proofs.Slates.{AreNarrow}
 use Rattle.lowering_sizes.proofs.Known.{HasThree}
@@ -31,7 +32,7 @@ use Rattle.lowering_sizes.proofs.Members.{arms_cost}
 use Rattle.lowering_sizes.proofs.Statements.{GivensNarrow, test_weight, scalar_weight, with_values_weight, values_within, more_exprs_cost, given_narrow, plain_assign, assign_words_cost}
 use Rattle.lowering_sizes.proofs.FormLemmas.{opened_cost, head_within, write_cost, borders_cost, border_word}
 use Rattle.lowering_sizes.proofs.SizeLemmas.{bare_parts}
-use Rattle.lowering_sizes.proofs.Counting.{StandsApart, both_true, code_count, rows_few, code_few, plain_once, set_once, shattered_count}
+use Rattle.lowering_sizes.proofs.Counting.{StandsApart, code_count, rows_few, code_few, plain_once, set_once, shattered_count}
 use Rattle.lowering_sizes.proofs.QuietSites.{Marks, left_at, left_of, right_of, left_both, right_both, Grows, actuals_quiet, whole_quiet, prefixes_quiet, items_quiet, step_quiet, value_quiet}
 
 -- Where a statement is lowered: what a plain assignment assigns is never read from its array with a
@@ -402,7 +403,7 @@ plain_target : (program : Program) (instance : Instance) (found : Option Expande
     is_plain_value value ≡ true
 plain_target program instance None value e = cc
 plain_target program instance (Some array) value e =
-    (both_true (is_plain_value value) (not (reads_shifted program instance array value)) e).0
+    (and_parts (is_plain_value value) (not (reads_shifted program instance array value)) e).0
 
 -- ---- all forms
 
@@ -438,7 +439,7 @@ mutual
   stmt_count k from context next (Prefixed at [] (Assign name op value)) reach fits more here =
       let target = array_named k.program k.instance name in
       by (not (is_above_zero reach.shattered) && is_plain_target k.program k.instance target value)
-      (both_true (not (is_above_zero reach.shattered))
+      (and_parts (not (is_above_zero reach.shattered))
       (is_plain_target k.program k.instance target value))
     where
       by : (b : Bool) → (b ≡ true → (not (is_above_zero reach.shattered) ≡ true)

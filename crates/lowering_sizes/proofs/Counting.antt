@@ -1,9 +1,10 @@
 -- How many rows of code are counted: each once, and a loop that reads with a shift what it puts twice
 -- more.
-use Rattle.std.proofs.Common.{◌≡◌, ℕ, ◌+◌, ◌*◌, ◌≤◌, ◌==◌, Bool, true, false, ◌&&◌, ◌||◌, ℤ, List, [], ◌∷◌, ◌++◌, map, length, Option, Some, None, refl, ap, arith, length-append}
+use Rattle.std.proofs.Common.{◌≡◌, ℕ, ◌+◌, ◌*◌, ◌≤◌, ◌==◌, Bool, true, false, ◌||◌, ℤ, List, [], ◌∷◌, ◌++◌, map, length, Option, Some, None, refl, ap, arith, length-append}
 use Rattle.std.specs.Prelude.{cond, flat_map, slice_get}
 use Rattle.std.specs.List.{list_any}
 use Rattle.std.proofs.lemmas.List.Sums.{sum_by-append}
+use Rattle.std.proofs.lemmas.Bool.{and_parts}
 use Rattle.zpl_region.specs.declared.regions.Region.{Region}
 use Rattle.zpl_nums.specs.declared.operators.Op.{Op}
 use Rattle.zpl_tree.specs.Syntax.{Name, Expr, Number, Truth, Coord, Named, Shifted, Around, Remap, Call, Paren, Neg, Not, Abs, Pair, Reduce, Scan, Flood, Form}
@@ -370,10 +371,6 @@ shifted_none over shift (Some (Fixed value)) = refl
 shifted_none over shift (Some (ArrayAt place home)) = refl
 shifted_none over shift None = refl
 
-pub both_true : (a b : Bool) → (a && b) ≡ true → (a ≡ true) × (b ≡ true)
-both_true true b e = (refl, e)
-both_true false b e = cc
-
 abbrev settled_count : Settled Slate → ℕ
 settled_count all = rows_count all.rows + operators all.slate
 
@@ -396,7 +393,7 @@ plain_settled w line next rank (Neg at operand) e = plain_settled w line next ra
 plain_settled w line next rank (Not at operand) e = plain_settled w line next rank operand e
 plain_settled w line next rank (Abs at operand) e = plain_settled w line next rank operand e
 plain_settled w line next rank (Pair at op left right) e =
-    let plain = both_true (is_plain_value left) (is_plain_value right) e in
+    let plain = and_parts (is_plain_value left) (is_plain_value right) e in
     let one = settled w line next rank left in
     let after = behind next one in
     omega (

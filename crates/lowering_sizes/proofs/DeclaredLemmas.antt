@@ -240,18 +240,6 @@ var_length var =
       length-append (names_words var.names) (symbol sym.Colon),
     )
 
-pub vars_length : (vars : List VarDef) →
-    length (local_names vars) ≤ length (flat_map var_words vars)
-vars_length [] = omega arith
-vars_length (var ∷ vars) =
-    omega (
-      arith,
-      var_length var,
-      vars_length vars,
-      length-append var.names (local_names vars),
-      length-append (var_words var) (flat_map var_words vars),
-    )
-
 -- ---- regions
 
 same_regions : {A : Type 0} (adds : Known → A → Known) →

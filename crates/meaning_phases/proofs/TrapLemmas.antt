@@ -58,11 +58,6 @@ module _ (P : TrapKind → Type 0) where
   only_both (Gives a) (Traps kind) next h k j = k
   only_both (Traps kind) second next h k j = h
 
-  only_provided : {A : Type 0} (b : Bool) (kind : TrapKind) (next : Unit {0} → Computed A) → P kind
-      → Only (next tt) → Only (provided b kind next)
-  only_provided true kind next p h = h
-  only_provided false kind next p h = p
-
   only_given : P trap.DivideByZero → (value : Option ℤ) → Only (given value)
   only_given p (Some value) = tt
   only_given p None = p

@@ -4,6 +4,7 @@ use Rattle.std.proofs.Common.{ℤ, pos, List, [], ◌∷◌, ◌++◌, length, c
 use Rattle.std.proofs.Common.{refl, sym, ap, ◌∙◌, subst, arith, length-append, true≢false}
 use Rattle.std.specs.Prelude.{is_some, slice_set}
 use Rattle.std.proofs.lemmas.List.{get_or-set_same, get_or-take}
+use Rattle.std.proofs.lemmas.Bool.{not-false}
 use Rattle.zpl_nums.specs.declared.ends.End.{End}
 use Rattle.zpl_nums.specs.declared.ends.End.TheVariants.{Done, Trap, More}
 use Rattle.meaning_runs.specs.of_zpl_tree.Syntax.{Name, Expr, Call, Exprs, Prefix, Program, Stmt, Prefixed, Stmts}
@@ -36,7 +37,7 @@ use Rattle.meaning_runs.specs.of_zpl_meaning.Calls.{Called}
 use Rattle.meaning_runs.specs.of_zpl_meaning.Statement.{Context, exec, exec_all, under, line_of}
 use Rattle.meaning_runs.specs.of_zpl_meaning.Program.{call_at, run_routine}
 use Rattle.meaning_runs.specs.of_zpl_meaning.Visited.{first_setup, body_place, IsCall, IsUnder, IsVisited}
-use Rattle.meaning_runs.proofs.of_zpl_meaning.ProperLemmas.{IsClean, not_false, reach_at}
+use Rattle.meaning_runs.proofs.of_zpl_meaning.ProperLemmas.{IsClean, reach_at}
 use Rattle.meaning_runs.proofs.of_zpl_meaning.VisitLemmas.{Laws, Inside, InStmt, visited_proper}
 use Rattle.meaning_runs.specs.Runner.{runner_at}
 use Rattle.meaning_runs.specs.Comes.{ComesInAll, First, Later, InBlock}
@@ -295,11 +296,11 @@ answers_some : (found : Option Kind) (signature : Signature)
     → found ≡ Some (kind.Procedure signature)
     → is_procedure found && not (answers found) ≡ false → is_some signature.result ≡ true
 answers_some found signature is e =
-    not_false (is_some signature.result)
+    not-false (is_some signature.result)
     (subst (λ k. is_procedure k && not (answers k) ≡ false) is e)
 
 returns_of : (b c : Bool) → b ≡ true → b && not c ≡ false → c ≡ true
-returns_of b c some e = not_false c (and_false b (not c) some e)
+returns_of b c some e = not-false c (and_false b (not c) some e)
 
 -- the site of a call whose answer is taken
 answer_clean : (reach : Reach) (target name : Name) (actuals : Exprs) (signature : Signature)

@@ -16,7 +16,7 @@ use Rattle.meaning_runs.specs.of_zpl_tree.Syntax.{Mask as MaskText}
 use Rattle.meaning_runs.specs.of_zpl_tree.Grammar.{IsPrefix}
 use Rattle.meaning_runs.specs.of_zpl_names.Kinds.{Rank, Shape}
 use Rattle.meaning_runs.specs.of_zpl_names.Scope.{kind_of}
-use Rattle.meaning_runs.specs.of_zpl_names.Ranks.{inner_rank, is_index, region_shape, known_rank, mask_rank}
+use Rattle.meaning_runs.specs.of_zpl_names.Ranks.{inner_rank, is_index, region_shape, mask_rank}
 use Rattle.meaning_runs.specs.of_zpl_names.Ranks.{at_most_three, dims_count}
 use Rattle.meaning_runs.specs.of_zpl_names.Shapes.{Current, Absent, Unknown, Over as Shaped, Shapes}
 use Rattle.meaning_runs.specs.of_zpl_names.Shapes.{current_at, current_of, with_current, current_over}
@@ -133,11 +133,6 @@ dims_told (ThenDim (One index) rest) current k n e h =
 dims_told (ThenDim (Span low high) rest) current k n e h =
     with_length (Some false) (dims_shape current (suc k) rest) (dims_count rest) refl
     (dims_told rest current (suc k) n (omega (arith, e)) h)
-
-known_is : (rank : Rank) (n : ℕ) → known_rank rank ≡ Some n → rank ≡ Some n
-known_is None n e = e
-known_is (Some zero) n e = cc
-known_is (Some (suc m)) n e = e
 
 three_is : (count n : ℕ) → at_most_three count ≡ Some n → count ≡ n
 three_is count n e = by (nat_le count 3) e

@@ -35,7 +35,7 @@ use Rattle.meaning_runs.specs.of_zpl_meaning.Proper.{IsProperForm, IsProperAssig
 use Rattle.meaning_runs.specs.of_zpl_meaning.Proper.{AreProperTests, IsProperTested, AreProperItems, IsProperCall}
 use Rattle.meaning_runs.proofs.of_zpl_meaning.DepthLemmas.{each_left, each_right}
 use Rattle.meaning_runs.proofs.of_zpl_meaning.ProperLemmas.{IsClean, Clean, taken, IsNamed, Fits as FitsPlace}
-use Rattle.meaning_runs.proofs.of_zpl_meaning.ProperLemmas.{reach_at, RankLaws, has_current, or_false, first_agrees}
+use Rattle.meaning_runs.proofs.of_zpl_meaning.ProperLemmas.{reach_at, RankLaws, has_current, first_agrees}
 use Rattle.meaning_runs.proofs.of_zpl_meaning.ProperLemmas.{both_zero, read_array, whole_suits, proper}
 use Rattle.meaning_runs.proofs.of_zpl_meaning.StatementLemmas.{rank_fits}
 use Rattle.meaning_ranks.specs.Flat.{HasFlatCurrent, IsUnderFlat, IsFlatIn, IsFlatWhole}
@@ -54,6 +54,7 @@ use Rattle.meaning_runs.specs.of_zpl_names.Faults.{at_if, broken_arms, broken_fo
 use Rattle.meaning_runs.specs.of_zpl_meaning.Points.{Reads, stmts_parts, arms_parts, otherwise_parts, exprs_read}
 use Rattle.meaning_ranks.specs.Flat.{AreFlatRead}
 use Rattle.std.proofs.Common.{cond, arith}
+use Rattle.std.proofs.lemmas.Bool.{or_parts}
 use Rattle.meaning_ranks.proofs.CurrentLemmas.{AreTold, KnowsRegions}
 use Rattle.meaning_ranks.proofs.FlatLemmas.{flat, flat_current, raised_flat}
 
@@ -282,13 +283,13 @@ module _ (laws : RankLaws) (place : Place) (shapes : Shapes) (shattered : Rank)
       items ≡ false → AreFlatItems place items
   items_flat [] h g q e = tt
   items_flat (Str bytes ∷ items) h g q e =
-      items_flat items h g.1 q (or_false (has_flood (shape_of_current (current_of shapes (Some 0))))
+      items_flat items h g.1 q (or_parts (has_flood (shape_of_current (current_of shapes (Some 0))))
       _ e).1
   items_flat (Value expr ∷ items) h g q e =
       let own = each_left IsClean (whole_sites reach Printed expr)
       (flat_map (item_sites reach) items) h in
       let rank = whole_rank reach Printed expr in
-      let parts = or_false (has_flood (shape_of_current (current_of shapes rank))) _ e in (
+      let parts = or_parts (has_flood (shape_of_current (current_of shapes rank))) _ e in (
         (under_flat rank q.0.0 parts.0, whole_flat place.prefix expr own.1 g.0 q.0.1),
         items_flat items
             (each_right IsClean (whole_sites reach Printed expr)
@@ -471,9 +472,9 @@ module _ (laws : RankLaws) (place : Place) (shapes : Shapes) (shattered : Rank)
       )
   form_flat (Border border names) at prefixes some h k g q r =
       border_flat names g r h.none.known
-      (or_false (lacks_region reach place.prefix) false
+      (or_parts (lacks_region reach place.prefix) false
       (no_place (list_any (lacks_region reach) (place.prefix ∷ [])) at h.under.regions)).0
-      (or_false (has_flood (shape_of_current (current_of shapes place.prefix)))
+      (or_parts (has_flood (shape_of_current (current_of shapes place.prefix)))
       (list_any (is_flood_written reach) names)
       (no_place (has_flood (shape_of_current (current_of shapes place.prefix))
       || list_any (is_flood_written reach) names) at h.under.floods)).0

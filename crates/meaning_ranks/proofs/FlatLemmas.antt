@@ -4,7 +4,7 @@ use Rattle.std.proofs.Common.{[], ◌∷◌, length, Option, Some, None, IsSome,
 use Rattle.std.proofs.Common.{subst, arith, true≢false}
 use Rattle.std.specs.Prelude.{slice_get, slice_index_or}
 use Rattle.std.specs.List.{list_any}
-use Rattle.std.proofs.lemmas.Bool.{leb-true, ltb-false}
+use Rattle.std.proofs.lemmas.Bool.{leb-true, ltb-false, or_parts}
 use Rattle.zpl_region.specs.declared.dims.Dim.TheVariants as dim
 use Rattle.zpl_region.specs.declared.regions.Region.{Region}
 use Rattle.zpl_region.specs.Region.{dim_at}
@@ -31,7 +31,7 @@ use Rattle.meaning_runs.specs.of_zpl_meaning.Regions.{under_source}
 use Rattle.meaning_runs.specs.of_zpl_meaning.Settled.{source_in}
 use Rattle.meaning_runs.specs.of_zpl_meaning.Proper.{HasCurrent, IsArrayRank, IsProper, AreProper}
 use Rattle.meaning_runs.proofs.of_zpl_meaning.DepthLemmas.{each_left, each_right}
-use Rattle.meaning_runs.proofs.of_zpl_meaning.ProperLemmas.{IsClean, Clean, reach_at, or_false}
+use Rattle.meaning_runs.proofs.of_zpl_meaning.ProperLemmas.{IsClean, Clean, reach_at}
 use Rattle.meaning_ranks.specs.Shaped.{is_flood, IsShaped}
 use Rattle.meaning_ranks.specs.Flat.{no_floods, IsFlatOf, HasFlatCurrent, IsFlatIn, AreFlatIn}
 use Rattle.meaning_ranks.specs.Ranked.{IsOfRank}
@@ -46,7 +46,7 @@ flat_shape : (shape : Shape) → list_any (λ flood. flood) shape ≡ false
     → shape ≡ no_floods (length shape)
 flat_shape [] e = refl
 flat_shape (flood ∷ shape) e =
-    let parts = or_false flood (list_any (λ flood. flood) shape) e in
+    let parts = or_parts flood (list_any (λ flood. flood) shape) e in
     ap (λ b. b ∷ shape) parts.0 ∙ ap (λ rest. false ∷ rest) (flat_shape shape parts.1)
 
 flat_of : (shape : Shape) (n : ℕ) (region : Region) → has_flood (Some shape) ≡ false
@@ -200,7 +200,7 @@ module _ (shattered : Rank) (result : Option Base) where
     flat (Around at name shift) place shapes rank level known told h g q = tt
     flat (Remap at name indices) place shapes rank level known told h g q = (
       flat_current rank shapes place told q.0.1
-          (or_false (has_flood (array_shape (kind_of place.scope name)))
+          (or_parts (has_flood (array_shape (kind_of place.scope name)))
           (has_flood (shape_of_current (current_of shapes rank)))
           (no_place (has_flood (array_shape (kind_of place.scope name))
           || has_flood (shape_of_current (current_of shapes rank))) _ h.0.under.floods)).1,

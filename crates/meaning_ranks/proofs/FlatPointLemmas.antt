@@ -32,13 +32,11 @@ use Rattle.meaning_runs.specs.of_zpl_meaning.Store.{thing_of}
 use Rattle.meaning_runs.specs.of_zpl_meaning.Context.{Place}
 use Rattle.meaning_runs.specs.of_zpl_meaning.Proper.{IsArrayRank}
 use Rattle.meaning_runs.proofs.of_zpl_meaning.DepthLemmas.{each_left, each_right}
-use Rattle.meaning_runs.proofs.of_zpl_meaning.ProperLemmas.{IsClean, Clean, not_false, taken, IsNamed, Fits}
+use Rattle.meaning_runs.proofs.of_zpl_meaning.ProperLemmas.{IsClean, Clean, taken, IsNamed, Fits}
 use Rattle.meaning_runs.proofs.of_zpl_meaning.ProperLemmas.{reach_at, RankLaws}
-use Rattle.meaning_runs.proofs.of_zpl_meaning.ProperLemmas.{or_false}
-use Rattle.meaning_runs.proofs.of_zpl_meaning.StatementLemmas.{and_true}
 use Rattle.meaning_ranks.proofs.RankLemmas.{same_of_no_clash, zero_or_same}
 use Rattle.std.proofs.Common.{◌≤◌}
-use Rattle.std.proofs.lemmas.Bool.{leb-true, ltb-false}
+use Rattle.std.proofs.lemmas.Bool.{leb-true, ltb-false, and_parts, or_parts, not-false}
 use Rattle.meaning_runs.specs.of_zpl_names.Shapes.{current_of, shape_of_current}
 use Rattle.meaning_runs.specs.of_zpl_names.Faults.{is_past, floods_at}
 use Rattle.meaning_runs.specs.of_zpl_meaning.Points.{Part, Reads, Writes, stmt_parts, stmts_parts, form_parts}
@@ -94,7 +92,7 @@ module _ (laws : RankLaws) (place : Place) (shapes : Shapes) (fits : Fits place 
       elementwise_flat operand shattered result own expr_level h.1 g e c
   elementwise_flat (Pair at op left right) shattered result own level h g e c =
       let reach = at_rank shattered result in
-      let parts = and_true (is_elementwise left) (is_elementwise right) e in (
+      let parts = and_parts (is_elementwise left) (is_elementwise right) e in (
         elementwise_flat left shattered result own (left_level op)
             (each_left IsClean (expr_sites reach own left) (expr_sites reach own right) h.1) g.1
             parts.0 c,
@@ -123,10 +121,10 @@ module _ (laws : RankLaws) (place : Place) (shapes : Shapes) (fits : Fits place 
       → IsFlatIn place whole expr
   test_flat expr shattered result h e g =
       let own = test_rank (at_rank shattered result) expr in
-      let broken = or_false (not (is_elementwise expr)) (ranks_clash whole own)
+      let broken = or_parts (not (is_elementwise expr)) (ranks_clash whole own)
       (no_place (not (is_elementwise expr) || ranks_clash whole own) _ e) in
       elementwise_flat expr shattered result own expr_level h.1 g
-      (not_false (is_elementwise expr) broken.0) (zero_or_same whole own p h.0.ranked broken.1)
+      (not-false (is_elementwise expr) broken.0) (zero_or_same whole own p h.0.ranked broken.1)
 
   value_flat : (name : Name) (op : Option Op) (value : Expr) (at : ℕ) (result : Option Base)
       → IsClean (AtStmt (at_rank whole result) at [] (Assign name op value))
@@ -195,7 +193,7 @@ module _ (laws : RankLaws) (place : Place) (shapes : Shapes) (fits : Fits place 
         let broken = empty_parts _ _ (empty_parts _ _ h.none.shattered).0 in (
           value_flat name op value at result h k g.1
               (no_place (is_other_target (kind_of place.scope name) whole) _ broken.0)
-              (not_false (is_elementwise value)
+              (not-false (is_elementwise value)
               (no_place (not (is_elementwise value)) _ broken.1)),
           tt,
         )

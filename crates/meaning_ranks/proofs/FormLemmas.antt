@@ -5,6 +5,7 @@ use Rattle.std.proofs.Common.{option_to_list, IsSome, refl, sym, ap, ◌∙◌, 
 use Rattle.std.proofs.Common.{eqb-true}
 use Rattle.std.specs.Prelude.{◌==◌}
 use Rattle.std.specs.List.{AllByRecursion, flat_map}
+use Rattle.std.proofs.lemmas.Bool.{and_parts, not-true, or_parts, not-false}
 use Rattle.zpl_nums.specs.declared.operators.Op.{Op}
 use Rattle.meaning_runs.specs.of_zpl_tree.Syntax.{Name, Expr, Number, Truth, Coord, Named, Shifted, Around, Remap}
 use Rattle.meaning_runs.specs.of_zpl_tree.Syntax.{Call, Paren, Neg, Not, Abs, Pair, Reduce, Scan, Flood, Exprs}
@@ -43,10 +44,10 @@ use Rattle.meaning_runs.specs.of_zpl_meaning.Calls.{formals_in as handed_formals
 use Rattle.meaning_runs.specs.of_zpl_meaning.Proper.{IsVariable, IsArray, IsArrayRank}
 use Rattle.meaning_runs.specs.of_zpl_meaning.Visited.{IsUnder, Itself, Behind}
 use Rattle.meaning_runs.proofs.of_zpl_meaning.DepthLemmas.{each_left, each_right}
-use Rattle.meaning_runs.proofs.of_zpl_meaning.ProperLemmas.{IsClean, Clean, not_false, taken, IsNamed, Fits}
+use Rattle.meaning_runs.proofs.of_zpl_meaning.ProperLemmas.{IsClean, Clean, taken, IsNamed, Fits}
 use Rattle.meaning_runs.proofs.of_zpl_meaning.ProperLemmas.{reach_at, RankLaws, first_agrees, both_zero, read_array}
-use Rattle.meaning_runs.proofs.of_zpl_meaning.ProperLemmas.{or_false, none_is_not, zero_rank, array_rank_is}
-use Rattle.meaning_runs.proofs.of_zpl_meaning.StatementLemmas.{rank_fits, fits_under, and_true, not_true}
+use Rattle.meaning_runs.proofs.of_zpl_meaning.ProperLemmas.{none_is_not, zero_rank, array_rank_is}
+use Rattle.meaning_runs.proofs.of_zpl_meaning.StatementLemmas.{rank_fits, fits_under}
 use Rattle.meaning_ranks.specs.Ranked.{IsArrayOf, AreArraysOf, IsNameOf, IsOfRank, IsRanked}
 use Rattle.meaning_ranks.specs.Ranked.{IsMaskOf, IsRankedPrefix, TakesRank, IsRankedValue}
 use Rattle.meaning_ranks.specs.Ranked.{IsShapedActual, AreShapedActuals, IsRankedCall}
@@ -75,7 +76,7 @@ named_of place rank name None e = tt
 above_same : (rank : Rank) (n : ℕ) → is_above_zero rank ≡ true
     → ranks_clash (Some (suc n)) rank ≡ false → rank ≡ Some (suc n)
 above_same (Some (suc m)) n e c =
-    ap (λ k. Some (suc k)) (sym (eqb-true n m (not_false (n == m) c)))
+    ap (λ k. Some (suc k)) (sym (eqb-true n m (not-false (n == m) c)))
 above_same (Some zero) n e c = absurd (true≢false (sym e))
 above_same None n e c = absurd (true≢false (sym e))
 
@@ -348,8 +349,8 @@ module _ (laws : RankLaws) where
             → array_shape found ≡ shape
         by (Some (kind.Array other own)) thing h v f =
             sym (same_shape shape own some (shape_there own h.1)
-            (not_true (both_known is_other_shape shape own)
-            (and_true (not (types_differ base (Some other)))
+            (not-true (both_known is_other_shape shape own)
+            (and_parts (not (types_differ base (Some other)))
             (not (both_known is_other_shape shape own)) f).1))
         by (Some (kind.Scalar other)) thing h v f = absurd (true≢false (sym f))
         by (Some (kind.Config other)) thing h v f = absurd (true≢false (sym f))
@@ -398,16 +399,16 @@ module _ (laws : RankLaws) where
     shaped_actuals [] (ThenExpr actual rest) k f h g = tt
     shaped_actuals (formal ∷ formals) NoExpr k f h g = tt
     shaped_actuals (ScalarFormal true base ∷ formals) (ThenExpr actual rest) k f h g =
-        let fit = and_true (actual_fits reach (ScalarFormal true base) actual)
+        let fit = and_parts (actual_fits reach (ScalarFormal true base) actual)
         (all_fit reach formals rest) f in
         (tt, shaped_actuals formals rest k.1 fit.1 (actual_of actual rest h g.0).1 g.1)
     shaped_actuals (ScalarFormal false base ∷ formals) (ThenExpr actual rest) k f h g =
-        let fit = and_true (actual_fits reach (ScalarFormal false base) actual)
+        let fit = and_parts (actual_fits reach (ScalarFormal false base) actual)
         (all_fit reach formals rest) f in
         let found = actual_of actual rest h g.0 in
         (found.0, shaped_actuals formals rest k.1 fit.1 found.1 g.1)
     shaped_actuals (ArrayFormal by_ref base shape ∷ formals) (ThenExpr actual rest) k f h g =
-        let fit = and_true (actual_fits reach (ArrayFormal by_ref base shape) actual)
+        let fit = and_parts (actual_fits reach (ArrayFormal by_ref base shape) actual)
         (all_fit reach formals rest) f in (
           shaped_actual by_ref base shape actual rest k.0 h fit.0,
           shaped_actuals formals rest k.1 fit.1 (actual_of actual rest h g.0).1 g.1,
@@ -426,7 +427,7 @@ module _ (laws : RankLaws) where
             → AreShapedActuals place (handed_formals found) actuals
         by (Some (kind.Procedure signature)) is e f =
             shaped_actuals signature.formals actuals (formals name signature is)
-            (not_false (all_fit reach signature.formals actuals) f) k g
+            (not-false (all_fit reach signature.formals actuals) f) k g
         by (Some (kind.Config base)) is e f = absurd (true≢false (sym e))
         by (Some (kind.Constant base)) is e f = absurd (true≢false (sym e))
         by (Some (kind.Scalar base)) is e f = absurd (true≢false (sym e))
@@ -540,12 +541,12 @@ module _ (laws : RankLaws) where
   test_point expr place shapes shattered result rank fits known p h e g =
       let reach = reach_at place shapes shattered result in
       let own = test_rank reach expr in
-      let broken = or_false (not (is_elementwise expr)) (ranks_clash rank own)
+      let broken = or_parts (not (is_elementwise expr)) (ranks_clash rank own)
       (tested (is_above_zero rank) (not (is_elementwise expr) || ranks_clash rank own)
       (above rank p)
       (no_place (is_above_zero rank && (not (is_elementwise expr) || ranks_clash rank own)) _ e))
       in (
-        not_false (is_elementwise expr) broken.0,
+        not-false (is_elementwise expr) broken.0,
         raised_to place shapes rank own expr fits
             (zero_or_same rank own p h.0.ranked broken.1)
             (whole_of place shapes shattered result fits known place.prefix expr h.1 g),
@@ -694,7 +695,7 @@ module _ (laws : RankLaws) where
         let broken = empty_parts _ _ (empty_parts _ _ h.none.shattered).0 in
         point_assigned name op value at place shapes (Some (suc n)) result fits known p h k g.1
         (no_place (is_other_target (kind_of place.scope name) (Some (suc n))) _ broken.0)
-        (not_false (is_elementwise value) (no_place (not (is_elementwise value)) _ broken.1))
+        (not-false (is_elementwise value) (no_place (not (is_elementwise value)) _ broken.1))
     point_form (Block body) at place shapes n result fits known p h k g =
         points body place shapes n None fits known p k g
     point_form (If arms otherwise) at place shapes n result fits known p h k g =
@@ -806,7 +807,7 @@ module _ (laws : RankLaws) where
       → test_rank around test ≡ Some (suc n)
   test_same around n test e b =
       above_same (test_rank around test) n e
-      (or_false (not (is_elementwise test)) (ranks_clash (Some (suc n)) (test_rank around test))
+      (or_parts (not (is_elementwise test)) (ranks_clash (Some (suc n)) (test_rank around test))
       (no_place (not (is_elementwise test) || ranks_clash (Some (suc n)) (test_rank around test)) _
       b)).1
 
@@ -817,7 +818,7 @@ module _ (laws : RankLaws) where
   arms_same around n (ThenArm (Tested at test body) rest) e b =
       let broken = arm_broken (Tested at test body) rest around (Some (suc n)) b in
       by (test_rank around test)
-      (or_false (not (is_elementwise test)) (ranks_clash (Some (suc n)) (test_rank around test))
+      (or_parts (not (is_elementwise test)) (ranks_clash (Some (suc n)) (test_rank around test))
       (no_place (not (is_elementwise test) || ranks_clash (Some (suc n)) (test_rank around test)) _
       broken.0)).1 e (λ later. arms_same around n rest later broken.1)
     where
@@ -1019,7 +1020,7 @@ module _ (laws : RankLaws) where
   form_ranked (Border border names) at prefixes place shapes shattered result fits known formals s
       b h k g =
       arrays_of place shapes shattered result fits known names
-      (b (not_false (ends_in_border prefixes)
+      (b (not-false (ends_in_border prefixes)
       (no_place (not (ends_in_border prefixes)) _ h.none.borders))) h.none.known h.none.ranks
   form_ranked (Write line items) at prefixes place shapes shattered result fits known formals s
       b h k g =

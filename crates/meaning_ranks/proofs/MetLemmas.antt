@@ -3,6 +3,7 @@
 use Rattle.std.proofs.Common.{◌≡◌, ℕ, suc, false, List, [], ◌∷◌, map, Option}
 use Rattle.std.proofs.Common.{IsSome, Some, None, length, refl, sym, ap, subst}
 use Rattle.std.specs.List.{list_any}
+use Rattle.std.proofs.lemmas.Bool.{or_parts}
 use Rattle.zpl_nums.specs.declared.ends.Border.{Border as BorderKind}
 use Rattle.meaning_runs.specs.of_zpl_tree.Syntax.{Name, Call, Prefix, Program, Stmt, Prefixed, Form, Assign}
 use Rattle.meaning_runs.specs.of_zpl_tree.Syntax.{Invoke, Block, If, While, Repeat, For, Border, Write, Return, Item}
@@ -27,7 +28,7 @@ use Rattle.meaning_runs.specs.of_zpl_meaning.Regions.{under_prefix}
 use Rattle.meaning_runs.specs.of_zpl_meaning.Calls.{Called}
 use Rattle.meaning_runs.specs.of_zpl_meaning.Visited.{parts_of, IsUnder, IsCall, body_place, IsVisited}
 use Rattle.meaning_runs.specs.of_zpl_meaning.Proper.{IsProperForm}
-use Rattle.meaning_runs.proofs.of_zpl_meaning.ProperLemmas.{Fits, reach_at, or_false}
+use Rattle.meaning_runs.proofs.of_zpl_meaning.ProperLemmas.{Fits, reach_at}
 use Rattle.meaning_runs.proofs.of_zpl_meaning.NamesLemmas.{routine_sound}
 use Rattle.meaning_runs.proofs.of_zpl_meaning.VisitLemmas.{Laws, clean_of, Inside, InStmt, InBody}
 use Rattle.meaning_runs.proofs.of_zpl_meaning.VisitLemmas.{visited_proper}
@@ -185,11 +186,11 @@ module _ (program : Program) (settings : List Setting) (laws : Laws program)
   items_unmasked [] place shapes shattered result told e = tt
   items_unmasked (Str bytes ∷ items) place shapes shattered result told e =
       items_unmasked items place shapes shattered result told
-      (or_false (is_under_mask (reach_at place shapes shattered result) (Some 0)) _ e).1
+      (or_parts (is_under_mask (reach_at place shapes shattered result) (Some 0)) _ e).1
   items_unmasked (Value expr ∷ items) place shapes shattered result told e =
       let reach = reach_at place shapes shattered result in
       let rank = whole_rank reach Printed expr in
-      let parts = or_false (is_under_mask reach rank) _ e in (
+      let parts = or_parts (is_under_mask reach rank) _ e in (
         unmasked rank shapes place.currents told parts.0,
         items_unmasked items place shapes shattered result told parts.1,
       )
@@ -207,7 +208,7 @@ module _ (program : Program) (settings : List Setting) (laws : Laws program)
   form_unmasked (Border border names) at prefixes place shapes shattered result told (InStmt h) =
       let reach = reach_at place shapes shattered result in
       unmasked place.prefix shapes place.currents told
-      (or_false (is_under_mask reach place.prefix) false
+      (or_parts (is_under_mask reach place.prefix) false
       (no_place (list_any (is_under_mask reach) (form_ranks reach (Border border names))) at
       h.0.clean.under.unmasked)).0
   form_unmasked (Assign name op value) at prefixes place shapes shattered result told h = tt

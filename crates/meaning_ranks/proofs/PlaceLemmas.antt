@@ -8,6 +8,7 @@ use Rattle.std.specs.List.{AllByRecursion, flat_map, cons_option}
 use Rattle.std.specs.Option.{option_or}
 use Rattle.std.specs.Str.{bytes_eq}
 use Rattle.std.proofs.lemmas.List.Elements.{recursion_from_All}
+use Rattle.std.proofs.lemmas.Bool.{not-false}
 use Rattle.meaning_runs.specs.of_zpl_tree.Syntax.{Name, Expr, Call, Exprs, NoExpr, ThenExpr, Prefix, Program, Stmt}
 use Rattle.meaning_runs.specs.of_zpl_tree.Syntax.{Prefixed, Stmts, NoStmt, ThenStmt, Form, Assign, Invoke, Block}
 use Rattle.meaning_runs.specs.of_zpl_tree.Syntax.{If, While, Repeat, For, Border, Write, Return, Arm, Tested, Arms}
@@ -51,7 +52,7 @@ use Rattle.meaning_runs.specs.of_zpl_meaning.Visited.{AsAnswer, AsStatement as C
 use Rattle.meaning_runs.specs.of_zpl_meaning.Visited.{handed_at, body_place, IsVisited, Begins, Holds, Calls}
 use Rattle.meaning_runs.specs.of_zpl_meaning.Visited.{first_setup}
 use Rattle.meaning_runs.proofs.of_zpl_meaning.DepthLemmas.{Each, each_left, each_right, each_from}
-use Rattle.meaning_runs.proofs.of_zpl_meaning.ProperLemmas.{not_false, taken, IsNamed, Covers, Fits}
+use Rattle.meaning_runs.proofs.of_zpl_meaning.ProperLemmas.{taken, IsNamed, Covers, Fits}
 use Rattle.meaning_runs.proofs.of_zpl_meaning.ProperLemmas.{reach_at}
 use Rattle.meaning_runs.proofs.of_zpl_meaning.StatementLemmas.{first_known, FitsUnder, under_fits}
 use Rattle.meaning_runs.proofs.of_zpl_meaning.VisitLemmas.{IsHere, clean_of, Inside, InStmt, InBody, IsPart}
@@ -500,7 +501,7 @@ module _ (program : Program) (settings : List Setting) (laws : Laws program)
   entry_is : (entry : Option Routine) → entry_of program ≡ entry → is_entry entry ≡ true
   entry_is entry e =
       subst (λ found. is_entry found ≡ true) e
-      (not_false (is_entry (entry_of program))
+      (not-false (is_entry (entry_of program))
       (no_place (not (is_entry (entry_of program))) program.name.at
       (none_there (no_entry program) (λ at. clean NoEntry at))))
 

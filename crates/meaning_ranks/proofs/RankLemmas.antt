@@ -6,7 +6,7 @@ use Rattle.std.proofs.Common.{None, option_map, IsSome, refl, sym, ap, ◌∙◌
 use Rattle.std.proofs.Common.{true≢false, eqb-true, nat_le}
 use Rattle.std.specs.Prelude.{int_lt}
 use Rattle.std.specs.List.{flat_map}
-use Rattle.std.proofs.lemmas.Bool.{leb-true, ltb-false}
+use Rattle.std.proofs.lemmas.Bool.{leb-true, ltb-false, or_parts, not-false}
 use Rattle.std.proofs.lemmas.Int.{ints}
 use Rattle.zpl_region.specs.declared.regions.Region.{Region}
 use Rattle.meaning_runs.specs.of_zpl_tree.Syntax.{Name, Expr, Number, Truth, Coord, Named, Shifted, Around, Remap}
@@ -34,10 +34,10 @@ use Rattle.meaning_runs.specs.of_zpl_meaning.Context.{Place}
 use Rattle.meaning_runs.specs.of_zpl_meaning.Regions.{under_source}
 use Rattle.meaning_runs.specs.of_zpl_meaning.Proper.{IsArrayRank}
 use Rattle.meaning_runs.proofs.of_zpl_meaning.DepthLemmas.{each_left, each_right}
-use Rattle.meaning_runs.proofs.of_zpl_meaning.ProperLemmas.{IsClean, Clean, not_false, taken, IsNamed, Fits}
+use Rattle.meaning_runs.proofs.of_zpl_meaning.ProperLemmas.{IsClean, Clean, taken, IsNamed, Fits}
 use Rattle.meaning_runs.proofs.of_zpl_meaning.ProperLemmas.{reach_at, RankLaws, Agrees, same_rank}
 use Rattle.meaning_runs.proofs.of_zpl_meaning.ProperLemmas.{first_agrees, left_agrees, right_agrees, both_zero}
-use Rattle.meaning_runs.proofs.of_zpl_meaning.ProperLemmas.{none_is_not, or_false, read_array}
+use Rattle.meaning_runs.proofs.of_zpl_meaning.ProperLemmas.{none_is_not, read_array}
 use Rattle.meaning_runs.proofs.of_zpl_meaning.ProperLemmas.{region_rank, fits_source}
 use Rattle.meaning_ranks.specs.Ranked.{IsArrayOf, IsNameOf, HasDimension, GoesAlong}
 use Rattle.meaning_ranks.specs.Ranked.{ArePresOf, ArePostsOf, IsInnerOf, IsRegionOf, IsOfRank}
@@ -50,7 +50,7 @@ use Rattle.meaning_runs.proofs.of_zpl_meaning.ProperLemmas.{both_assoc}
 pub same_of_no_clash : (one other : Rank) → IsArrayRank one → IsArrayRank other
     → ranks_clash one other ≡ false → one ≡ other
 same_of_no_clash (Some (suc a)) (Some (suc b)) p q c =
-    ap (λ n. Some (suc n)) (eqb-true a b (not_false (a == b) c))
+    ap (λ n. Some (suc n)) (eqb-true a b (not-false (a == b) c))
 same_of_no_clash (Some zero) other p q c = absurd p
 same_of_no_clash None other p q c = absurd p
 same_of_no_clash (Some (suc a)) (Some zero) p q c = absurd q
@@ -62,7 +62,7 @@ pub zero_or_same : (rank other : Rank) → IsArrayRank rank → IsSome other
 zero_or_same rank None p k c = none_is_not None k refl
 zero_or_same rank (Some zero) p k c = inl refl
 zero_or_same (Some (suc a)) (Some (suc b)) p k c =
-    inr (sym (ap (λ n. Some (suc n)) (eqb-true a b (not_false (a == b) c))))
+    inr (sym (ap (λ n. Some (suc n)) (eqb-true a b (not-false (a == b) c))))
 zero_or_same (Some zero) (Some (suc b)) p k c = absurd p
 zero_or_same None (Some (suc b)) p k c = absurd p
 
@@ -229,18 +229,18 @@ module _ (laws : RankLaws) (shattered : Rank) (result : Option Base) where
       by : (along : ℤ) → int_lt along (pos 1) || int_lt (pos n) along ≡ false
           → (k : ℕ) × (along ≡ pos k) × HasDimension (Some n) k
       by (pos k) e =
-          let parts = or_false (int_lt (pos k) (pos 1)) (int_lt (pos n) (pos k)) e in
+          let parts = or_parts (int_lt (pos k) (pos 1)) (int_lt (pos n) (pos k)) e in
           let low = parts.0 in
           let high = parts.1 in
           (k, refl, (omega (arith, ints, low), omega (arith, ints, high)))
       by (negsuc k) e =
-          let low = (or_false (int_lt (negsuc k) (pos 1)) (int_lt (pos n) (negsuc k)) e).0 in
+          let low = (or_parts (int_lt (negsuc k) (pos 1)) (int_lt (pos n) (negsuc k)) e).0 in
           absurd (omega (arith, ints, low))
 
   same_count : (rank : Rank) (count : ℕ) → IsSome rank → is_other_count rank count ≡ false
       → rank ≡ Some count
   same_count None count s e = absurd (true≢false (sym s))
-  same_count (Some n) count s e = ap (λ k. Some k) (eqb-true n count (not_false (n == count) e))
+  same_count (Some n) count s e = ap (λ k. Some k) (eqb-true n count (not-false (n == count) e))
 
   some_array : (rank : Rank) → IsArrayRank rank → IsSome rank
   some_array (Some n) p = refl

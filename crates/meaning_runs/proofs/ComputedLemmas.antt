@@ -5,6 +5,7 @@ use Rattle.std.proofs.Common.{Option, Some, None, Contains, refl, sym, ap, ◌�
 use Rattle.std.specs.List.{AllByRecursion, flat_map}
 use Rattle.std.specs.Option.{option_or}
 use Rattle.std.proofs.lemmas.List.Elements.{All-from_recursion}
+use Rattle.std.proofs.lemmas.Bool.{not-false}
 use Rattle.zpl_meaning.specs.of_zpl_tree.Syntax.{Name, Pre, RegionBase, NamedRegion, Ditto, NamedDir, Vector}
 use Rattle.zpl_meaning.specs.of_zpl_tree.Syntax.{Rexpr}
 use Rattle.zpl_meaning.specs.of_zpl_tree.Syntax.{Dims, Posts, Program}
@@ -70,10 +71,6 @@ reached_direction true (Some (kind.Array base shape)) e = cc
 reached_direction false (Some (kind.Procedure signature)) e = cc
 reached_direction true (Some (kind.Procedure signature)) e = cc
 
-not_false : (b : Bool) → not b ≡ false → b ≡ true
-not_false true e = refl
-not_false false e = cc
-
 or_left : (a b : Bool) → a || b ≡ true → b ≡ false → a ≡ true
 or_left true b h e = refl
 or_left false b h e = absurd (true≢false (sym h ∙ e))
@@ -124,7 +121,7 @@ module _ (program : Program) (settings : List Setting) (follow : Follow program 
       → unless_taken reach is_direction name ≡ [] → Contains (names_of known.directions) name.text
   taken_direction reach name k e =
       direction_there reach name k
-      (not_false (is_direction (kind_of reach.scope name))
+      (not-false (is_direction (kind_of reach.scope name))
       (no_place (not (is_direction (kind_of reach.scope name))) name.at e))
 
   pres_there : (pre : List Pre) (reach : Reach) → IsIn program routine reach
@@ -144,7 +141,7 @@ module _ (program : Program) (settings : List Setting) (follow : Follow program 
       let region = is_region (kind_of reach.scope name) in
       let index = is_index reach.scope pre name post in
       region_there reach name k
-      (or_left region index (not_false (region || index)
+      (or_left region index (not-false (region || index)
       (no_place (not (region || index)) name.at e)) no_index)
 
   at_site : (site : Site) → Told program routine site → HasNoFault site

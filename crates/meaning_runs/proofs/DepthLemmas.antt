@@ -4,6 +4,7 @@ use Rattle.std.proofs.Common.{[], ◌∷◌, ◌++◌, Option, Some, None, cond,
 use Rattle.std.proofs.Common.{subst, true≢false}
 use Rattle.std.specs.Prelude.{filter_map}
 use Rattle.std.specs.List.{list_all, cons_option}
+use Rattle.std.proofs.lemmas.Bool.{and_parts}
 use Rattle.zpl_meaning.specs.of_zpl_tree.Syntax.{Name, Call, Exprs, Prefix, Program, Stmt, Prefixed, Stmts}
 use Rattle.zpl_meaning.specs.of_zpl_tree.Syntax.{NoStmt, ThenStmt, Form, Assign, Invoke, Block, If, While, Repeat}
 use Rattle.zpl_meaning.specs.of_zpl_tree.Syntax.{For, Border, Write, Return, Tested, Arms, NoArm, ThenArm}
@@ -19,7 +20,7 @@ use Rattle.zpl_meaning.specs.of_zpl_names.Sites.{stmts_sites, form_sites, arms_s
 use Rattle.zpl_meaning.specs.of_zpl_names.Sites.{body_sites, outermost_sites, routine_sites, CallSite, call_of}
 use Rattle.zpl_meaning.specs.of_zpl_names.Expansion.{is_shallow}
 use Rattle.zpl_meaning.specs.of_zpl_names.Accepted.{IsFaultless, HasNoFault, Recursion, DeepCalls}
-use Rattle.zpl_meaning.proofs.of_zpl_names.ListLemmas.{Among, among_from_Contains, and_parts}
+use Rattle.zpl_meaning.proofs.of_zpl_names.ListLemmas.{Among, among_from_Contains}
 use Rattle.zpl_meaning.proofs.of_zpl_names.NameLemmas.{no_place}
 use Rattle.zpl_meaning.proofs.of_zpl_names.FaultlessLemmas.{split, clean-routine}
 use Rattle.zpl_meaning.proofs.of_zpl_names.ReachedLemmas.{entry_is_shallow}
@@ -32,7 +33,7 @@ use Rattle.zpl_meaning.proofs.DepthLemmas.{Each, each_left, each_right, each_fro
 use Rattle.meaning_runs.specs.Met.{ComesUnder, MakesCall, Opening, opening_of, context_at, IsMet}
 use Rattle.meaning_runs.proofs.PartLemmas.{goes_among}
 use Rattle.meaning_runs.proofs.OwnLemmas.{named_among}
-use Rattle.meaning_runs.proofs.ResultLemmas.{not_false, callee_there}
+use Rattle.meaning_runs.proofs.ResultLemmas.{callee_there}
 use Rattle.zpl_meaning.proofs.DepthLemmas.{IsKnownCall, known_call}
 
 -- ---- what holds at the sites of a statement holds at those of the statements in it

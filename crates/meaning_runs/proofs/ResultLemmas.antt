@@ -1,5 +1,5 @@
 -- A `return` that a run comes to has a place for its answer.
-use Rattle.std.proofs.Common.{◌≡◌, ℕ, suc, ◌+◌, ◌<◌, Bool, true, false, not, inl, inr, pos}
+use Rattle.std.proofs.Common.{◌≡◌, ℕ, suc, ◌+◌, ◌<◌, true, false, not, inl, inr, pos}
 use Rattle.std.proofs.Common.{List, [], ◌∷◌, ◌++◌, length, Option, Some, None, IsSome, Contains}
 use Rattle.std.proofs.Common.{refl}
 use Rattle.std.proofs.Common.{sym, ap, ◌∙◌, subst, arith, length-append, true≢false, zero}
@@ -43,6 +43,7 @@ use Rattle.meaning_runs.proofs.HeldLemmas.{Has, HasAllHanded}
 use Rattle.meaning_runs.proofs.ApartLemmas.{AllApart, apart_names, apart_append, entered_apart}
 use Rattle.meaning_runs.specs.Held.{IsApart, HasResult}
 use Rattle.std.proofs.lemmas.List.Elements.{All-from_recursion}
+use Rattle.std.proofs.lemmas.Bool.{not-false}
 use Rattle.zpl_meaning.specs.Computed.{Gives}
 use Rattle.zpl_meaning.specs.Store.{Thing, Environment}
 use Rattle.zpl_meaning.specs.Context.{Setup}
@@ -308,10 +309,6 @@ module _ (program : Program) (routine : Routine) where
 
 -- ---- calls
 
-pub not_false : (b : Bool) → not b ≡ false → b ≡ true
-not_false true e = refl
-not_false false e = cc
-
 -- a procedure that is called as a statement answers nothing
 record IsProcedure (program : Program) (name : Name) : Type 0 where
   signature : Signature
@@ -349,7 +346,7 @@ invoked_bare program routine m at prefixes name actuals h callee named =
     let found = bare_procedure program routine m name
     (kind_of (scope_of program routine) name) refl
     (subst (λ scope. is_procedure (kind_of scope name) ≡ true) h.scope
-    (not_false (is_procedure (kind_of h.reach.scope name))
+    (not-false (is_procedure (kind_of h.reach.scope name))
     (no_place (not (is_procedure (kind_of h.reach.scope name))) name.at site.known)))
     (subst (λ scope. answers (kind_of scope name) ≡ false) h.scope
     (no_place (answers (kind_of h.reach.scope name)) name.at site.calls)) in
@@ -395,7 +392,7 @@ site_there : (program : Program) (routine : Routine) → Among (routines_of prog
 site_there program routine m reach scope role name actuals site =
     known_there program routine m name (kind_of (scope_of program routine) name) refl
     (subst (λ scope. is_procedure (kind_of scope name) ≡ true) scope
-    (not_false (is_procedure (kind_of reach.scope name))
+    (not-false (is_procedure (kind_of reach.scope name))
     (no_place (not (is_procedure (kind_of reach.scope name))) name.at site.known)))
 
 module _ (program : Program) (routine : Routine) (m : Among (routines_of program) routine) where
@@ -515,7 +512,7 @@ module _ (program : Program) (settings : List Setting) (n : ℕ) (clean : IsFaul
   entry_is : (entry : Option Routine) → entry_of program ≡ entry → is_entry entry ≡ true
   entry_is entry e =
       subst (λ found. is_entry found ≡ true) e
-      (not_false (is_entry (entry_of program))
+      (not-false (is_entry (entry_of program))
       (no_place (not (is_entry (entry_of program))) program.name.at
       (none_there (no_entry program) (λ at. clean NoEntry at))))
 

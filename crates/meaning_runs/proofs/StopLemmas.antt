@@ -35,9 +35,6 @@ use Rattle.meaning_runs.proofs.EndLemmas.{Stops, GoesOn, value_traps, Follows}
 use Rattle.meaning_runs.proofs.EndLemmas.{then_traps, Chosen, tested_traps, while_traps}
 use Rattle.meaning_runs.proofs.EndLemmas.{repeat_traps, for_traps}
 
-false_no_true : {A : Type 0} → false ≡ true → A
-false_no_true e = cc
-
 module _ (kind : TrapKind) (line : ℕ) (context : Context) (n : ℕ) where
   abbrev Trapped : Outcome → Type 0
   Trapped outcome = Ends kind line outcome

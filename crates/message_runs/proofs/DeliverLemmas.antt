@@ -4,6 +4,7 @@ use Rattle.std.proofs.Common.{◌≡◌, refl, sym, ◌∙◌, ap, ap₂, subst,
 use Rattle.std.specs.Prelude.{is_none, option_and_then, unwrap_or}
 use Rattle.std.specs.List.{list_all}
 use Rattle.std.proofs.lemmas.Bool.Decides.{nat_tests}
+use Rattle.std.proofs.lemmas.Bool.{and_from}
 use Rattle.zpl_region.proofs.ListLemmas.{Among}
 use Rattle.grid_links.specs.Machine.{Goes as Moves}
 use Rattle.grid_paths.specs.Tree.{times}
@@ -18,14 +19,14 @@ use Rattle.plan_orders.specs.of_plan_meaning.Messages.{are_partners, begun, byte
 use Rattle.plan_orders.proofs.DeliverLemmas.{alone_of, receivers_of, senders_of}
 use Rattle.row_runs.specs.Rows.{AreEffects, BothGo}
 use Rattle.needs_runs.specs.Holds.{Holds}
-use Rattle.needs_runs.proofs.HoldsLemmas.{both_true, every_all, holds_as, some_processors}
+use Rattle.needs_runs.proofs.HoldsLemmas.{every_all, holds_as, some_processors}
 
 -- what is among some numbers passes a test of all of them
 pub all_pass : (test : ℕ → Bool) (numbers : List ℕ) → ((q : ℕ) → Among numbers q → test q ≡ true)
     → list_all test numbers ≡ true
 all_pass test [] each = refl
 all_pass test (q ∷ numbers) each =
-    both_true (test q) (list_all test numbers) (each q (inl refl))
+    and_from (test q) (list_all test numbers) (each q (inl refl))
     (all_pass test numbers (λ r later. each r (inr later)))
 
 -- words that are the same from those that are taken from
@@ -153,7 +154,7 @@ module _ (code : Tables) (row : ℕ → Collective) (all : Abreast) where
     once_each p q a b =
         ap₂ (λ to from. (times q to == times p from) && nat_le (times q to) 1) (to_is p a)
         (from_is q b)
-        ∙ both_true (times q (is.to p) == times p (is.from q)) (nat_le (times q (is.to p)) 1)
+        ∙ and_from (times q (is.to p) == times p (is.from q)) (nat_le (times q (is.to p)) 1)
         (eq-eqb (times q (is.to p)) (times p (is.from q)) (is.partners.both_ways p q a b))
         (few_is (times q (is.to p)) (is.partners.once p q a b))
 

@@ -4,6 +4,7 @@ use Rattle.std.specs.Prelude.{◌==◌, filter, if◌then◌else◌, slice_get}
 use Rattle.std.specs.Int.RustNames.{int_lt}
 use Rattle.std.specs.List.{AllZip}
 use Rattle.std.proofs.lemmas.Int.{clamps, ints}
+use Rattle.std.proofs.lemmas.Bool.{and_parts, and_from}
 use Rattle.zpl_nums.specs.declared.ends.Border.{Border}
 use Rattle.zpl_nums.specs.declared.ends.Border.TheVariants.{Reflect, Wrap}
 use Rattle.zpl_region.specs.declared.dims.Dim.{Dim}
@@ -42,7 +43,6 @@ use Rattle.plan_orders.specs.of_plan_meaning.Messages.{delivered}
 use Rattle.needs_runs.specs.Agree.{FitRowAgrees, HasLayout}
 use Rattle.needs_runs.specs.Holds.{Holds}
 use Rattle.needs_runs.proofs.FlatLemmas.{are_blocks, three}
-use Rattle.needs_runs.proofs.HoldsLemmas.{both_parts, both_true}
 use Rattle.message_runs.proofs.FlatLemmas.{IsWritable, of_region, write_parts}
 use Rattle.message_runs.proofs.OwnLemmas.{IsRead, read_parts}
 use Rattle.message_runs.proofs.OwnerLemmas.{owner_below, owner_has}
@@ -133,7 +133,7 @@ inside_dims kind [] dims t e are = are
 inside_dims kind (d ∷ v) [] t e are = are
 inside_dims kind (d ∷ v) (dim ∷ dims) [] e are = absurd are
 inside_dims kind (d ∷ v) (dim ∷ dims) (x ∷ t) e are =
-    let parts = both_parts (dim_border_conforms d dim) (each_border_conforms v dims) e in
+    let parts = and_parts (dim_border_conforms d dim) (each_border_conforms v dims) e in
     (inside_dim kind d dim x parts.0 are.0, inside_dims kind v dims t parts.1 are.1)
 
 settled : (kind : Border) (rows : List ArrayDim) (v : List ℤ) (dims : List Dim) (t s : List ℤ)
@@ -149,11 +149,11 @@ settled kind [] (d ∷ v) (dim ∷ dims) t s long e out in_it same = absurd (ome
 settled kind (row ∷ rows) (d ∷ v) (dim ∷ dims) [] s long e out in_it same = absurd out
 settled kind (row ∷ rows) (d ∷ v) (dim ∷ dims) (x ∷ t) [] long e out in_it same = absurd in_it
 settled kind (Star ∷ rows) (d ∷ v) (dim ∷ dims) (x ∷ t) (y ∷ s) long e out in_it same =
-    let parts = both_parts (dim_border_conforms d dim) (each_border_conforms v dims) e in
+    let parts = and_parts (dim_border_conforms d dim) (each_border_conforms v dims) e in
     let rest : flattened (map storage_dim rows) t ≡ flattened (map storage_dim rows) s = cc in
     cons_same refl (settled kind rows v dims t s (omega (arith, long)) parts.1 out.1 in_it.1 rest)
 settled kind (Range a b c f ∷ rows) (d ∷ v) (dim ∷ dims) (x ∷ t) (y ∷ s) long e out in_it same =
-    let parts = both_parts (dim_border_conforms d dim) (each_border_conforms v dims) e in
+    let parts = and_parts (dim_border_conforms d dim) (each_border_conforms v dims) e in
     let first : x ≡ y = cc in
     let rest : flattened (map storage_dim rows) t ≡ flattened (map storage_dim rows) s = cc in
     cons_same (settled_dim kind d dim x y parts.0 out.0 in_it.0 first)
@@ -170,7 +170,7 @@ lies_alike (l ∷ lows) (h ∷ highs) (d ∷ v) (dim ∷ dims) [] lies = refl
 lies_alike (l ∷ lows) (h ∷ highs) (d ∷ v) (dim.Flood ∷ dims) (x ∷ t) lies =
     lies_alike lows highs v dims t lies
 lies_alike (l ∷ lows) (h ∷ highs) (d ∷ v) (dim.Range lo hi step align ∷ dims) (x ∷ t) lies =
-    let parts = both_parts (is_between l h x) (each_lies_within lows highs dims t) lies in
+    let parts = and_parts (is_between l h x) (each_lies_within lows highs dims t) lies in
     by (int_lt (pos 0) d) (int_lt d (pos 0)) parts.0 (lies_alike lows highs v dims t parts.1)
   where
     by : (a b : Bool) → is_between l h x ≡ true
@@ -179,9 +179,9 @@ lies_alike (l ∷ lows) (h ∷ highs) (d ∷ v) (dim.Range lo hi step align ∷ 
         else if b then dim.Range lo ((lo -ℤ d) -ℤ pos 1) step align
         else dim.Range lo hi step align) x
         && each_lies_within lows highs (each dim_inside_of v dims) t) ≡ true
-    by true b one rest = both_true (is_between l h x) _ one rest
-    by false true one rest = both_true (is_between l h x) _ one rest
-    by false false one rest = both_true (is_between l h x) _ one rest
+    by true b one rest = and_from (is_between l h x) _ one rest
+    by false true one rest = and_from (is_between l h x) _ one rest
+    by false false one rest = and_from (is_between l h x) _ one rest
 
 module _ (code : Tables) (layout : HasLayout code) (whole : Whole) (all : Abreast)
     (holds : Holds code whole all) (kind : Border) (array slot rank : ℕ) (shift : List ℤ)
@@ -328,8 +328,8 @@ module _ (code : Tables) (layout : HasLayout code) (links : Option ℕ) (n : ℕ
           (Does (delivered code (λ p. delivery.edged code p kind array slot shift) all))
       by_test region here false e = OldWrong
       by_test region here true e =
-          let (conform, more) = both_parts (border_conforms shift region) _ e in
-          let (can, may) = both_parts (can_write code whole (outside_of shift region) array) _ more in
+          let (conform, more) = and_parts (border_conforms shift region) _ e in
+          let (can, may) = and_parts (can_write code whole (outside_of shift region) array) _ more in
           let writes = write_parts code whole (outside_of shift region) array can in
           let reads = read_parts code whole (inside_of (map (side kind) shift) region) array
           (ap (λ r. reads_in code whole r array) (sources_are kind region shift) ∙ may) in

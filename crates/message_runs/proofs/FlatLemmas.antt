@@ -1,6 +1,7 @@
 -- Places of an array by the coordinates in the dimensions in which its row has a range.
 use Rattle.std.proofs.Common.{◌≡◌, refl, sym, ◌∙◌, ap, subst, ℕ, true, List, ℤ, length, All, Option, Some, None}
 use Rattle.std.specs.Prelude.{slice_get}
+use Rattle.std.proofs.lemmas.Bool.{and_parts}
 use Rattle.zpl_region.specs.declared.regions.Region.{Region}
 use Rattle.zpl_region.specs.Dim.{HasStep}
 use Rattle.zpl_region.specs.Region.{IsMember, components, each_lies_within, lies_in_box, members}
@@ -21,7 +22,6 @@ use Rattle.flat_form.specs.Right.{can_write, has_places, matches, writes_well}
 use Rattle.flat_form.specs.Whole.{Whole}
 use Rattle.needs_runs.specs.Holds.{lies_in_own}
 use Rattle.needs_runs.proofs.ExchangeLemmas.{has_flattened}
-use Rattle.needs_runs.proofs.HoldsLemmas.{both_parts}
 use Rattle.needs_runs.proofs.PlaceLemmas.{lies_by_rows, lies_flattened}
 use Rattle.message_runs.proofs.OwnLemmas.{all_among}
 use Rattle.needs_runs.proofs.FlatLemmas.{flat_of, matching_flat}
@@ -115,7 +115,7 @@ write_parts code whole region array =
         → slice_get whole.stores array ≡ store → writes_well row store region ≡ true
         → IsWritable code whole region array
     by (Some row) (Some store) there here e =
-        let parts = both_parts (matches row region) (has_places store region unmoved) e in
+        let parts = and_parts (matches row region) (has_places store region unmoved) e in
         record {
           row = row;
           store = store;

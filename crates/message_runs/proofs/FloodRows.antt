@@ -1,6 +1,7 @@
 -- A flood agrees: each tuple's value comes from an owner of its source.
 use Rattle.std.proofs.Common.{◌≡◌, refl, sym, ◌∙◌, ap, ap₂, subst, ℕ, Bool, true, false, ◌&&◌, List, [], ◌∷◌, ℤ, length, map, Option, Some, None}
 use Rattle.std.specs.Prelude.{◌==◌, filter, slice_get, unwrap_or}
+use Rattle.std.proofs.lemmas.Bool.{and_parts}
 use Rattle.zpl_region.specs.declared.dims.Dim.{Dim}
 use Rattle.zpl_region.specs.declared.regions.Region.{Region}
 use Rattle.zpl_region.specs.Ends.{single_of}
@@ -34,7 +35,6 @@ use Rattle.plan_orders.specs.of_plan_meaning.Messages.{delivered}
 use Rattle.needs_runs.specs.Agree.{FitRowAgrees, HasLayout}
 use Rattle.needs_runs.specs.Holds.{Holds}
 use Rattle.needs_runs.proofs.FlatLemmas.{are_blocks, three}
-use Rattle.needs_runs.proofs.HoldsLemmas.{both_parts}
 use Rattle.message_runs.proofs.FlatLemmas.{IsWritable, of_region, write_parts}
 use Rattle.message_runs.proofs.OwnLemmas.{IsRead, read_parts}
 use Rattle.message_runs.proofs.OwnerLemmas.{owner_below, owner_has}
@@ -167,8 +167,8 @@ module _ (code : Tables) (layout : HasLayout code) (links : Option ℕ) (n : ℕ
           (Does (delivered code (λ p. delivery.flooded code p array target from source) all))
       by_test dest src one two false e = OldWrong
       by_test dest src one two true e =
-          let (conform, more) = both_parts (flood_conforms dest src) _ e in
-          let (can, may) = both_parts (can_write code whole dest array) _ more in
+          let (conform, more) = and_parts (flood_conforms dest src) _ e in
+          let (can, may) = and_parts (can_write code whole dest array) _ more in
           let writes = write_parts code whole dest array can in
           let reads = read_parts code whole src from may in
           let (target_slot, source_slot, target_array, source_array) = fits.fit in

@@ -2,7 +2,7 @@
 use Rattle.std.proofs.Common.{◌≡◌, ◌⊎◌, refl, sym, ◌∙◌, ap, ap₂, subst, inl, inr, ℕ, zero, suc, ◌+◌, ◌<◌, ◌≤◌, ◌==◌, Bool, true, false, ◌&&◌, not, nat_lt, cond, List, [], ◌∷◌, ℤ, pos, length, map, filter, All, Option, Some, None, arith, eq-eqb, eqb-true}
 use Rattle.std.specs.Prelude.{find, option_and_then, if◌then◌else◌, slice_get, slice_index_or, unwrap_or}
 use Rattle.std.specs.Option.{IsSomeAnd}
-use Rattle.std.proofs.lemmas.Bool.{ne_eqb}
+use Rattle.std.proofs.lemmas.Bool.{ne_eqb, and_parts}
 use Rattle.std.proofs.lemmas.Bool.Decides.{nat_tests}
 use Rattle.std.proofs.lemmas.List.{length-map}
 use Rattle.std.proofs.lemmas.List.Elements.{All-cons, All-head, All-nil, All-tail}
@@ -52,7 +52,7 @@ use Rattle.needs_runs.specs.Holds.{Holds}
 use Rattle.needs_runs.proofs.OwnerLemmas.{boxes_of_rows}
 use Rattle.needs_runs.proofs.RoomRows.{all_get}
 use Rattle.needs_runs.proofs.SlotLemmas.{zip_back}
-use Rattle.needs_runs.proofs.HoldsLemmas.{both_parts, holds_as, some_processors}
+use Rattle.needs_runs.proofs.HoldsLemmas.{holds_as, some_processors}
 use Rattle.message_runs.proofs.DeliverLemmas.{IsDelivered, delivered_agrees}
 use Rattle.message_runs.proofs.OwnLemmas.{IsRead, own_values, read_parts}
 use Rattle.message_runs.proofs.OwnerLemmas.{limited_bounds, ranges}
@@ -446,7 +446,7 @@ module _ (code : Tables) (layout : HasLayout code) (links : Option ℕ) (n : ℕ
           (Does (delivered code (λ p. gathered code p truth array slot) all))
       by_test region here false e = OldWrong
       by_test region here true e =
-          let (plain, reads) = both_parts (no_flood region) (reads_in code whole region array) e in
+          let (plain, reads) = and_parts (no_flood region) (reads_in code whole region array) e in
           let is = read_parts code whole region array reads in
           let (rank, there, in_slot) =
           zip_back IsSlot code.slots whole.slots slot region holds.slots here in

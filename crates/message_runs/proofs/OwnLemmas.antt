@@ -3,6 +3,7 @@ use Rattle.std.proofs.Common.{◌≡◌, ◌⊎◌, refl, sym, ◌∙◌, ap, su
 use Rattle.std.specs.Prelude.{if◌then◌else◌, option_and_then, slice_get}
 use Rattle.std.specs.List.{list_all}
 use Rattle.std.specs.Option.{option_map}
+use Rattle.std.proofs.lemmas.Bool.{and_parts, and_from}
 use Rattle.zpl_region.specs.declared.dims.Dim.{Dim}
 use Rattle.zpl_region.specs.declared.dims.Dim.TheVariants as dim
 use Rattle.zpl_region.specs.declared.regions.Region.{Region}
@@ -28,7 +29,6 @@ use Rattle.flat_form.specs.Right.{each_covers, each_matches, has_places, is_unmo
 use Rattle.flat_form.specs.Whole.{Whole}
 use Rattle.plan_orders.specs.of_plan_meaning.Abreast.{Abreast}
 use Rattle.needs_runs.specs.Holds.{Holds, lies_in_own}
-use Rattle.needs_runs.proofs.HoldsLemmas.{both_parts, both_true}
 use Rattle.needs_runs.proofs.PlaceLemmas.{held_there}
 use Rattle.needs_runs.proofs.SlotLemmas.{zip_there}
 
@@ -58,13 +58,13 @@ lies_by_cover (l ∷ lows) (h ∷ highs) (Star ∷ rows) (dim.Flood ∷ dims) (x
 lies_by_cover (l ∷ lows) (h ∷ highs) (Star ∷ rows) (dim.Range lo hi step align ∷ dims) (x ∷ t) long
     cover lies =
     lies_by_cover lows highs rows dims t (omega (arith, long)) cover
-    (both_parts (lies_within l h (dim.Range lo hi step align) x) _ lies).1
+    (and_parts (lies_within l h (dim.Range lo hi step align) x) _ lies).1
 lies_by_cover (l ∷ lows) (h ∷ highs) (Range a b c d ∷ rows) (dim.Flood ∷ dims) (x ∷ t) long cover
     lies = cc
 lies_by_cover (l ∷ lows) (h ∷ highs) (Range a b c d ∷ rows) (dim.Range lo hi step align ∷ dims)
     (x ∷ t) long cover lies =
-    let parts = both_parts (lies_within l h (dim.Range lo hi step align) x) _ lies in
-    both_true (lies_within l h (dim.Range a b (pos 1) a) x) _ parts.0
+    let parts = and_parts (lies_within l h (dim.Range lo hi step align) x) _ lies in
+    and_from (lies_within l h (dim.Range a b (pos 1) a) x) _ parts.0
     (lies_by_cover lows highs rows dims t (omega (arith, long)) cover parts.1)
 
 -- ---- lists
@@ -72,9 +72,9 @@ pub all_among : {X : Type 0} (test : X → Bool) (xs : List X) (x : X) → list_
     → Among xs x → test x ≡ true
 all_among test [] x all among = absurd among
 all_among test (y ∷ xs) x all (inl same) =
-    ap test (sym same) ∙ (both_parts (test y) (list_all test xs) all).0
+    ap test (sym same) ∙ (and_parts (test y) (list_all test xs) all).0
 all_among test (y ∷ xs) x all (inr later) =
-    all_among test xs x (both_parts (test y) (list_all test xs) all).1 later
+    all_among test xs x (and_parts (test y) (list_all test xs) all).1 later
 
 pub values_are : (stores : List Array) (array : ℕ) (f : List ℤ → ℤ) (tuples : List (List ℤ))
     → ((t : List ℤ) → Among tuples t → value_at stores array t ≡ Some (f t))
@@ -106,13 +106,13 @@ read_parts code whole region array =
         → each_covers row.dims region.dims ≡ true
     covered row true e = e
     covered row false e =
-        matches_cover row.dims region.dims (both_parts (is_unmoved unmoved) (matches row region) e).1
+        matches_cover row.dims region.dims (and_parts (is_unmoved unmoved) (matches row region) e).1
 
     by : (row : Option ArrayRow) (store : Option Array) → slice_get code.arrays array ≡ row
         → slice_get whole.stores array ≡ store → reads_well row store region unmoved ≡ true
         → IsRead code whole region array
     by (Some row) (Some store) there here e =
-        let parts = both_parts (may_read row region unmoved) (has_places store region unmoved) e in
+        let parts = and_parts (may_read row region unmoved) (has_places store region unmoved) e in
         record {
           row = row;
           store = store;

@@ -11,6 +11,7 @@ use Rattle.zpl_region.proofs.ListLemmas.{Among, Among-filter}
 use Rattle.zpl_region.proofs.RegionLemmas.{within_is_dim}
 use Rattle.zpl_region.proofs.TupleLemmas.{among_tuples}
 use Rattle.std.proofs.lemmas.List.Elements.{All-cons, All-head, All-nil, All-tail}
+use Rattle.std.proofs.lemmas.Bool.{and_parts, and_from}
 use Rattle.grid_layout.specs.declared.axes.Axis.{Axis}
 use Rattle.grid_layout.specs.declared.blocks.Blocks.{Blocks}
 use Rattle.grid_layout.specs.Block.{block_first, block_last}
@@ -18,7 +19,7 @@ use Rattle.grid_layout.specs.Grid.{blocks_at, cuts, processors_of}
 use Rattle.grid_layout.specs.Layout.{AreBlocks, axes_at, laid_out}
 use Rattle.grid_layout.specs.Piece.{IsRange}
 use Rattle.grid_layout.specs.Piece.{owner_for as owner_in}
-use Rattle.grid_layout.proofs.PartLemmas.{blocks_length, both_true, has_each, has_owner_for, near_of, owner_for_below, parts_by_owner, true_both}
+use Rattle.grid_layout.proofs.PartLemmas.{blocks_length, has_each, has_owner_for, near_of, owner_for_below, parts_by_owner}
 use Rattle.node_form.specs.declared.tables.Tables.{Tables}
 use Rattle.node_stages.proofs.OwnLemmas.{IsShaped-slot, own_tuples}
 use Rattle.grid_meaning.specs.Local.{processors}
@@ -54,14 +55,14 @@ has_itself (axis ∷ axes) (n ∷ ns) (c ∷ cs) ks (d ∷ dims) [] long has = r
 has_itself (axis ∷ axes) (n ∷ ns) (c ∷ cs) [] (d ∷ dims) (x ∷ t) long has =
     absurd (omega (arith, long))
 has_itself (axis ∷ axes) (n ∷ ns) (c ∷ cs) (k ∷ ks) (dim.Flood ∷ dims) (x ∷ t) long has =
-    true_both (c == c) (has_each axes ns cs cs dims t) (eq-eqb c c refl)
+    and_from (c == c) (has_each axes ns cs cs dims t) (eq-eqb c c refl)
     (has_itself axes ns cs ks dims t (omega (arith, long))
-    (both_true (c == k) (has_each axes ns cs ks dims t) has).1)
+    (and_parts (c == k) (has_each axes ns cs ks dims t) has).1)
 has_itself (axis ∷ axes) (n ∷ ns) (c ∷ cs) (k ∷ ks) (dim.Range lo hi step align ∷ dims) (x ∷ t)
     long has =
-    let parts = both_true (is_between (block_first axis n c) (block_last axis n c) x)
+    let parts = and_parts (is_between (block_first axis n c) (block_last axis n c) x)
     (has_each axes ns cs ks dims t) has in
-    true_both (is_between (block_first axis n c) (block_last axis n c) x)
+    and_from (is_between (block_first axis n c) (block_last axis n c) x)
     (has_each axes ns cs cs dims t) parts.0
     (has_itself axes ns cs ks dims t (omega (arith, long)) parts.1)
 

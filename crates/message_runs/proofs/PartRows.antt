@@ -3,7 +3,7 @@ use Rattle.std.proofs.Common.{◌≡◌, refl, sym, ◌∙◌, ap, ap₂, subst,
 use Rattle.std.specs.Prelude.{option_and_then, slice_get, slice_set}
 use Rattle.std.specs.List.{flat_map, list_any, range_with_len}
 use Rattle.std.specs.Option.{option_map}
-use Rattle.std.proofs.lemmas.Bool.{ne_eqb}
+use Rattle.std.proofs.lemmas.Bool.{ne_eqb, and_parts}
 use Rattle.std.proofs.lemmas.Bool.Decides.{nat_tests}
 use Rattle.zpl_nums.specs.declared.folds.Fold.{Fold}
 use Rattle.zpl_nums.specs.Fold.{folded, joined, unit_of}
@@ -45,7 +45,7 @@ use Rattle.normal_runs.proofs.PlaceLemmas.{members_apart, set_apart}
 use Rattle.needs_runs.specs.Agree.{FitRowAgrees, HasLayout}
 use Rattle.needs_runs.specs.Holds.{Holds}
 use Rattle.needs_runs.proofs.FlatLemmas.{are_blocks, flat_of, three}
-use Rattle.needs_runs.proofs.HoldsLemmas.{both_parts, some_processors}
+use Rattle.needs_runs.proofs.HoldsLemmas.{some_processors}
 use Rattle.message_runs.proofs.FlatLemmas.{IsWritable, write_parts}
 use Rattle.message_runs.proofs.OwnLemmas.{IsRead, own_value, read_parts, values_are}
 use Rattle.message_runs.proofs.OwnerLemmas.{limited_bounds, ranges}
@@ -507,10 +507,10 @@ module _ (code : Tables) (layout : HasLayout code) (links : Option ℕ) (n : ℕ
           (Does (plan.delivered code (λ p. delivery.parted code p array target f from source) all))
       by_test dest src one two false e = OldWrong
       by_test dest src one two true e =
-          let (conform, differs) = both_parts (reduction_conforms dest src) _ e in
-          let (apart, more) = both_parts (not (array == from)) _ differs in
-          let (plain, rest) = both_parts (no_flood src) _ more in
-          let (can, may) = both_parts (can_write code whole dest array) _ rest in
+          let (conform, differs) = and_parts (reduction_conforms dest src) _ e in
+          let (apart, more) = and_parts (not (array == from)) _ differs in
+          let (plain, rest) = and_parts (no_flood src) _ more in
+          let (can, may) = and_parts (can_write code whole dest array) _ rest in
           let writes = write_parts code whole dest array can in
           let reads = read_parts code whole src from may in
           let (target_slot, source_slot, target_array, source_array) = fits.fit in

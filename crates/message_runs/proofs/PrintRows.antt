@@ -3,6 +3,7 @@ use Rattle.std.proofs.Common.{◌≡◌, refl, sym, ◌∙◌, ap, subst, ℕ, z
 use Rattle.std.specs.Prelude.{flat_map, slice_get, slice_index_or}
 use Rattle.std.specs.Fmt.{signed_decimal}
 use Rattle.std.specs.List.{list_all}
+use Rattle.std.proofs.lemmas.Bool.{and_from}
 use Rattle.zpl_nums.specs.declared.ends.End.TheVariants.{Trap}
 use Rattle.zpl_nums.specs.declared.ends.TrapKind.TheVariants.{DivideByZero}
 use Rattle.zpl_arrays.specs.ArrayText.{truth_text}
@@ -29,7 +30,7 @@ use Rattle.needs_runs.specs.Agree.{FitRowAgrees}
 use Rattle.needs_runs.specs.Holds.{Holds}
 use Rattle.needs_runs.proofs.ControlLemmas.{all_parts, scalars_same, words_value}
 use Rattle.needs_runs.proofs.ControlRows.{agree_if}
-use Rattle.needs_runs.proofs.HoldsLemmas.{both_true, every_all, holds_as, some_processors}
+use Rattle.needs_runs.proofs.HoldsLemmas.{every_all, holds_as, some_processors}
 
 -- ---- elements of lists
 pub index_there : {X : Type 0} (xs : List X) (k : ℕ) (d : X) → k < length xs
@@ -127,7 +128,7 @@ module _ (code : Tables) (whole : Whole) (all : Abreast) (holds : Holds code who
             (sym (ap ended_by (acts Divides is 0 (some_processors code))))
             (subst (λ b. AreEffects (Holds code) (Does (flat.value_printed whole text Divides))
             (Does (ends_where b (Trap DivideByZero 0))))
-            (sym (both_true (is_quiet all) _ quiet
+            (sym (and_from (is_quiet all) _ quiet
             (every_all code
             (λ p. is_ended_as (Trap DivideByZero 0) (ended_by (action_of code row all p)))
             (λ p below. ap (λ action. is_ended_as (Trap DivideByZero 0) (ended_by action))

@@ -1,5 +1,5 @@
 -- The requests that a processor keeps in a remap read: those with words, by their senders.
-use Rattle.std.proofs.Common.{◌≡◌, ◌⊎◌, refl, sym, ◌∙◌, ap, subst, inl, inr, ℕ, ◌+◌, ◌≤◌, ◌==◌, Bool, true, false, not, nat_lt, nat_le, cond, List, [], ◌∷◌, ℤ, length, filter, arith}
+use Rattle.std.proofs.Common.{◌≡◌, refl, sym, ◌∙◌, ap, subst, inl, inr, ℕ, ◌+◌, ◌≤◌, ◌==◌, Bool, true, false, not, nat_lt, nat_le, cond, List, [], ◌∷◌, ℤ, length, filter, arith}
 use Rattle.std.specs.Prelude.{if◌then◌else◌}
 use Rattle.std.proofs.Math.Path.{fun_ext}
 use Rattle.std.proofs.lemmas.Bool.Decides.{nat_tests}
@@ -56,47 +56,6 @@ module _ (words : ℕ → List ℤ) where
       (subst (λ k. Keeps words k (kept_with q (words q) kept)) same (keeps_new words q kept)))
   request_there r some (q ∷ from) kept (inr later) =
       request_there r some from (kept_where (length (words q) == 0) q kept) later
-
-  keeps_back : (q r : ℕ) (kept : List (ℕ × List ℤ)) → Keeps words r (kept_with q (words q) kept)
-      → (q ≡ r) ⊎ Keeps words r kept
-  keeps_back q r [] (inl same) = inl same
-  keeps_back q r [] (inr later) = absurd later
-  keeps_back q r (entry ∷ kept) keeps =
-      by (nat_lt q entry.0) keeps (keeps_back q r kept)
-    where
-      put : (q ≡ r) ⊎ Keeps words r kept → (q ≡ r) ⊎ Keeps words r (entry ∷ kept)
-      put (inl same) = inl same
-      put (inr later) = inr (inr later)
-
-      by : (b : Bool)
-          → Keeps words r (if b then (q, words q) ∷ (entry ∷ kept)
-          else entry ∷ kept_with q (words q) kept)
-          → (Keeps words r (kept_with q (words q) kept) → (q ≡ r) ⊎ Keeps words r kept)
-          → (q ≡ r) ⊎ Keeps words r (entry ∷ kept)
-      by true (inl same) rest = inl same
-      by true (inr later) rest = inr later
-      by false (inl same) rest = inr (inl same)
-      by false (inr later) rest = put (rest later)
-
-  pub request_from : (r : ℕ) (from : List ℕ) (kept : List (ℕ × List ℤ))
-      → Keeps words r (requests_kept from kept) → Among from r ⊎ Keeps words r kept
-  request_from r [] kept keeps = inr keeps
-  request_from r (q ∷ from) kept keeps =
-      by (request_from r from (kept_where (length (words q) == 0) q kept) keeps)
-    where
-      old : (b : Bool) → Keeps words r (kept_where b q kept)
-          → Among (q ∷ from) r ⊎ Keeps words r kept
-      old true keeps = inr keeps
-      old false keeps = put (keeps_back q r kept keeps)
-        where
-          put : (q ≡ r) ⊎ Keeps words r kept → Among (q ∷ from) r ⊎ Keeps words r kept
-          put (inl same) = inl (inl same)
-          put (inr later) = inr later
-
-      by : Among from r ⊎ Keeps words r (kept_where (length (words q) == 0) q kept)
-          → Among (q ∷ from) r ⊎ Keeps words r kept
-      by (inl among) = inl (inr among)
-      by (inr keeps) = old (length (words q) == 0) keeps
 
   pub named_keeps : (r : ℕ) (kept : List (ℕ × List ℤ)) → Among (names_of kept) r
       → Keeps words r kept

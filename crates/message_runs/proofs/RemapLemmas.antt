@@ -2,6 +2,7 @@
 use Rattle.std.proofs.Common.{◌≡◌, refl, sym, ◌∙◌, ap, ap₂, subst, ℕ, ◌+◌, ◌*◌, ◌-◌, ◌<◌, ◌==◌, nat_le, Bool, true, false, ◌&&◌, List, [], ℤ, Some, is_some, eq-eqb}
 use Rattle.std.specs.Prelude.{drop, is_none, None, unwrap_or}
 use Rattle.std.specs.List.{list_all}
+use Rattle.std.proofs.lemmas.Bool.{and_from}
 use Rattle.zpl_region.proofs.ListLemmas.{Among}
 use Rattle.grid_links.specs.Machine.{Goes as Moves}
 use Rattle.grid_paths.specs.Tree.{times}
@@ -15,7 +16,7 @@ use Rattle.flat_form.specs.Whole.{Whole}
 use Rattle.plan_orders.specs.of_plan_meaning.Abreast.{Abreast, are_none, every, go_where, is_quiet, locals_of, share_of}
 use Rattle.plan_orders.specs.of_plan_meaning.Messages.{answered, answering, answers, answers_from, answers_to, are_partners, asked, asking, behind_answers, heard_by, leaves_row, next_or, receivers, remapped, remaps_well, requests, senders}
 use Rattle.needs_runs.specs.Holds.{Holds}
-use Rattle.needs_runs.proofs.HoldsLemmas.{both_true, every_all, holds_as, some_processors}
+use Rattle.needs_runs.proofs.HoldsLemmas.{every_all, holds_as, some_processors}
 use Rattle.message_runs.proofs.DeliverLemmas.{all_pass, few_is, taking_same}
 use Rattle.message_runs.proofs.WorkLemmas.{all_others_below}
 
@@ -149,7 +150,7 @@ module _ (code : Tables) (row : ℕ → Collective) (all : Abreast) where
     once_each p q a b =
         ap₂ (λ to from. (times q to == times p from) && nat_le (times q to) 1) (answers_to_is p a)
         (answers_from_is q b)
-        ∙ both_true (times q (is.to p) == times p (is.from q)) (nat_le (times q (is.to p)) 1)
+        ∙ and_from (times q (is.to p) == times p (is.from q)) (nat_le (times q (is.to p)) 1)
         (eq-eqb (times q (is.to p)) (times p (is.from q)) (is.partners.both_ways p q a b))
         (few_is (times q (is.to p)) (is.partners.once p q a b))
 
@@ -175,9 +176,9 @@ module _ (code : Tables) (row : ℕ → Collective) (all : Abreast) where
         (Does (remapped code row all))
     remapped_agrees =
         subst (λ b. AreEffects (Holds code) (Does (Goes [] whole)) (Does (go_where b [] behind)))
-        (sym (both_true (is_quiet all && are_partners code (answers_to code row all)
+        (sym (and_from (is_quiet all && are_partners code (answers_to code row all)
         (answers_from code row all)) (every code (remaps_well code row all))
-        (both_true (is_quiet all) (are_partners code (answers_to code row all)
+        (and_from (is_quiet all) (are_partners code (answers_to code row all)
         (answers_from code row all)) (ap are_none is.quiet) partners_are)
         (every_all code (remaps_well code row all) well)))
         (BothGo (holds_as code whole (record { shares = λ p. share_of (is.next p); flights = [] })

@@ -5,6 +5,7 @@ use Rattle.std.specs.List.{cons_option, filter_map, flat_map, list_all}
 use Rattle.std.specs.Option.{IsNone, IsSomeAnd}
 use Rattle.std.proofs.Math.Path.{fun_ext}
 use Rattle.std.proofs.lemmas.List.Elements.{All-head, All-tail}
+use Rattle.std.proofs.lemmas.Bool.{and_parts}
 use Rattle.zpl_region.specs.declared.regions.Region.{Region}
 use Rattle.zpl_region.specs.Region.{members}
 use Rattle.zpl_region.proofs.ListLemmas.{Among, Among-append_left, Among-append_right, Among-filter, among_appended, among_filtered}
@@ -32,7 +33,7 @@ use Rattle.plan_orders.proofs.RemapLemmas.{asking_stages, back_from, receivers_a
 use Rattle.needs_runs.specs.Agree.{FitRowAgrees, HasLayout}
 use Rattle.needs_runs.specs.Holds.{Holds}
 use Rattle.needs_runs.proofs.FlatLemmas.{fit, three}
-use Rattle.needs_runs.proofs.HoldsLemmas.{both_parts, holds_as, some_processors}
+use Rattle.needs_runs.proofs.HoldsLemmas.{holds_as, some_processors}
 use Rattle.needs_runs.proofs.RoomRows.{store_set}
 use Rattle.message_runs.proofs.FlatLemmas.{write_parts}
 use Rattle.message_runs.proofs.HomeLemmas.{home_below}
@@ -518,7 +519,7 @@ module _ (code : Tables) (layout : HasLayout code) (links : Option ℕ) (n array
           remapped code (λ p. remap.remapped code p array slot from parts row) all)))
       by_test region here false e = OldWrong
       by_test region here true e =
-          let (writable, readable) = both_parts (can_write code whole region array) _ e in
+          let (writable, readable) = and_parts (can_write code whole region array) _ e in
           by_row region here writable readable (slice_get code.arrays from) refl
 
       by : (region : Option Region) → slice_get whole.slots slot ≡ region

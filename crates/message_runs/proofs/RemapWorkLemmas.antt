@@ -4,7 +4,7 @@ use Rattle.std.specs.Prelude.{if◌then◌else◌, option_and_then, slice_get, s
 use Rattle.std.specs.List.{flat_map, list_all}
 use Rattle.std.specs.Option.{option_map}
 use Rattle.std.proofs.Math.Nat.{mul-mod_left}
-use Rattle.std.proofs.lemmas.Bool.{lt-leb, ne_eqb}
+use Rattle.std.proofs.lemmas.Bool.{lt-leb, ne_eqb, and_from}
 use Rattle.std.proofs.lemmas.Bool.Decides.{nat_tests}
 use Rattle.std.proofs.lemmas.List.{length-map}
 use Rattle.zpl_region.specs.declared.regions.Region.{Region}
@@ -30,7 +30,6 @@ use Rattle.plan_orders.specs.of_plan_meaning.Abreast.{Abreast, locals_of}
 use Rattle.normal_runs.proofs.PlaceLemmas.{set_apart, set_there, set_twice}
 use Rattle.needs_runs.specs.Agree.{HasLayout}
 use Rattle.needs_runs.specs.Holds.{Holds}
-use Rattle.needs_runs.proofs.HoldsLemmas.{both_true}
 use Rattle.message_runs.proofs.FlatLemmas.{IsWritable}
 use Rattle.message_runs.proofs.HomeLemmas.{home_value, outside_is}
 use Rattle.message_runs.proofs.OwnLemmas.{IsRead, own_value, values_are}
@@ -52,7 +51,7 @@ all_mapped : {X Y : Type 0} (test : Y → Bool) (f : X → Y) (xs : List X)
     → ((x : X) → Among xs x → test (f x) ≡ true) → list_all test (map f xs) ≡ true
 all_mapped test f [] each = refl
 all_mapped test f (x ∷ xs) each =
-    both_true (test (f x)) (list_all test (map f xs)) (each x (inl refl))
+    and_from (test (f x)) (list_all test (map f xs)) (each x (inl refl))
     (all_mapped test f xs (λ y later. each y (inr later)))
 
 -- a wanted tuple has a coordinate for each of three dimensions, and past its parts 0

@@ -5,6 +5,7 @@ use Rattle.std.specs.Prelude.{if◌then◌else◌, option_and_then, slice_get, s
 use Rattle.std.specs.List.{filter, flat_map}
 use Rattle.std.specs.Option.{IfSome, option_map}
 use Rattle.std.proofs.lemmas.List.{length-map}
+use Rattle.std.proofs.lemmas.Bool.{and_parts}
 use Rattle.zpl_nums.specs.declared.folds.Fold.{Fold}
 use Rattle.zpl_nums.specs.Integer.{is_true}
 use Rattle.zpl_region.specs.declared.regions.Region.{Region}
@@ -48,7 +49,7 @@ use Rattle.scan_plan.proofs.StepLemmas.{line_fold, scan_here}
 use Rattle.needs_runs.specs.Agree.{FitRowAgrees, HasLayout}
 use Rattle.needs_runs.specs.Holds.{Holds}
 use Rattle.needs_runs.proofs.FlatLemmas.{are_blocks, flat_of, three}
-use Rattle.needs_runs.proofs.HoldsLemmas.{both_parts, holds_as, some_processors}
+use Rattle.needs_runs.proofs.HoldsLemmas.{holds_as, some_processors}
 use Rattle.needs_runs.proofs.RoomRows.{store_set}
 use Rattle.message_runs.proofs.DeliverLemmas.{IsDelivered, delivered_agrees}
 use Rattle.message_runs.proofs.FlatLemmas.{IsWritable, write_parts}
@@ -526,9 +527,9 @@ module _ (code : Tables) (layout : HasLayout code) (links : Option ℕ) (n : ℕ
           (Does (delivered code (λ p. row.scanned_row code p f along from mask array slot) all))
       by_test region here false e = OldWrong
       by_test region here true e =
-          let (plain, more) = both_parts (no_flood region) _ e in
-          let (can, rest) = both_parts (can_write code whole region array) _ more in
-          let (may, kept) = both_parts (reads_in code whole region from) _ rest in
+          let (plain, more) = and_parts (no_flood region) _ e in
+          let (can, rest) = and_parts (can_write code whole region array) _ more in
+          let (may, kept) = and_parts (reads_in code whole region from) _ rest in
           let reads = read_parts code whole region from may in
           let in_slot = slot_is code whole all holds fits.rank slot region fits.fit.0 here in
           subst (λ o. AreEffects (Holds code)

@@ -1,5 +1,5 @@
 -- What the code answers, dimension by dimension.
-use Rattle.std.proofs.Common.{◌≡◌, refl, sym, ◌∙◌, ap, subst, arith, ℕ, zero, suc, ◌<◌, false, List, [], ◌∷◌, length, get_or, All, ℤ, pos, ◌+ℤ◌, ◌-ℤ◌, ◌≤ℤ◌, ◌<ℤ◌}
+use Rattle.std.proofs.Common.{◌≡◌, refl, sym, ◌∙◌, ap, subst, arith, ℕ, zero, suc, ◌<◌, false, List, [], ◌∷◌, length, get_or, All, ℤ, pos, ◌+ℤ◌, ◌-ℤ◌, ◌<ℤ◌}
 use Rattle.std.specs.Prelude.{int_lt}
 use Rattle.std.proofs.lemmas.Int.{ints}
 use Rattle.std.proofs.lemmas.List.Elements.{All-cons, All-head, All-tail}
@@ -27,12 +27,6 @@ pub outside_below : (dim : Dim) (d lo hi step align a b s z : ℤ) → dim ≡ R
 outside_below dim d lo hi step align a b s z is below p q f g =
     let not_above : int_lt (pos 0) d ≡ false = int_lt-false (pos 0) d (omega (arith, ints)) in
     rw (is, not_above, int_lt-true d (pos 0) below, p, q, f, g) refl
-
-pub outside_none : (dim : Dim) (d lo hi step align : ℤ) → dim ≡ Range lo hi step align → d ≤ℤ pos 0 → pos 0 ≤ℤ d → dim ≡ dim_outside_of d dim
-outside_none dim d lo hi step align is most least =
-    let not_above : int_lt (pos 0) d ≡ false = int_lt-false (pos 0) d most in
-    let not_below : int_lt d (pos 0) ≡ false = int_lt-false d (pos 0) least in
-    rw (is, not_above, not_below) refl
 
 pub outsides_told : (v : List ℤ) (dims : List Dim) (e x y z : Dim) → length v ≡ 3 → length dims ≡ 3
     → x ≡ dim_outside_of (get_or v 0 (pos 0)) (get_or dims 0 e) → y ≡ dim_outside_of (get_or v 1 (pos 0)) (get_or dims 1 e) → z ≡ dim_outside_of (get_or v 2 (pos 0)) (get_or dims 2 e)

@@ -7,6 +7,7 @@ use Rattle.std.specs.List.{AllZip}
 use Rattle.std.proofs.lemmas.Int.{ints}
 use Rattle.std.proofs.lemmas.List.{length-map, length-replicate}
 use Rattle.std.proofs.lemmas.List.Elements.{All-nil, All-cons, All-head, All-tail}
+use Rattle.std.proofs.lemmas.Bool.{and_parts, and_from}
 use Rattle.zpl_nums.specs.declared.folds.Fold.{Fold}
 use Rattle.zpl_region.specs.declared.regions.Region.{Region}
 use Rattle.zpl_region.specs.Dim.{HasStep}
@@ -43,7 +44,6 @@ use Rattle.needs_runs.specs.Agree.{HasLayout}
 use Rattle.needs_runs.specs.Holds.{HasFloodsOf, HasPart, Holds, lies_in_own}
 use Rattle.needs_runs.proofs.BringLemmas.{flattened_as}
 use Rattle.needs_runs.proofs.ExchangeLemmas.{has_flattened}
-use Rattle.needs_runs.proofs.HoldsLemmas.{both_parts, both_true}
 use Rattle.needs_runs.proofs.NeedLemmas.{place_of}
 use Rattle.needs_runs.proofs.OwnerLemmas.{boxed_steps, map_at}
 use Rattle.needs_runs.proofs.PieceLemmas.{boxed, held, held_many_dims, kinds, needed_held, read_needed, three_dims}
@@ -108,8 +108,8 @@ unmoved_fringe (row ∷ rows) zero all = refl
 unmoved_fringe (Star ∷ rows) (suc n) all = unmoved_fringe rows n (All-tail HasFringe Star rows all)
 unmoved_fringe (Range lo hi low high ∷ rows) (suc n) all =
     let one = All-head HasFringe (Range lo hi low high) rows all in
-    both_true (int_le (neg_ℤ low) (pos 0) && int_le (pos 0) high) (is_in_fringe rows (replicate n (pos 0)))
-    (both_true (int_le (neg_ℤ low) (pos 0)) (int_le (pos 0) high)
+    and_from (int_le (neg_ℤ low) (pos 0) && int_le (pos 0) high) (is_in_fringe rows (replicate n (pos 0)))
+    (and_from (int_le (neg_ℤ low) (pos 0)) (int_le (pos 0) high)
     (test_from_le (neg_ℤ low) (pos 0) (let low_is = one.0.0 in omega (arith, ints, low_is)))
     (test_from_le (pos 0) high one.1.0))
     (unmoved_fringe rows n (All-tail HasFringe (Range lo hi low high) rows all))
@@ -130,7 +130,7 @@ no_place : (rank : ℕ) (t : List ℤ) → IsRank rank → has_place (no_places 
 no_place zero t ranked has = absurd (omega (arith, ranked.0))
 no_place (suc rank) [] ranked has = true≢false (sym has)
 no_place (suc rank) (x ∷ t) ranked has =
-    let parts = both_parts (is_coordinate (all_from (pos 1) (pos 0)) x) _ has in
+    let parts = and_parts (is_coordinate (all_from (pos 1) (pos 0)) x) _ has in
     let is = (is_coordinate_iff (all_from (pos 1) (pos 0)) x (omega (arith, ints))).0 parts.0 in
     omega (arith, ints, is.0, is.1)
 

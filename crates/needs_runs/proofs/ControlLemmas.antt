@@ -3,6 +3,7 @@ use Rattle.std.proofs.Common.{◌≡◌, refl, sym, ◌∙◌, ap, subst, ℕ, z
 use Rattle.std.proofs.Common.{◌==◌, List, [], ◌∷◌, ◌++◌, ℤ, pos, true≢false, Option, Some, None}
 use Rattle.std.specs.Prelude.{flat_map, is_none, option_and_then, slice_get, slice_index_or, slice_set}
 use Rattle.std.specs.List.{list_all}
+use Rattle.std.proofs.lemmas.Bool.{and_parts, and_from}
 use Rattle.zpl_nums.specs.declared.ends.End.{End}
 use Rattle.zpl_nums.specs.declared.folds.Fold.{Fold}
 use Rattle.zpl_nums.specs.Fold.{joined}
@@ -33,7 +34,7 @@ use Rattle.plan_meaning.specs.Act.{control_of, controlled_as, go_one_way, is_end
 use Rattle.plan_meaning.proofs.SlotLemmas.{slots-Decides}
 use Rattle.needs_runs.specs.Holds.{Holds}
 use Rattle.row_runs.specs.Rows.{AreEffects, BothGo, BothStop, BothLeap, OldWrong}
-use Rattle.needs_runs.proofs.HoldsLemmas.{both_parts, both_true, every_all, holds_as, joined_same, same_number}
+use Rattle.needs_runs.proofs.HoldsLemmas.{every_all, holds_as, joined_same, same_number}
 use Rattle.needs_runs.proofs.SlotLemmas.{zip_set}
 
 -- ---- words whose scalars pass a test have the same value over scalars that are the same there
@@ -41,7 +42,7 @@ pub all_parts : {X : Type 0} (test : X → Bool) (xs ys : List X) → list_all t
     → (list_all test xs ≡ true) × (list_all test ys ≡ true)
 all_parts test [] ys e = (refl, e)
 all_parts test (x ∷ xs) ys e =
-    let parts = both_parts (test x) (list_all test (xs ++ ys)) e in
+    let parts = and_parts (test x) (list_all test (xs ++ ys)) e in
     let rest = all_parts test xs ys parts.1 in
     (rw parts.0 rest.0, rest.1)
 
@@ -49,7 +50,7 @@ module _ (a b : List ℤ) (passes : ℕ → Bool)
     (same : (k : ℕ) → passes k ≡ true → slice_get a k ≡ slice_get b k) where
   word_same : (w : ExprOp) → list_all passes (word_scalars w) ≡ true
       → ReadsSame (scalar_operands a) (scalar_operands b) w
-  word_same (word.Scalar scalar) e = same scalar (both_parts (passes scalar) true e).0
+  word_same (word.Scalar scalar) e = same scalar (and_parts (passes scalar) true e).0
   word_same (word.Here array) e = refl
   word_same (word.Shifted array shift) e = refl
   word_same (word.Const value) e = tt
@@ -270,6 +271,6 @@ module _ (code : Tables) (whole : Whole) (all : Abreast) (some : 0 < processors 
     way_agrees c (Closes ending plain is) =
         subst (λ d. AreEffects (Holds code) (Does (Stops (run.Ends ending))) (controlled_as code row all d)) (sym (is 0 some))
         (subst (λ b. AreEffects (Holds code) (Does (Stops (run.Ends ending))) (Does (plan.ends_where b ending)))
-        (sym (both_true (go_one_way code row all) (are_none all.flights)
+        (sym (and_from (go_one_way code row all) (are_none all.flights)
         (one_way (λ p. Ends ending) is (λ p below. plain)) (ap are_none holds.flights))) BothStop)
     way_agrees c NotSaid = OldWrong

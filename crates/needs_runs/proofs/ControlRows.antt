@@ -4,6 +4,7 @@ use Rattle.std.proofs.Common.{◌&&◌, ◌==◌, List, [], ◌∷◌, ◌++◌,
 use Rattle.std.specs.Prelude.{All, flat_map, if◌then◌else◌, slice_get, option_and_then}
 use Rattle.std.specs.List.{list_all}
 use Rattle.std.proofs.lemmas.List.Elements.{All-head, All-tail}
+use Rattle.std.proofs.lemmas.Bool.{and_parts}
 use Rattle.zpl_nums.specs.declared.ends.TrapKind.{TrapKind}
 use Rattle.zpl_nums.specs.declared.ends.TrapKind.TheVariants as kind
 use Rattle.zpl_nums.specs.Integer.{is_true}
@@ -39,7 +40,7 @@ use Rattle.plan_meaning.specs.Act as plan
 use Rattle.needs_runs.specs.Holds.{Holds}
 use Rattle.row_runs.specs.Rows.{AreEffects, BothGo, BothStop, BothLeap, BothPass, OldWrong}
 use Rattle.needs_runs.specs.Agree.{HasLayout, FitRowAgrees, RowAgrees}
-use Rattle.needs_runs.proofs.HoldsLemmas.{both_parts, same_number, some_processors}
+use Rattle.needs_runs.proofs.HoldsLemmas.{same_number, some_processors}
 use Rattle.needs_runs.proofs.SlotLemmas.{dims_slot, formed_slot, zip_back}
 use Rattle.needs_runs.proofs.ControlLemmas.{all_parts, scalars_same, words_value, Way, Stays, Sets, Fixes, Leads, Closes, computed_way, row_way, way_agrees}
 
@@ -116,7 +117,7 @@ module _ (code : Tables) (whole : Whole) (all : Abreast) (holds : Holds code who
           → list_all (is_settled whole) (ks ++ []) ≡ true
       nil_behind [] e = refl
       nil_behind (k ∷ ks) e =
-          let parts = both_parts (is_settled whole k) (list_all (is_settled whole) ks) e in
+          let parts = and_parts (is_settled whole k) (list_all (is_settled whole) ks) e in
           rw parts.0 (nil_behind ks parts.1)
   part_same number p below part.Star settled = refl
   part_same number p below (part.Copied slot) settled =
@@ -148,7 +149,7 @@ module _ (code : Tables) (whole : Whole) (all : Abreast) (holds : Holds code who
               → list_all (is_settled whole) b ≡ true → list_all (is_settled whole) (a ++ b) ≡ true
           joined [] b e f = f
           joined (k ∷ a) b e f =
-              let parts = both_parts (is_settled whole k) (list_all (is_settled whole) a) e in
+              let parts = and_parts (is_settled whole k) (list_all (is_settled whole) a) e in
               rw parts.0 (joined a b parts.1 f)
 
   -- ---- one row
@@ -184,17 +185,10 @@ module _ (code : Tables) (layout : HasLayout code) (links : Option ℕ) (n : ℕ
   abbrev Fit : Instr → Type 0
   Fit row = FitRowAgrees code links n row
 
-  -- the row's own scalars and those of its words are settled
-  settled_behind : (whole : Whole) (own : List ℕ) (exprs : List Words)
-      → list_all (is_settled whole) (own ++ each_word word_scalars exprs) ≡ true
-      → list_all (is_settled whole) (each_word word_scalars exprs) ≡ true
-  settled_behind whole own exprs e =
-      (all_parts (is_settled whole) own (each_word word_scalars exprs) e).1
-
   pub set_agrees : (scalar expr line : ℕ) → Fit (instr.Set scalar expr line)
   set_agrees scalar expr line fits three whole all holds =
       agree_if (are_settled whole (inlined code row)) _ _ (λ settled.
-      let own = both_parts (is_settled whole scalar) (list_all (is_settled whole) (each_word word_scalars (words_at code expr ∷ []))) settled in
+      let own = and_parts (is_settled whole scalar) (list_all (is_settled whole) (each_word word_scalars (words_at code expr ∷ []))) settled in
       controlled_agrees code whole all holds row
       (computed_way code whole all (some code whole all holds) holds (register_value code (registers_of whole) expr)
       (λ p. register_value code (regs code whole all holds p) expr) line

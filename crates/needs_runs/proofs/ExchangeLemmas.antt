@@ -11,6 +11,7 @@ use Rattle.std.proofs.lemmas.Bool.Decides.{nat_tests}
 use Rattle.std.proofs.lemmas.List.{length-map}
 use Rattle.std.proofs.lemmas.List.Sums.{sum_by-cons}
 use Rattle.std.proofs.lemmas.List.Elements.{All-head, All-tail}
+use Rattle.std.proofs.lemmas.Bool.{and_from}
 use Rattle.zpl_nums.specs.Fold.{joined}
 use Rattle.zpl_region.specs.declared.dims.Dim.{Dim}
 use Rattle.zpl_region.specs.declared.dims.Dim.TheVariants as dim
@@ -50,7 +51,7 @@ use Rattle.plan_meaning.proofs.ThereLemmas.{there_is}
 use Rattle.plan_meaning.specs.Messages.{begun, does_well, final_of, finished, from_of, middle_of, next_with, receivers, senders, started, starts_alone, to_of, took, words_of}
 use Rattle.needs_runs.specs.Agree.{HasLayout}
 use Rattle.needs_runs.specs.Holds.{Holds, HoldsOwn, HasPart, lies_in_own}
-use Rattle.needs_runs.proofs.HoldsLemmas.{both_true, every_all, joined_same, some_processors}
+use Rattle.needs_runs.proofs.HoldsLemmas.{every_all, joined_same, some_processors}
 use Rattle.needs_runs.proofs.BringLemmas.{element_alike, value_held, flattened_as, IsFuller, all_brought, all_said, nothing_brought, then_brought}
 use Rattle.needs_runs.proofs.PieceLemmas.{box_there, held_many_dims, kinds, needed_owned, owner, owner_below, piece_place, read_needed, three_dims}
 use Rattle.needs_runs.proofs.NeedLemmas.{place_of}
@@ -98,7 +99,7 @@ each_below count p (q ∷ qs) all = (
 list_all_by : (test : ℕ → Bool) (qs : List ℕ) → Every (λ q. test q ≡ true) qs
     → list_all test qs ≡ true
 list_all_by test [] all = refl
-list_all_by test (q ∷ qs) all = both_true (test q) (list_all test qs) all.0 (list_all_by test qs all.1)
+list_all_by test (q ∷ qs) all = and_from (test q) (list_all test qs) all.0 (list_all_by test qs all.1)
 
 every_weaker : (P Q : ℕ → Type 0) → ((q : ℕ) → P q → Q q) → (qs : List ℕ) → Every P qs → Every Q qs
 every_weaker P Q weaker [] all = tt
@@ -357,9 +358,9 @@ module _ (code : Tables) (layout : HasLayout code) (links : Option ℕ)
 
     well_start : (p : ℕ) → p < processors code → does_well code start_row locals (λ p q. []) p ≡ true
     well_start p below =
-        both_true _ _
-        (both_true _ _
-        (both_true _ _ (ap is_some (begun_start p))
+        and_from _ _
+        (and_from _ _
+        (and_from _ _ (ap is_some (begun_start p))
         (list_all_by (λ q. is_some ((start_row p).words_to (middle_of code start_row locals p) q)) (to_of code start_row locals p)
         (subst (Every (λ q. is_some (words_between code (middle_of code start_row locals p) items p q) ≡ true)) (sym (to_start p))
         (every_weaker (λ q. q < processors code) (λ q. is_some (words_between code (middle_of code start_row locals p) items p q) ≡ true)
@@ -381,8 +382,8 @@ module _ (code : Tables) (layout : HasLayout code) (links : Option ℕ)
     pub starts : started code start_row all links number ≡ Goes [] behind_start
     starts =
         ap (λ b. go_where b [] (next_with code start_row locals (λ p q. []) (all.flights ++ flight ∷ [])))
-        (both_true _ _
-        (both_true _ _ (ap (λ fs. is_roomy links (length fs)) holds.flights ∙ roomy)
+        (and_from _ _
+        (and_from _ _ (ap (λ fs. is_roomy links (length fs)) holds.flights ∙ roomy)
         (every_all code (λ p. every code (λ q. nat_le (times q (to_of code start_row locals p)) 1)) (λ p a.
         every_all code (λ q. nat_le (times q (to_of code start_row locals p)) 1) (λ q b.
         ap (λ qs. nat_le (times q qs) 1) (to_start p) ∙ le_test _ 1 (partners.once p q a b)))))
@@ -425,9 +426,9 @@ module _ (code : Tables) (layout : HasLayout code) (links : Option ℕ)
     well_finish : (p : ℕ) → p < processors code
         → does_well code finish_row locals (words_of code start_row locals) p ≡ true
     well_finish p below =
-        both_true _ _
-        (both_true _ _
-        (both_true _ _ (ap is_some (begun_finish p))
+        and_from _ _
+        (and_from _ _
+        (and_from _ _ (ap is_some (begun_finish p))
         (ap (list_all (λ q. is_some ((finish_row p).words_to (middle_of code finish_row locals p) q))) (to_finish p)))
         (ap is_some (took_finish p below)))
         (ap (λ (l : Local). is_none l.ended) (final_finish p below))
@@ -439,11 +440,11 @@ module _ (code : Tables) (layout : HasLayout code) (links : Option ℕ)
     pub finishes : finished code finish_row behind_start number ≡ Goes [] behind_finish
     finishes =
         ap (λ b. go_where b [] behind_finish)
-        (both_true _ _
-        (both_true _ _ (eq-eqb number number refl)
+        (and_from _ _
+        (and_from _ _ (eq-eqb number number refl)
         (every_all code (λ p. every code (λ q. (times q (to_of code start_row locals p) == times p (from_of code finish_row locals q)) && nat_le (times q (to_of code start_row locals p)) 1)) (λ p a.
         every_all code (λ q. (times q (to_of code start_row locals p) == times p (from_of code finish_row locals q)) && nat_le (times q (to_of code start_row locals p)) 1) (λ q b.
-        both_true _ _
+        and_from _ _
         (ap₂ (λ qs ps. times q qs == times p ps) (to_start p) (from_finish q)
         ∙ eq-eqb (times q (sent_to p)) (times p (taken_from q)) (partners.both_ways p q a b))
         (ap (λ qs. nat_le (times q qs) 1) (to_start p) ∙ le_test _ 1 (partners.once p q a b))))))

@@ -5,6 +5,7 @@
 use Rattle.std.proofs.Common.{◌≡◌, ◌⊎◌, refl, sym, ◌∙◌, ap, subst, inl, inr, ℕ, zero, suc, ◌<◌, Bool, true, false, true≢false, List, [], ◌∷◌, ℤ, pos, length, map, Some, arith}
 use Rattle.std.specs.Prelude.{slice_get}
 use Rattle.std.proofs.lemmas.Int.{ints}
+use Rattle.std.proofs.lemmas.Bool.{and_parts}
 use Rattle.zpl_region.specs.declared.dims.Dim.{Dim}
 use Rattle.zpl_region.specs.declared.dims.Dim.TheVariants as dim
 use Rattle.zpl_region.specs.declared.regions.Region.{Region}
@@ -34,7 +35,6 @@ use Rattle.plan_meaning.specs.of_flat_form.Whole.{Whole}
 use Rattle.needs_runs.specs.Agree.{HasLayout}
 use Rattle.needs_runs.specs.Holds.{HasFloodsOf, Holds}
 use Rattle.needs_runs.proofs.BringLemmas.{flattened_as}
-use Rattle.needs_runs.proofs.HoldsLemmas.{both_parts}
 use Rattle.needs_runs.proofs.OwnerLemmas.{KindsAs, boxes_of_rows}
 use Rattle.needs_runs.proofs.PieceLemmas.{held_many_dims, kinds}
 use Rattle.needs_runs.proofs.RoomRows.{all_get}
@@ -66,7 +66,7 @@ no_place : (rank : ℕ) (t : List ℤ) → IsRank rank → has_place (no_places 
 no_place zero t ranked has = absurd (omega (arith, ranked.0))
 no_place (suc rank) [] ranked has = true≢false (sym has)
 no_place (suc rank) (x ∷ t) ranked has =
-    let parts = both_parts (is_coordinate (all_from (pos 1) (pos 0)) x) _ has in
+    let parts = and_parts (is_coordinate (all_from (pos 1) (pos 0)) x) _ has in
     let is = (is_coordinate_iff (all_from (pos 1) (pos 0)) x (omega (arith, ints))).0 parts.0 in
     omega (arith, ints, is.0, is.1)
 

@@ -1,10 +1,11 @@
 -- Tests of all processors, and states that hold a flat state.
 use Rattle.std.proofs.Common.{◌≡◌, refl, sym, ◌∙◌, ap, subst, arith, ℕ, zero, suc}
-use Rattle.std.proofs.Common.{◌+◌, ◌*◌, ◌-◌, ◌<◌, ◌≤◌, Bool, true, false, ◌&&◌, ◌==◌, List, [], ◌∷◌}
+use Rattle.std.proofs.Common.{◌+◌, ◌*◌, ◌-◌, ◌<◌, ◌≤◌, Bool, true, ◌==◌, List, [], ◌∷◌}
 use Rattle.std.proofs.Common.{ℤ}
 use Rattle.std.proofs.lemmas.Bool.Decides.{nat_tests}
 use Rattle.std.specs.Prelude.{fold, Some}
 use Rattle.std.specs.List.{AllByRecursion, list_all, range_with_len}
+use Rattle.std.proofs.lemmas.Bool.{and_from}
 use Rattle.zpl_nums.specs.Fold.{joined}
 use Rattle.node_form.specs.declared.tables.Tables.{Tables}
 use Rattle.node_form.specs.Grid.{factors_of}
@@ -16,19 +17,12 @@ use Rattle.plan_meaning.specs.Abreast.{Abreast, every, locals_of, standing}
 use Rattle.needs_runs.specs.Holds.{Holds, HoldsOwn}
 
 -- ---- tests
-pub both_true : (a b : Bool) → a ≡ true → b ≡ true → (a && b) ≡ true
-both_true true b e f = f
-both_true false b e f = cc
-
-pub both_parts : (a b : Bool) → (a && b) ≡ true → (a ≡ true) × (b ≡ true)
-both_parts true b e = (refl, e)
-both_parts false b e = cc
 
 range_all : (test : ℕ → Bool) (a n : ℕ) → ((p : ℕ) → a ≤ p → p < a + n → test p ≡ true)
     → list_all test (range_with_len a n) ≡ true
 range_all test a zero all = refl
 range_all test a (suc n) all =
-    both_true (test a) (list_all test (range_with_len (a + 1) n)) (all a (omega arith) (omega arith))
+    and_from (test a) (list_all test (range_with_len (a + 1) n)) (all a (omega arith) (omega arith))
     (range_all test (a + 1) n (λ p low high. all p (omega (arith, low)) (omega (arith, high))))
 
 pub every_all : (code : Tables) (test : ℕ → Bool)

@@ -10,6 +10,7 @@ use Rattle.std.specs.Ordering.{int_eq}
 use Rattle.std.proofs.lemmas.Bool.Decides.{nat_tests}
 use Rattle.std.proofs.lemmas.Int.{clamps, ints}
 use Rattle.std.proofs.lemmas.List.Elements.{All-head, All-tail}
+use Rattle.std.proofs.lemmas.Bool.{and_parts}
 use Rattle.zpl_region.specs.declared.dims.Dim.{Dim}
 use Rattle.zpl_region.specs.declared.dims.Dim.TheVariants as dim
 use Rattle.zpl_region.specs.Dim.{HasStep, IsCoordinate, IsMultiple}
@@ -33,7 +34,6 @@ use Rattle.plan_meaning.specs.of_grid_meaning.Place.{moved_by}
 use Rattle.plan_meaning.specs.of_grid_meaning.Stored.{width_above, width_below}
 use Rattle.plan_meaning.specs.of_flat_form.Right.{each_covers}
 use Rattle.plan_meaning.specs.of_flat_form.Static.{is_in_fringe}
-use Rattle.needs_runs.proofs.HoldsLemmas.{both_parts}
 
 -- ---- one dimension
 -- a coordinate of a range lies in a block; that of a flood dimension lies everywhere
@@ -189,15 +189,15 @@ reads_are_needed (Star ∷ rows) (axis ∷ axes) (n ∷ ns) (k ∷ ks) (d ∷ di
       dims_many = omega (arith, many.dims_many);
       v_many = omega (arith, many.v_many);
       t_many = omega (arith, many.t_many);
-    }) below.1 (All-tail HasStep d dims steps) are.1 within.1 covers has (both_parts (int_eq v (pos 0)) (is_in_fringe rows vs) fringe).1 in
+    }) below.1 (All-tail HasStep d dims steps) are.1 within.1 covers has (and_parts (int_eq v (pos 0)) (is_in_fringe rows vs) fringe).1 in
     ((refl, rest.0), (needed_star axis n k v d x (All-head HasStep d dims steps) are.0 within.0, rest.1))
 reads_are_needed (Range lo hi low high ∷ rows) (axis ∷ axes) (n ∷ ns) (k ∷ ks) (dim.Flood ∷ dims) (v ∷ vs) (x ∷ t) many below steps are within covers has fringe = cc
 reads_are_needed (Range lo hi low high ∷ rows) (axis ∷ axes) (n ∷ ns) (k ∷ ks) (dim.Range from to stride base ∷ dims) (v ∷ vs) (x ∷ t) many below steps are within covers has fringe =
-    let places = both_parts (is_coordinate (dim.Range lo hi (pos 1) lo) (x +ℤ v)) (each_has_place (map storage_dim rows) (moved_by vs t)) has in
+    let places = and_parts (is_coordinate (dim.Range lo hi (pos 1) lo) (x +ℤ v)) (each_has_place (map storage_dim rows) (moved_by vs t)) has in
     let place : IsCoordinate (dim.Range lo hi (pos 1) lo) (x +ℤ v) =
     (is_coordinate_iff (dim.Range lo hi (pos 1) lo) (x +ℤ v) (omega (arith, ints))).0 places.0 in
-    let outer = both_parts (int_le (neg_ℤ low) v && int_le v high) (is_in_fringe rows vs) fringe in
-    let bounds = both_parts (int_le (neg_ℤ low) v) (int_le v high) outer.0 in
+    let outer = and_parts (int_le (neg_ℤ low) v && int_le v high) (is_in_fringe rows vs) fringe in
+    let bounds = and_parts (int_le (neg_ℤ low) v) (int_le v high) outer.0 in
     let near : neg_ℤ low ≤ℤ v = le_from_test (neg_ℤ low) v bounds.0 in
     let far : v ≤ℤ high = le_from_test v high bounds.1 in
     let held = held_range axis n k lo hi low high (x +ℤ v) x below.0 place.0 place.1 within.0.0 within.0.1 (omega (arith, ints, near)) (omega (arith, ints, far)) in

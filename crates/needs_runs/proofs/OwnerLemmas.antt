@@ -7,6 +7,7 @@ use Rattle.std.specs.Int.{int_max, int_min}
 use Rattle.std.specs.List.{AllZip}
 use Rattle.std.proofs.lemmas.Int.{clamps, ints}
 use Rattle.std.proofs.lemmas.List.Elements.{All-nil, All-cons, All-head, All-tail}
+use Rattle.std.proofs.lemmas.Bool.{and_parts, and_from}
 use Rattle.zpl_region.specs.declared.dims.Dim.{Dim}
 use Rattle.zpl_region.specs.declared.dims.Dim.TheVariants as dim
 use Rattle.zpl_region.specs.Dim.{HasStep, IsCoordinate}
@@ -31,7 +32,6 @@ use Rattle.node_form.specs.declared.arrays.ArrayDim.TheVariants.{Range, Star}
 use Rattle.node_form.specs.declared.arrays.ArrayRow.{ArrayRow}
 use Rattle.node_form.specs.declared.tables.Tables.{Tables}
 use Rattle.node_form.specs.Fits.{FitsArray, storage_dim}
-use Rattle.needs_runs.proofs.HoldsLemmas.{both_parts, both_true}
 use Rattle.needs_runs.proofs.NeedLemmas.{InBlock, InBlocks}
 
 -- ---- past the rank dimensions aren't cut
@@ -126,17 +126,17 @@ lies_by_owner rank [] [] [] [] [] [] [] [] u a b c d e f g kinds past has = refl
 lies_by_owner zero (row ∷ rows) (axis ∷ axes) (n ∷ ns) (o ∷ cs) (k ∷ ks) (held ∷ helds) (w ∷ v) (q ∷ dims) [] a b c d e f g kinds past has = refl
 lies_by_owner (suc rank) (row ∷ rows) (axis ∷ axes) (n ∷ ns) (o ∷ cs) (k ∷ ks) (held ∷ helds) (w ∷ v) (q ∷ dims) [] a b c d e f g kinds past has = refl
 lies_by_owner (suc rank) (Star ∷ rows) (axis ∷ axes) (n ∷ ns) (o ∷ cs) (k ∷ ks) (dim.Flood ∷ helds) (w ∷ v) (q ∷ dims) (x ∷ u) a b c d e f g kinds past has =
-    lies_by_owner rank rows axes ns cs ks helds v dims u (omega (arith, a)) (omega (arith, b)) (omega (arith, c)) (omega (arith, d)) (omega (arith, e)) (omega (arith, f)) (omega (arith, g)) kinds past (both_parts _ _ has).1
+    lies_by_owner rank rows axes ns cs ks helds v dims u (omega (arith, a)) (omega (arith, b)) (omega (arith, c)) (omega (arith, d)) (omega (arith, e)) (omega (arith, f)) (omega (arith, g)) kinds past (and_parts _ _ has).1
 lies_by_owner (suc rank) (Range lo hi low high ∷ rows) (axis ∷ axes) (n ∷ ns) (o ∷ cs) (k ∷ ks) (dim.Range a' b' c' d' ∷ helds) (w ∷ v) (q ∷ dims) (x ∷ u) a b c d e f g kinds past has =
-    let parts = both_parts _ _ has in
-    both_true (is_between (block_first axis n o) (block_last axis n o) x) _
+    let parts = and_parts _ _ has in
+    and_from (is_between (block_first axis n o) (block_last axis n o) x) _
     (sym (place_is axis n o k a' b' c' d' w x (part (block_first axis n k) (block_last axis n k) q)) ∙ parts.0)
     (lies_by_owner rank rows axes ns cs ks helds v dims u (omega (arith, a)) (omega (arith, b)) (omega (arith, c)) (omega (arith, d)) (omega (arith, e)) (omega (arith, f)) (omega (arith, g)) kinds past parts.1)
 lies_by_owner zero (Star ∷ rows) (axis ∷ axes) (n ∷ ns) (o ∷ cs) (k ∷ ks) (dim.Flood ∷ helds) (w ∷ v) (q ∷ dims) (x ∷ u) a b c d e f g kinds past has =
-    lies_by_owner zero rows axes ns cs ks helds v dims u (omega (arith, a)) (omega (arith, b)) (omega (arith, c)) (omega (arith, d)) (omega (arith, e)) (omega (arith, f)) (omega (arith, g)) kinds past.1 (both_parts _ _ has).1
+    lies_by_owner zero rows axes ns cs ks helds v dims u (omega (arith, a)) (omega (arith, b)) (omega (arith, c)) (omega (arith, d)) (omega (arith, e)) (omega (arith, f)) (omega (arith, g)) kinds past.1 (and_parts _ _ has).1
 lies_by_owner zero (Range lo hi low high ∷ rows) (axis ∷ axes) (n ∷ ns) (o ∷ cs) (k ∷ ks) (dim.Range a' b' c' d' ∷ helds) (w ∷ v) (q ∷ dims) (x ∷ u) a b c d e f g kinds past has =
-    both_true (is_between (pos 0) (pos 0) x) _ (ap (is_between (pos 0) (pos 0)) past.0)
-    (lies_by_owner zero rows axes ns cs ks helds v dims u (omega (arith, a)) (omega (arith, b)) (omega (arith, c)) (omega (arith, d)) (omega (arith, e)) (omega (arith, f)) (omega (arith, g)) kinds past.1 (both_parts _ _ has).1)
+    and_from (is_between (pos 0) (pos 0) x) _ (ap (is_between (pos 0) (pos 0)) past.0)
+    (lies_by_owner zero rows axes ns cs ks helds v dims u (omega (arith, a)) (omega (arith, b)) (omega (arith, c)) (omega (arith, d)) (omega (arith, e)) (omega (arith, f)) (omega (arith, g)) kinds past.1 (and_parts _ _ has).1)
 lies_by_owner rank (Star ∷ rows) (axis ∷ axes) (n ∷ ns) (o ∷ cs) (k ∷ ks) (dim.Range a' b' c' d' ∷ helds) (w ∷ v) (q ∷ dims) (x ∷ u) a b c d e f g kinds past has = absurd kinds
 lies_by_owner rank (Range lo hi low high ∷ rows) (axis ∷ axes) (n ∷ ns) (o ∷ cs) (k ∷ ks) (dim.Flood ∷ helds) (w ∷ v) (q ∷ dims) (x ∷ u) a b c d e f g kinds past has = absurd kinds
 lies_by_owner rank rows axes ns cs ks helds v dims u a b c d e f g kinds past has = absurd (omega (arith, a, b, c, d, e, f, g))

@@ -6,6 +6,7 @@ use Rattle.std.specs.List.{AllZip}
 use Rattle.std.proofs.lemmas.List.Elements.{All-nil, All-cons, All-head, All-tail}
 use Rattle.std.proofs.lemmas.Bool.Decides.{nat_tests}
 use Rattle.std.proofs.lemmas.Int.{ints}
+use Rattle.std.proofs.lemmas.Bool.{and_parts, and_from}
 use Rattle.zpl_region.specs.declared.dims.Dim.{Dim}
 use Rattle.zpl_region.specs.declared.dims.Dim.TheVariants as dim
 use Rattle.zpl_region.specs.declared.regions.Region.{Region}
@@ -32,7 +33,6 @@ use Rattle.plan_meaning.specs.of_grid_meaning.State.{IsSlot}
 use Rattle.plan_meaning.specs.of_grid_meaning.Stored.{arrangement_of}
 use Rattle.plan_meaning.specs.of_flat_form.Right.{each_matches, matches}
 use Rattle.needs_runs.specs.Holds.{lies_in_own}
-use Rattle.needs_runs.proofs.HoldsLemmas.{both_parts, both_true}
 
 -- ---- a value that is held
 pub held_there : (t : List ℤ) (store : Array) → has_place store.storage t ≡ true
@@ -71,8 +71,8 @@ module _ where
   lies_flattened (l ∷ lows) (h ∷ highs) (Star ∷ rows) (dim.Range lo hi step align ∷ dims) (x ∷ t) long match lies = cc
   lies_flattened (l ∷ lows) (h ∷ highs) (Range a b c e ∷ rows) (dim.Flood ∷ dims) (x ∷ t) long match lies = cc
   lies_flattened (l ∷ lows) (h ∷ highs) (Range a b c e ∷ rows) (dim.Range lo hi step align ∷ dims) (x ∷ t) long match lies =
-      let parts = both_parts (lies_within l h (dim.Range a b (pos 1) a) x) _ lies in
-      both_true (lies_within l h (dim.Range lo hi step align) x) _ parts.0
+      let parts = and_parts (lies_within l h (dim.Range a b (pos 1) a) x) _ lies in
+      and_from (lies_within l h (dim.Range lo hi step align) x) _ parts.0
       (lies_flattened lows highs rows dims t (omega (arith, long)) match parts.1)
 
   -- and the other way round
@@ -90,8 +90,8 @@ module _ where
   lies_by_rows (l ∷ lows) (h ∷ highs) (Star ∷ rows) (dim.Range lo hi step align ∷ dims) (x ∷ t) long match lies = cc
   lies_by_rows (l ∷ lows) (h ∷ highs) (Range a b c e ∷ rows) (dim.Flood ∷ dims) (x ∷ t) long match lies = cc
   lies_by_rows (l ∷ lows) (h ∷ highs) (Range a b c e ∷ rows) (dim.Range lo hi step align ∷ dims) (x ∷ t) long match lies =
-      let parts = both_parts (lies_within l h (dim.Range lo hi step align) x) _ lies in
-      both_true (lies_within l h (dim.Range a b (pos 1) a) x) _ parts.0
+      let parts = and_parts (lies_within l h (dim.Range lo hi step align) x) _ lies in
+      and_from (lies_within l h (dim.Range a b (pos 1) a) x) _ parts.0
       (lies_by_rows lows highs rows dims t (omega (arith, long)) match parts.1)
 
   -- a tuple whose flattened one is in the hulls has a place in the room
@@ -111,13 +111,13 @@ module _ where
   rooms_have (Range a b c e ∷ rows) hulls (dim.Flood ∷ dims) (x ∷ t) long match has steps are = cc
   rooms_have (Range a b c e ∷ rows) [] (dim.Range lo hi step align ∷ dims) (x ∷ t) long match has steps are = absurd are
   rooms_have (Range a b c e ∷ rows) (dim.Range from to stride base ∷ hulls) (dim.Range lo hi step align ∷ dims) (x ∷ t) long match has steps are =
-      let parts = both_parts (is_coordinate (dim.Range lo hi step align) x) (each_has_place dims t) has in
-      both_true (is_coordinate (dim.Range from to stride base) x) _
+      let parts = and_parts (is_coordinate (dim.Range lo hi step align) x) (each_has_place dims t) has in
+      and_from (is_coordinate (dim.Range from to stride base) x) _
       ((is_coordinate_iff (dim.Range from to stride base) x (All-head HasStep _ hulls steps)).1 are.0)
       (rooms_have rows hulls dims t (omega (arith, long)) match parts.1 (All-tail HasStep _ hulls steps) are.1)
   rooms_have (Range a b c e ∷ rows) (dim.Flood ∷ hulls) (dim.Range lo hi step align ∷ dims) (x ∷ t) long match has steps are =
-      let parts = both_parts (is_coordinate (dim.Range lo hi step align) x) (each_has_place dims t) has in
-      both_true (is_coordinate (all_from (pos 0) (pos 0)) x) _
+      let parts = and_parts (is_coordinate (dim.Range lo hi step align) x) (each_has_place dims t) has in
+      and_from (is_coordinate (all_from (pos 0) (pos 0)) x) _
       (ap (is_coordinate (all_from (pos 0) (pos 0))) are.0)
       (rooms_have rows hulls dims t (omega (arith, long)) match parts.1 (All-tail HasStep _ hulls steps) are.1)
 

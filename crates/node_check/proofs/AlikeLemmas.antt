@@ -1,11 +1,12 @@
 -- Facts that are told alike are the same.
-use Rattle.std.proofs.Common.{◌≡◌, refl, sym, ap, ◌∙◌, Bool, true, false, List, ℤ, ℕ, true≢false, eqb-true}
+use Rattle.std.proofs.Common.{◌≡◌, refl, sym, ap, ◌∙◌, true, List, ℤ, ℕ, true≢false, eqb-true}
 use Rattle.std.specs.Prelude.{◌&&◌, ◌==◌}
 use Rattle.std.specs.Bool.{Decides}
 use Rattle.std.specs.Cmp.Lexicographic.{pointwise}
 use Rattle.std.specs.Ordering.{int_eq}
 use Rattle.std.proofs.lemmas.Bool.Decides.{Decides-eqb, Decides-int_eq}
 use Rattle.std.proofs.lemmas.Slice.Eq.{slice_eq-Decides}
+use Rattle.std.proofs.lemmas.Bool.{and_parts, and_from as and_true}
 use Rattle.zpl_region.specs.declared.dims.Dim.{Dim}
 use Rattle.zpl_region.specs.declared.dims.Dim.TheVariants as dim
 use Rattle.zpl_region.specs.declared.regions.Region.{Region}
@@ -16,18 +17,13 @@ use Rattle.node_form.specs.declared.instructions.SameKind.TheVariants as same
 use Rattle.node_check.specs.Fact.{Fact, Agree, Border, Held, Made, Stands, Uniform}
 use Rattle.node_check.specs.Alike.{is_dim, is_fact, is_form, is_region}
 use Rattle.node_check.specs.Demand.{is_kind, is_vector}
-use Rattle.node_check.proofs.MoreLemmas.{both_pass}
-
-and_true : (a b : Bool) → a ≡ true → b ≡ true → (a && b) ≡ true
-and_true true b e f = f
-and_true false b e f = cc
 
 is_dim-Decides : (one other : Dim) → Decides (is_dim one other) (one ≡ other)
 is_dim-Decides (dim.Range lo hi step align) (dim.Range low high by at) = (
   (λ is.
-      let first = both_pass (int_eq lo low) _ is in
-      let second = both_pass (int_eq hi high) _ first.1 in
-      let third = both_pass (int_eq step by) _ second.1 in
+      let first = and_parts (int_eq lo low) _ is in
+      let second = and_parts (int_eq hi high) _ first.1 in
+      let third = and_parts (int_eq step by) _ second.1 in
       alike ((Decides-int_eq lo low).0 first.0) ((Decides-int_eq hi high).0 second.0)
       ((Decides-int_eq step by).0 third.0) ((Decides-int_eq align at).0 third.1)),
   (λ same.
@@ -47,7 +43,7 @@ is_dim-Decides dim.Flood dim.Flood = ((λ is. refl), (λ same. refl))
 is_region-Decides : (one other : Region) → Decides (is_region one other) (one ≡ other)
 is_region-Decides one other = (
   (λ is.
-      let halves = both_pass (one.rank == other.rank) _ is in
+      let halves = and_parts (one.rank == other.rank) _ is in
       let rank : one.rank ≡ other.rank = (Decides-eqb one.rank other.rank).0 halves.0 in
       let dims : one.dims ≡ other.dims =
       (slice_eq-Decides is_dim-Decides one.dims other.dims _ refl).0 halves.1 in
@@ -99,32 +95,32 @@ same_vector vector = (is_vector-Decides vector vector).1 refl
 pub fact_alike : (one other : Fact) → is_fact one other ≡ true → one ≡ other
 fact_alike (Uniform scalar) (Uniform other) is = ap Uniform (number_alike scalar other is)
 fact_alike (Stands slot region) (Stands other by) is =
-    let halves = both_pass (slot == other) (is_region region by) is in
+    let halves = and_parts (slot == other) (is_region region by) is in
     ap (λ n. Stands n region) (number_alike slot other halves.0)
     ∙ ap (Stands other) ((is_region-Decides region by).0 halves.1)
 fact_alike (Made form slot from shift) (Made by other source vector) is =
-    let first = both_pass (is_form form by)
+    let first = and_parts (is_form form by)
     ((slot == other) && ((from == source) && is_vector shift vector)) is in
-    let second = both_pass (slot == other) ((from == source) && is_vector shift vector) first.1 in
-    let third = both_pass (from == source) (is_vector shift vector) second.1 in
+    let second = and_parts (slot == other) ((from == source) && is_vector shift vector) first.1 in
+    let third = and_parts (from == source) (is_vector shift vector) second.1 in
     ap (λ f. Made f slot from shift) (form_alike form by first.0)
     ∙ ap (λ n. Made by n from shift) (number_alike slot other second.0)
     ∙ ap (λ n. Made by other n shift) (number_alike from source third.0)
     ∙ ap (Made by other source) (vector_alike shift vector third.1)
 fact_alike (Held slot array shift) (Held other of vector) is =
-    let first = both_pass (slot == other) ((array == of) && is_vector shift vector) is in
-    let second = both_pass (array == of) (is_vector shift vector) first.1 in
+    let first = and_parts (slot == other) ((array == of) && is_vector shift vector) is in
+    let second = and_parts (array == of) (is_vector shift vector) first.1 in
     ap (λ n. Held n array shift) (number_alike slot other first.0)
     ∙ ap (λ n. Held other n shift) (number_alike array of second.0)
     ∙ ap (Held other of) (vector_alike shift vector second.1)
 fact_alike (Agree target source kind) (Agree one other by) is =
-    let first = both_pass (target == one) ((source == other) && is_kind kind by) is in
-    let second = both_pass (source == other) (is_kind kind by) first.1 in
+    let first = and_parts (target == one) ((source == other) && is_kind kind by) is in
+    let second = and_parts (source == other) (is_kind kind by) first.1 in
     ap (λ n. Agree n source kind) (number_alike target one first.0)
     ∙ ap (λ n. Agree one n kind) (number_alike source other second.0)
     ∙ ap (Agree one other) (kind_alike kind by second.1)
 fact_alike (Border slot shift) (Border other vector) is =
-    let halves = both_pass (slot == other) (is_vector shift vector) is in
+    let halves = and_parts (slot == other) (is_vector shift vector) is in
     ap (λ n. Border n shift) (number_alike slot other halves.0)
     ∙ ap (Border other) (vector_alike shift vector halves.1)
 fact_alike one other is = absurd (true≢false (sym is))

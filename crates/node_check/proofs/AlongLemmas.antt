@@ -4,6 +4,7 @@ use Rattle.std.proofs.Common.{ap, subst, eqb-true, ℤ, List, []}
 use Rattle.std.proofs.Common.{Option, Some, None, map}
 use Rattle.std.specs.Prelude.{filter, not, slice_get, slice_set}
 use Rattle.std.specs.Option.{IsSomeAnd, option_map}
+use Rattle.std.proofs.lemmas.Bool.{and_parts, not-true}
 use Rattle.zpl_region.specs.declared.regions.Region.{Region}
 use Rattle.zpl_region.specs.Ends.{has_none}
 use Rattle.zpl_region.specs.Tests.{is_within_limit}
@@ -36,9 +37,8 @@ use Rattle.node_check.proofs.EffectLemmas.{behind_row, dims_on, fits_on, fixed_o
 use Rattle.node_check.proofs.EffectLemmas.{need_on, same_on, set_there, slots_kept}
 use Rattle.node_check.proofs.FrameLemmas.{Leaves, behind, before, leaves_of, stays}
 use Rattle.node_check.proofs.ExchangeLemmas.{finish_leaves_all, start_leaves}
-use Rattle.node_check.proofs.MoreLemmas.{both_pass}
 use Rattle.node_check.proofs.ToldLemmas.{Writes, WritesNone, WritesOne, misses_alone}
-use Rattle.node_check.proofs.ToldLemmas.{no_scalar, not_same, one_region, only_where, stands, there_behind}
+use Rattle.node_check.proofs.ToldLemmas.{no_scalar, one_region, only_where, stands, there_behind}
 
 -- ---- a temporary that is made anew
 goes_where : (b : Bool) (shown bytes : List ℕ) (next behind : Abreast)
@@ -211,7 +211,7 @@ module _ (code : Tables) (links : Option ℕ) (n : ℕ) (next : Option Instr) (a
           (subst (λ region. SlotHas after slot region) (ap (formed_by form shift) same ∙ two.2) has)
       by (inr h) =
           let one = only_where (is_side form && not (slot == from)) (Made form slot from shift) fact h in
-          let apart = not_same (slot == from) (both_pass (is_side form) (not (slot == from)) one.0).1 in
+          let apart = not-true (slot == from) (and_parts (is_side form) (not (slot == from)) one.0).1 in
           subst (λ fact. Says code after fact) one.1
           (λ region there.
           let same : is.0 ≡ region =
@@ -316,7 +316,7 @@ module _ (code : Tables) (links : Option ℕ) (n : ℕ) (next : Option Instr) (a
           → Says code after fact
       by fact of (inl h) =
           let kept = unfiltered (λ fact. not (loses code row fact)) facts fact h in
-          stays code row all after leaves fact of (not_same (loses code row fact) kept.1)
+          stays code row all after leaves fact of (not-true (loses code row fact) kept.1)
           (told.told fact (contained facts fact kept.0) of)
       by fact of (inr h) = made_says row fits leaves e fact of h
 

@@ -1,18 +1,12 @@
 -- One answer alone is right.
-use Rattle.std.proofs.Common.{◌≡◌, ◌≢◌, ◌⊎◌, inl, inr, ℕ, ◌<◌, ◌≤◌, List, [], ◌∷◌, zero, suc, length, refl, subst, arith, Some}
-use Rattle.std.specs.Prelude.{slice_get}
+use Rattle.std.proofs.Common.{◌≡◌, ◌≢◌, ◌⊎◌, inl, inr, ℕ, ◌<◌, ◌≤◌, List, [], length, refl, subst, arith}
+use Rattle.std.proofs.lemmas.Option.{slice_get_within}
 use Rattle.node_form.specs.declared.instructions.Instr.{Instr}
 use Rattle.node_form.specs.declared.tables.Tables.{Tables}
 use Rattle.node_check.specs.declared.faults.CheckFault.{CheckFault}
 use Rattle.node_check.specs.declared.faults.CheckFault.TheVariants.{NoMemory, TooLarge, Unsound}
 use Rattle.node_check.specs.Path.{Comes}
 use Rattle.node_check.specs.Sound.{HaveOneList, IsChecked, IsFaulty, IsLarge, IsLeastUnmet, IsLinksNeeded}
-
-pub there_below : {X : Type 0} (xs : List X) (k : ℕ) (x : X) → slice_get xs k ≡ Some x
-    → k < length xs
-there_below [] k x there = cc
-there_below (y ∷ xs) zero x there = omega arith
-there_below (y ∷ xs) (suc k) x there = omega (arith, there_below xs k x there)
 
 pub no_fault : (code : Tables) (links : ℕ) (fault : CheckFault) → IsChecked code links
     → IsFaulty code fault → fault ≡ NoMemory
@@ -44,7 +38,7 @@ module _ (code : Tables) (lists : HaveOneList code) where
   never_less : (one other : ℕ) → IsLeastUnmet code one → IsLeastUnmet code other → ¬ (one < other)
   never_less one other first second less =
       first.unmet (λ row there.
-      second.least one less (lists one (there_below code.code one row there)) row there)
+      second.least one less (lists one (slice_get_within code.code one row there)) row there)
 
   same_least : (one other : ℕ) → IsLeastUnmet code one → IsLeastUnmet code other → one ≡ other
   same_least one other first second =

@@ -1,7 +1,8 @@
 -- Where a walk changes nothing, what is known along it are sets of facts.
-use Rattle.std.proofs.Common.{◌≡◌, ◌⊎◌, inl, inr, ◌<◌, ◌≤◌, ℕ, zero, suc, ◌+◌, refl, sym, ap, ◌∙◌, subst, arith, Bool, true, false}
-use Rattle.std.proofs.Common.{true≢false, List, [], ◌∷◌, length, Contains, Option, Some, None, ◌||◌}
+use Rattle.std.proofs.Common.{◌≡◌, ◌⊎◌, inl, inr, ◌<◌, ◌≤◌, ℕ, zero, suc, ◌+◌, refl, sym, ap, ◌∙◌, subst, arith, false}
+use Rattle.std.proofs.Common.{true≢false, List, [], ◌∷◌, length, Contains, Option, Some, None}
 use Rattle.std.specs.Prelude.{slice_get, slice_set}
+use Rattle.std.proofs.lemmas.Bool.{or_parts}
 use Rattle.code_parts.proofs.ListLemmas.{In, contained, in_list}
 use Rattle.node_form.specs.declared.instructions.Instr.{Instr}
 use Rattle.node_form.specs.declared.instructions.Instr.TheVariants as instr
@@ -13,7 +14,6 @@ use Rattle.node_check.specs.Path.{AreFacts, Begins, Comes, Follows, nexts}
 use Rattle.node_check.specs.Settled.{IsGood, IsGoodAt, IsRight, IsSettled, IsStart, StartsWith}
 use Rattle.node_check.specs.Walk.{Walk, begun, entered, falls, front_at, front_entered, goal_of, here, is_new, joined}
 use Rattle.node_check.specs.Walk.{joined_at, joined_where, left, left_with, loses_some, lost_entered, next_where, walked}
-use Rattle.node_check.proofs.AnswerLemmas.{there_below}
 use Rattle.node_check.proofs.GoodLemmas.{StandAt, good_behind, good_here, leads_on, leads_to, set_same, stand_all, stand_here, stand_on}
 use Rattle.node_check.proofs.SharedLemmas.{met_same, of_others}
 
@@ -77,10 +77,6 @@ joined_known : (o : Option Point) (point : Point) → is_new o ≡ false → los
 joined_known None point old none = absurd (true≢false old)
 joined_known (Some front) point old none = (front, refl, known_there front point none)
 
-both_false : (a b : Bool) → (a || b) ≡ false → (a ≡ false) × (b ≡ false)
-both_false true b is = absurd (true≢false is)
-both_false false b is = (refl, is)
-
 -- ---- what a walk told stays told
 record IsQuiet (walk : Walk) : Type 0 where
   unreached : walk.reached ≡ false
@@ -91,8 +87,8 @@ module _ (code : Tables) where
       → IsQuiet walk
   quiet_join None point walk quiet = quiet
   quiet_join (Some goal) point walk quiet = record {
-    unreached = (both_false walk.reached (is_new (front_at walk.fronts goal)) quiet.unreached).0;
-    unlost = (both_false walk.lost (loses_some (front_at walk.fronts goal) point) quiet.unlost).0;
+    unreached = (or_parts walk.reached (is_new (front_at walk.fronts goal)) quiet.unreached).0;
+    unlost = (or_parts walk.lost (loses_some (front_at walk.fronts goal) point) quiet.unlost).0;
   }
 
   quiet_left : (row : Instr) (o : Option Point) (walk : Walk) → IsQuiet (left_with code row o walk)
@@ -106,7 +102,7 @@ module _ (code : Tables) where
   quiet_entered at walk quiet = record {
     unreached = quiet.unreached;
     unlost =
-        (both_false walk.lost (lost_entered (front_at walk.fronts at) walk.current) quiet.unlost).0;
+        (or_parts walk.lost (lost_entered (front_at walk.fronts at) walk.current) quiet.unlost).0;
   }
 
   quiet_before : (at : ℕ) (rows : List Instr) (walk : Walk) → IsQuiet (walked code at rows walk)

@@ -2,6 +2,7 @@
 use Rattle.std.proofs.Common.{◌≡◌, ◌<◌, ℕ, Bool, true, false, refl, sym, ◌∙◌, ap, subst, true≢false}
 use Rattle.std.proofs.Common.{ℤ, List, Option, Some, None}
 use Rattle.std.specs.Prelude.{slice_get}
+use Rattle.std.proofs.lemmas.Bool.{or_parts}
 use Rattle.zpl_region.specs.declared.regions.Region.{Region}
 use Rattle.node_form.specs.declared.arrays.ArrayRow.{ArrayRow}
 use Rattle.node_form.specs.declared.instructions.Instr.{Instr}
@@ -11,7 +12,7 @@ use Rattle.code_parts.specs.Uses.{written_slots}
 use Rattle.grid_meaning.specs.Local.{processors}
 use Rattle.plan_meaning.specs.Abreast.{Abreast}
 use Rattle.plan_passes.proofs.KeepLemmas.{Behind, ByArrays, BySlots, made_arrays}
-use Rattle.plan_passes.proofs.LoopLemmas.{Misses, neither}
+use Rattle.plan_passes.proofs.LoopLemmas.{Misses}
 use Rattle.plan_passes.proofs.WriteLemmas.{shape}
 use Rattle.node_check.specs.Fact.{Fact, Agree, Border, Held, Made, Stands, Uniform}
 use Rattle.node_check.specs.Learn.{is_among, loses, roomed_arrays}
@@ -71,18 +72,18 @@ module _ (code : Tables) (row : Instr) (all next : Abreast) (leaves : Leaves cod
   stays (Uniform scalar) of kept says = absurd (true≢false (sym of))
   stays (Stands slot region) of kept says = behind slot region kept says
   stays (Made form slot from shift) of kept says =
-      let two = neither (is_among (written_slots row) slot) (is_among (written_slots row) from) kept
+      let two = or_parts (is_among (written_slots row) slot) (is_among (written_slots row) from) kept
       in
       λ region has. behind slot _ two.0 (says region (before from region two.1 has))
   stays (Held slot array shift) of kept says =
-      let two = neither (is_among (written_slots row) slot) (is_among (roomed_arrays row) array) kept
+      let two = or_parts (is_among (written_slots row) slot) (is_among (roomed_arrays row) array) kept
       in
       λ region has.
       places_stay array shift region two.1 (slice_get code.arrays array)
       (says region (before slot region two.0 has))
   stays (Agree target source kind) of kept says =
       let two =
-      neither (is_among (written_slots row) target) (is_among (written_slots row) source) kept in
+      or_parts (is_among (written_slots row) target) (is_among (written_slots row) source) kept in
       λ one other has second.
       says one other (before target one two.0 has) (before source other two.1 second)
   stays (Border slot shift) of kept says = λ region has. says region (before slot region kept has)

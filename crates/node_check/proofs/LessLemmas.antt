@@ -2,6 +2,7 @@
 use Rattle.std.proofs.Common.{◌≡◌, ◌⊎◌, inl, inr, ◌<◌, ◌≤◌, ℕ, zero, suc, ◌+◌, refl, sym, ap, ◌∙◌, subst, arith, Bool, true, false}
 use Rattle.std.proofs.Common.{true≢false, List, [], ◌∷◌, length, Option, Some, None, ◌||◌}
 use Rattle.std.specs.Prelude.{slice_get, slice_set}
+use Rattle.std.proofs.lemmas.Bool.{or_parts, or_cases}
 use Rattle.node_form.specs.declared.instructions.Instr.{Instr}
 use Rattle.node_form.specs.declared.tables.Tables.{Tables}
 use Rattle.node_check.specs.Front.{Point, behind, has_less, met}
@@ -81,13 +82,6 @@ then_less one two three first second = record {
     loses same few fewer (inr less) = inr (omega (arith, less, few))
 
 -- ---- one place is changed
-either_true : (a b : Bool) → (a || b) ≡ true → (a ≡ true) ⊎ (b ≡ true)
-either_true true b is = inl refl
-either_true false b is = inr is
-
-both_false : (a b : Bool) → (a || b) ≡ false → (a ≡ false) × (b ≡ false)
-both_false true b is = absurd (true≢false is)
-both_false false b is = (refl, is)
 
 -- what is told of the old and the new front at one place
 record Turns (o next : Option Point) (reached lost : Bool) : Type 0 where
@@ -108,14 +102,14 @@ turned : (fronts : List (Option Point)) (k : ℕ) (next : Option Point) (current
     })
 turned fronts k next current new reached lost one other below turns = record {
   fewer = omega (arith, less, turns.fewer);
-  newly = λ is. newly (either_true reached one is);
+  newly = λ is. newly (or_cases reached one is);
   stays = λ is.
-      let halves = both_false reached one is in
+      let halves = or_parts reached one is in
       let fewer = turns.stays halves.1 in
       (halves.0, omega (arith, size, fewer));
   loses = λ is gone.
-      let halves = both_false reached one is in
-      loses halves.1 (either_true lost other gone);
+      let halves = or_parts reached one is in
+      loses halves.1 (or_cases lost other gone);
 }
   where
     less : nones (slice_set fronts k next) + none_of (front_at fronts k) ≡ nones fronts + none_of next

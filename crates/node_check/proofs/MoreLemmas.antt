@@ -35,9 +35,6 @@ abbrev pub AreAmong : {X : Type 0} → List X → List X → Type 0
 AreAmong few many = (x : _) → In few x → In many x
 
 -- ---- tests
-pub both_pass : (a b : Bool) → (a && b) ≡ true → (a ≡ true) × (b ≡ true)
-both_pass true b is = (refl, is)
-both_pass false b is = absurd (true≢false (sym is))
 
 both : {a b c d : Bool} → (a ≡ true → b ≡ true) → (c ≡ true → d ≡ true) → (a && c) ≡ true
     → (b && d) ≡ true

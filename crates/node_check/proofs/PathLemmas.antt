@@ -3,6 +3,7 @@ use Rattle.std.proofs.Common.{◌≡◌, ℕ, false, sym, ◌∙◌, true≢fals
 use Rattle.std.proofs.Common.{slice_get, Some}
 use Rattle.std.proofs.Common.{Bool, true, refl, [], ◌∷◌, zero, suc, ap, subst}
 use Rattle.std.specs.List.{list_all}
+use Rattle.std.proofs.lemmas.Bool.{and_parts}
 use Rattle.node_form.specs.declared.instructions.Instr.{Instr}
 use Rattle.node_form.specs.declared.tables.Tables.{Tables}
 use Rattle.code_parts.proofs.ListLemmas.{contained, in_list}
@@ -12,7 +13,7 @@ use Rattle.node_check.specs.Fact.{Fact}
 use Rattle.node_check.specs.Learn.{learnt, start_facts}
 use Rattle.node_check.specs.Path.{AreFacts, Begins, Comes, Follows, open_behind}
 use Rattle.node_check.specs.Sound.{IsMet, MeetsDemand}
-use Rattle.node_check.proofs.MoreLemmas.{AreAmong, both_pass, learnt_more, met_more}
+use Rattle.node_check.proofs.MoreLemmas.{AreAmong, learnt_more, met_more}
 
 pub comes_along : (code : Tables) (at : ℕ) (opened : List ℕ) (facts : List Fact)
     → Learns code at opened facts → Comes code at opened
@@ -48,9 +49,9 @@ all_at : (test : Instr → Bool) (rows : List Instr) → list_all test rows ≡ 
 all_at test [] all k row there = cc
 all_at test (first ∷ rows) all zero row there =
     let same : first ≡ row = cc in
-    subst (λ row. test row ≡ true) same (both_pass (test first) (list_all test rows) all).0
+    subst (λ row. test row ≡ true) same (and_parts (test first) (list_all test rows) all).0
 all_at test (first ∷ rows) all (suc k) row there =
-    all_at test rows (both_pass (test first) (list_all test rows) all).1 k row there
+    all_at test rows (and_parts (test first) (list_all test rows) all).1 k row there
 
 none_is : (numbers : List ℕ) → are_none numbers ≡ true → numbers ≡ []
 none_is [] is = refl

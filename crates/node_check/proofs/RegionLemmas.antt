@@ -1,6 +1,6 @@
 -- Regions of rows that fit, the places of stored arrays, and what forms make, are regions.
 use Rattle.std.proofs.Common.{◌≡◌, ℕ, zero, suc, ◌+◌, ◌-◌, ◌<◌, ◌≤◌, List, [], ◌∷◌, length, map, drop}
-use Rattle.std.proofs.Common.{replicate, refl, sym, ap, ◌∙◌, subst, pos, arith, get_or, true, false, Bool, ℤ, IsTrue}
+use Rattle.std.proofs.Common.{replicate, refl, sym, ap, ◌∙◌, subst, pos, arith, true, false, Bool, ℤ, IsTrue}
 use Rattle.std.specs.Prelude.{Option, Some, None, All, OkIff, Result, Ok, Err, option_to_list, filter, cond}
 use Rattle.std.specs.Option.{IsSomeAnd}
 use Rattle.std.specs.Result.{result_ok}
@@ -21,17 +21,8 @@ use Rattle.node_form.specs.declared.arrays.ArrayRow.{ArrayRow}
 use Rattle.node_form.specs.declared.instructions.RegionForm.{RegionForm}
 use Rattle.node_form.specs.declared.instructions.RegionForm.TheVariants.{At, By, Inside, Of}
 use Rattle.node_form.specs.Control.{formed_by}
-use Rattle.node_form.specs.Fits.{FitsArray, FitsRegion, IsUnused, storage_dim, storage_of}
+use Rattle.node_form.specs.Fits.{FitsArray, IsUnused, storage_dim, storage_of}
 use Rattle.grid_meaning.proofs.RegionLemmas.{HasStep-inside, HasStep-moved, HasStep-outside, HasStep-strided, steps-each}
-
-pub region_fits : (region : Region) → FitsRegion region → IsRegion region
-region_fits region fits = record {
-  rank_above = fits.rank.0;
-  rank_below = fits.rank.1;
-  dims = λ k d here.
-      within_is_dim (get_or region.dims k d) (fits.steps k d here) (fits.limit.dims k d here);
-  padded = fits.padded;
-}
 
 one_step : (d : ArrayDim) → HasStep (storage_dim d)
 one_step (Range lo hi low high) = omega (arith, ints)

@@ -10,9 +10,6 @@ use Rattle.node_check.specs.Alike.{is_fact}
 use Rattle.node_check.specs.Front.{Point, has_less, met, shared_facts}
 use Rattle.node_check.proofs.AlikeLemmas.{fact_alike, same_fact}
 
-has : List Fact → Fact → Bool
-has others fact = list_any (is_fact fact) others
-
 pub of_mine : (mine others : List Fact) (fact : Fact) → In (shared_facts mine others) fact
     → In mine fact
 of_mine mine others fact h = (unfiltered (λ fact. list_any (is_fact fact) others) mine fact h).0

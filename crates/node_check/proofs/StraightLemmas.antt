@@ -4,6 +4,7 @@ use Rattle.std.proofs.Common.{subst, arith, List, [], ◌∷◌, Contains, Optio
 use Rattle.std.proofs.Common.{inl, inr, rules}
 use Rattle.std.specs.Prelude.{slice_get}
 use Rattle.std.specs.List.{list_all}
+use Rattle.std.proofs.lemmas.Bool.{and_parts}
 use Rattle.node_form.specs.declared.instructions.Instr.{Instr}
 use Rattle.node_form.specs.declared.tables.Tables.{Tables}
 use Rattle.code_parts.proofs.ListLemmas.{In, in_list}
@@ -11,7 +12,6 @@ use Rattle.node_check.specs.Demand.{is_met}
 use Rattle.node_check.specs.Fact.{Fact}
 use Rattle.node_check.specs.Learn.{learnt, start_facts}
 use Rattle.node_check.specs.Path.{AreFacts, Begins, Comes, Follows, nexts, open_behind}
-use Rattle.node_check.proofs.MoreLemmas.{both_pass}
 use Rattle.node_check.specs.Sound.{IsSound}
 
 -- ---- one walk
@@ -47,12 +47,12 @@ straight_at : (at : ℕ) (rows : List Instr) → are_straight at rows ≡ true �
     → slice_get rows k ≡ Some row → list_all (λ next. next == suc (at + k)) (nexts (at + k) row) ≡ true
 straight_at at [] is k row there = cc
 straight_at at (first ∷ rows) is k row there =
-    by (straight_at (suc at) rows (both_pass
+    by (straight_at (suc at) rows (and_parts
     (list_all (λ next. next == suc at) (nexts at first)) (are_straight (suc at) rows) is).1) k there
   where
     here : list_all (λ next. next == suc at) (nexts at first) ≡ true
     here =
-        (both_pass (list_all (λ next. next == suc at) (nexts at first)) (are_straight (suc at) rows)
+        (and_parts (list_all (λ next. next == suc at) (nexts at first)) (are_straight (suc at) rows)
         is).0
 
     by : ((k : ℕ) (row : Instr) → slice_get rows k ≡ Some row
@@ -74,13 +74,13 @@ met_at : (code : Tables) (at : ℕ) (rows : List Instr) → are_met code at rows
     → is_met code (walked_facts code (at + k)) (walked_open code (at + k)) row ≡ true
 met_at code at [] is k row there = cc
 met_at code at (first ∷ rows) is k row there =
-    by (met_at code (suc at) rows (both_pass
+    by (met_at code (suc at) rows (and_parts
     (is_met code (walked_facts code at) (walked_open code at) first) (are_met code (suc at) rows)
     is).1) k there
   where
     here : is_met code (walked_facts code at) (walked_open code at) first ≡ true
     here =
-        (both_pass (is_met code (walked_facts code at) (walked_open code at) first)
+        (and_parts (is_met code (walked_facts code at) (walked_open code at) first)
         (are_met code (suc at) rows) is).0
 
     by : ((k : ℕ) (row : Instr) → slice_get rows k ≡ Some row
@@ -108,12 +108,12 @@ one_next : (numbers : List ℕ) (next at : ℕ) → list_all (λ other. other ==
 one_next [] next at all h = absurd h
 one_next (first ∷ numbers) next at all h =
     by (one_next numbers next at
-    (both_pass (first == at) (list_all (λ other. other == at) numbers) all).1) h
+    (and_parts (first == at) (list_all (λ other. other == at) numbers) all).1) h
   where
     by : (In numbers next → next ≡ at) → In (first ∷ numbers) next → next ≡ at
     by later (inl is) =
         sym is ∙ equal_numbers first at
-        (both_pass (first == at) (list_all (λ other. other == at) numbers) all).0
+        (and_parts (first == at) (list_all (λ other. other == at) numbers) all).0
     by later (inr h) = later h
 
 module _ (code : Tables) (straight : are_straight 0 code.code ≡ true) where

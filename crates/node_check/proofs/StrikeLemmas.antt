@@ -257,14 +257,6 @@ lost_united code at one other new mine theirs both = record {
       (theirs.none facts right fact h);
 }
 
-pub lost_first : (code : Tables) (at : ℕ) (point : Point) (lost : List ℕ) → IsGood code at point
-    → AreLeft lost point.facts → IsLost code at lost
-lost_first code at point lost good left = record {
-  opened = point.opened;
-  comes = good.comes;
-  none = λ facts right fact h. left fact (good.bounds facts right fact h);
-}
-
 pub good_left : (code : Tables) (at : ℕ) (point : Point) (lost : List ℕ) → IsGood code at point
     → IsLost code at lost → IsGood code at (left_of lost point)
 good_left code at point lost good none = record {

@@ -156,10 +156,6 @@ only_where true one fact (inl is) = (refl, is)
 only_where true one fact (inr h) = absurd h
 only_where false one fact h = absurd h
 
-pub not_same : (b : Bool) → not b ≡ true → b ≡ false
-not_same true is = absurd (true≢false (sym is))
-not_same false is = refl
-
 pub no_scalar : (code : Tables) (all : Abreast) (scalar : ℕ) (fact : Fact) → Uniform scalar ≡ fact
     → is_of_slots fact ≡ true → Says code all fact
 no_scalar code all scalar fact is of =

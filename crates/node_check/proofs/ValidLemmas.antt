@@ -3,6 +3,7 @@ use Rattle.std.proofs.Common.{◌≡◌, ◌⊎◌, inl, inr, ◌<◌, ◌≤◌
 use Rattle.std.proofs.Common.{Option, Some, None, false}
 use Rattle.std.proofs.Math.Nat.{mul-le-mul_left}
 use Rattle.std.specs.Prelude.{slice_get}
+use Rattle.std.proofs.lemmas.Option.{slice_get_within}
 use Rattle.node_form.specs.declared.instructions.Instr.{Instr}
 use Rattle.node_form.specs.declared.tables.Tables.{Tables}
 use Rattle.node_form.specs.Fits.{Fits}
@@ -13,7 +14,6 @@ use Rattle.node_check.specs.Settled.{IsBounded, IsKept, IsOpenWithin, IsRight, I
 use Rattle.node_check.specs.Sound.{IsChecked, IsFaulty, IsLarge, IsLinksNeeded}
 use Rattle.node_check.specs.Verdict.{judged, no_verdict}
 use Rattle.node_check.specs.Walk.{begun, front_at, walked}
-use Rattle.node_check.proofs.AnswerLemmas.{there_below}
 use Rattle.node_check.proofs.BoundLemmas.{here_few, opens_one, room_most, walk_bounded}
 use Rattle.node_check.proofs.CalmLemmas.{all_calm, calm_same, here_at}
 use Rattle.node_check.proofs.CodeLemmas.{first_right, row_within}
@@ -83,7 +83,7 @@ links_few code fronts settled small =
         let few : length point.opened ≤ most_open code + n =
         here_few (length code.code) (most_open code) code fronts settled.kept.bounded n point known in
         let one = opens_one point.opened row in
-        let below = there_below code.code n row there in
+        let below = slice_get_within code.code n row there in
         let all = square_few (length code.code) small in
         omega (arith, few, one, below, all, is)
 

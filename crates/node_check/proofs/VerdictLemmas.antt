@@ -6,6 +6,8 @@ use Rattle.std.specs.Bool.{Decides}
 use Rattle.std.specs.Cmp.Lexicographic.{pointwise}
 use Rattle.std.proofs.lemmas.Bool.Decides.{Decides-eqb, Decides-ltb}
 use Rattle.std.proofs.lemmas.Slice.Eq.{slice_eq-Decides}
+use Rattle.std.proofs.lemmas.Bool.{and_parts, not-true, or_cases, not-false}
+use Rattle.std.proofs.lemmas.Option.{slice_get_within}
 use Rattle.code_parts.proofs.ListLemmas.{In, contained, in_list}
 use Rattle.node_form.specs.declared.instructions.Instr.{Instr}
 use Rattle.node_form.specs.declared.instructions.Instr.TheVariants as instr
@@ -15,11 +17,10 @@ use Rattle.node_check.specs.Demand.{is_met}
 use Rattle.node_check.specs.Fact.{Fact}
 use Rattle.node_check.specs.Front.{Point, behind}
 use Rattle.node_check.specs.Path.{AreFacts, Begins, Comes, Follows, nexts, open_behind}
-use Rattle.node_check.specs.Settled.{IsGood, IsGoodAt, IsRight, IsStart, StartsWith}
+use Rattle.node_check.specs.Settled.{IsGoodAt, IsRight, IsStart, StartsWith}
 use Rattle.node_check.specs.Sound.{HasFacts, HasOneList, IsLeastUnmet, IsLinksNeeded, IsMet, IsSound, MeetsDemand}
 use Rattle.node_check.specs.Verdict.{are_same, differs, differs_at, is_unmet, is_wrong, judged, judged_at, judged_behind, judged_from, least_with, no_verdict, noted, noted_goal}
 use Rattle.node_check.specs.Walk.{falls, front_at, goal_of, here, next_where}
-use Rattle.node_check.proofs.AnswerLemmas.{there_below}
 use Rattle.node_check.proofs.CalmLemmas.{IsCalm, come, come_behind, here_at}
 use Rattle.node_check.proofs.GoodLemmas.{StandAt, good_behind, good_here, leads_on, leads_to, stand_all, stand_here, stand_on}
 use Rattle.node_check.proofs.MoreLemmas.{met_more}
@@ -28,22 +29,6 @@ use Rattle.node_check.proofs.SetLemmas.{IsKnown, arrives, come_good, come_next, 
 -- ---- lists that are told alike
 are_same-Decides : (one other : List ℕ) → Decides (are_same one other) (one ≡ other)
 are_same-Decides one other = slice_eq-Decides Decides-eqb one other _ refl
-
-not_true : (b : Bool) → not b ≡ true → b ≡ false
-not_true true is = absurd (true≢false (sym is))
-not_true false is = refl
-
-not_false : (b : Bool) → not b ≡ false → b ≡ true
-not_false true is = refl
-not_false false is = absurd (true≢false is)
-
-either_true : (a b : Bool) → (a || b) ≡ true → (a ≡ true) ⊎ (b ≡ true)
-either_true true b is = inl refl
-either_true false b is = inr is
-
-both_true : (a b : Bool) → (a && b) ≡ true → (a ≡ true) × (b ≡ true)
-both_true true b is = (refl, is)
-both_true false b is = absurd (true≢false (sym is))
 
 -- ---- the least number
 abbrev pub AtMost : Option ℕ → ℕ → Type 0
@@ -401,11 +386,7 @@ module _ (code : Tables) (fronts : List (Option Point)) (right : IsRight code fr
   lists_differ at row one other there here again differ met =
       let meets : MeetsDemand code at row = met row there in
       true≢false (sym ((are_same-Decides one other).1 (meets.alike one other here again))
-      ∙ not_true (are_same one other) differ)
-
-  front_good : (at : ℕ) (o : Option Point) (front : Point) → IsGoodAt code at o → o ≡ Some front
-      → IsGood code at front
-  front_good at o front good is = subst (λ o. IsGoodAt code at o) is good
+      ∙ not-true (are_same one other) differ)
 
   fronts_differ : (at : ℕ) (row : Instr) (o current : Option Point) → slice_get code.code at ≡ Some row
       → IsGoodAt code at o → IsGoodAt code at current → differs o current ≡ true → ¬ IsMet code at
@@ -422,7 +403,7 @@ module _ (code : Tables) (fronts : List (Option Point)) (right : IsRight code fr
       let known = meets.met point.opened good.comes in
       true≢false
       (sym (met_more code (known.facts at) point.facts (good.bounds known.facts known.right)
-      point.opened row known.met) ∙ not_true (is_met code point.facts point.opened row) is)
+      point.opened row known.met) ∙ not-true (is_met code point.facts point.opened row) is)
 
   come_is_good : (at : ℕ) → IsGoodAt code at (come code fronts at)
   come_is_good at = come_good code fronts right calm at
@@ -436,7 +417,7 @@ module _ (code : Tables) (fronts : List (Option Point)) (right : IsRight code fr
 
   found_unmet : (number : ℕ) → IsFound code fronts number → ¬ IsMet code number
   found_unmet number (FoundHere row there is) =
-      by (either_true (differs (front_at fronts number) (come code fronts number))
+      by (or_cases (differs (front_at fronts number) (come code fronts number))
       (is_unmet code row (here_at code fronts number)) is)
     where
       by : (differs (front_at fronts number) (come code fronts number) ≡ true)
@@ -447,7 +428,7 @@ module _ (code : Tables) (fronts : List (Option Point)) (right : IsRight code fr
       by (inr unmet) =
           point_unmet number row (here_at code fronts number) there (here_is_good number) unmet
   found_unmet number (FoundBehind at row point there known leads is) =
-      let halves = both_true (nat_lt number (length code.code))
+      let halves = and_parts (nat_lt number (length code.code))
       (differs (front_at fronts number) (Some (behind code point row))) is in
       let some = row_there number ((Decides-ltb number (length code.code)).0 halves.0) in
       fronts_differ number some.0 (front_at fronts number) (Some (behind code point row)) some.1
@@ -509,7 +490,7 @@ module _ (code : Tables) (fronts : List (Option Point)) (right : IsRight code fr
   point_met : (at : ℕ) (row : Instr) (point : Point) → slice_get code.code at ≡ Some row → IsClear at
       → here_at code fronts at ≡ Some point → is_met code point.facts point.opened row ≡ true
   point_met at row point there clear known =
-      not_false (is_met code point.facts point.opened row)
+      not-false (is_met code point.facts point.opened row)
       (subst (λ o. is_unmet code row o ≡ false) known
       (neither (differs (front_at fronts at) (come code fronts at))
       (is_unmet code row (here_at code fronts at)) (not_wrong at row there clear)).1)
@@ -562,7 +543,7 @@ module _ (code : Tables) (fronts : List (Option Point)) (right : IsRight code fr
         → point.opened ≡ front.opened
     same_opened front point is =
         sym ((are_same-Decides front.opened point.opened).0
-        (not_false (are_same front.opened point.opened) is))
+        (not-false (are_same front.opened point.opened) is))
 
     agrees_on : (next : ℕ) (b : Point) → next < length code.code → come code fronts next ≡ Some b
         → (point : Point) → here_at code fronts next ≡ Some point → b.opened ≡ point.opened
@@ -655,7 +636,7 @@ module _ (code : Tables) (fronts : List (Option Point)) (right : IsRight code fr
     agrees at opened (Follows {at = before} {next = next} {opened = one} {row = row} comes there to) below point is =
         let q = reached code fronts right calm before one comes in
         let same : one ≡ q.point.opened =
-        agrees before one comes (there_below code.code before row there) q.point q.is in
+        agrees before one comes (slice_get_within code.code before row there) q.point q.is in
         ap (λ opened. open_behind opened row) same
         ∙ agrees_behind before next row q.point there q.is to below point is
 
@@ -663,13 +644,13 @@ module _ (code : Tables) (fronts : List (Option Point)) (right : IsRight code fr
     all_sound at row there = record {
       alike = λ one other here again.
           let known = reached code fronts right calm at one here in
-          let below = there_below code.code at row there in
+          let below = slice_get_within code.code at row there in
           agrees at one here below known.point known.is
           ∙ sym (agrees at other again below known.point known.is);
       met = λ opened comes.
           let known = reached code fronts right calm at opened comes in
           has_facts at row opened known.point there (clear at) known.is
-          (agrees at opened comes (there_below code.code at row there) known.point known.is);
+          (agrees at opened comes (slice_get_within code.code at row there) known.point known.is);
     }
 
     -- ---- how many exchanges are open at once
@@ -687,7 +668,7 @@ module _ (code : Tables) (fronts : List (Option Point)) (right : IsRight code fr
     enough at opened (Follows {at = before} {next = next} {opened = one} {row = row} comes there to) =
         let q = reached code fronts right calm before one comes in
         let same : one ≡ q.point.opened =
-        agrees before one comes (there_below code.code before row there) q.point q.is in
+        agrees before one comes (slice_get_within code.code before row there) q.point q.is in
         subst (λ opened. length (open_behind opened row)
         ≤ (judged code fronts 0 code.code no_verdict).links) (sym same)
         (links_told before row q.point there q.is)

@@ -1,6 +1,7 @@
 -- Dimensions that are made one by one, up to the rank.
 use Rattle.std.proofs.Common.{◌≡◌, ℕ, zero, suc, ◌<◌, ◌≤◌, List, [], ◌∷◌, length, get_or, take, refl, sym, ap, ◌∙◌, arith}
 use Rattle.std.specs.Prelude.{Some, None}
+use Rattle.std.proofs.lemmas.Option.{same_Some}
 use Rattle.zpl_region.specs.declared.dims.Dim.{Dim}
 use Rattle.zpl_region.specs.Region.{padding}
 use Rattle.node_form.specs.declared.instructions.DimRow.{DimRow}
@@ -33,25 +34,6 @@ module _ (code : Tables) (registers : Registers) (a b c : DimRow) where
       rw (e, f, g) refl
   dims_all (suc (suc (suc (suc rank)))) x y z above below p q q' r r' = absurd (omega arith)
 
-  pub dims_first : (rank : ℕ) → 1 ≤ rank → rank ≤ 3 → (0 < rank → part_dim code registers 0 a ≡ Divides)
-      → made_dims code registers rank a b c ≡ Divides
-  dims_first zero above below p = absurd (omega arith)
-  dims_first (suc zero) above below p = let e = p (omega arith) in rw e refl
-  dims_first (suc (suc zero)) above below p = let e = p (omega arith) in rw e refl
-  dims_first (suc (suc (suc zero))) above below p = let e = p (omega arith) in rw e refl
-  dims_first (suc (suc (suc (suc rank)))) above below p = absurd (omega arith)
-
-  pub dims_second : (rank : ℕ) (x : Dim) → 1 ≤ rank → rank ≤ 3 → (0 < rank → part_dim code registers 0 a ≡ Gives x)
-      → (1 < rank → part_dim code registers 1 b ≡ Divides) → (rank ≤ 1 → ⊥)
-      → made_dims code registers rank a b c ≡ Divides
-  dims_second zero x above below p q q' = absurd (omega arith)
-  dims_second (suc zero) x above below p q q' = absurd (q' (omega arith))
-  dims_second (suc (suc zero)) x above below p q q' =
-      let e = p (omega arith) in let f = q (omega arith) in rw (e, f) refl
-  dims_second (suc (suc (suc zero))) x above below p q q' =
-      let e = p (omega arith) in let f = q (omega arith) in rw (e, f) refl
-  dims_second (suc (suc (suc (suc rank)))) x above below p q q' = absurd (omega arith)
-
   pub dims_third : (rank : ℕ) (x y : Dim) → 1 ≤ rank → rank ≤ 3 → (0 < rank → part_dim code registers 0 a ≡ Gives x)
       → (1 < rank → part_dim code registers 1 b ≡ Gives y)
       → (2 < rank → part_dim code registers 2 c ≡ Divides) → (rank ≤ 2 → ⊥)
@@ -71,9 +53,6 @@ three_parts (a ∷ b ∷ []) d e f many = absurd (omega arith)
 three_parts (a ∷ b ∷ c ∷ []) d e f many = refl
 three_parts (a ∷ b ∷ c ∷ g ∷ parts) d e f many = absurd (omega arith)
 
-inner : {X : Type 0} (x y : X) → Some x ≡ Some y → x ≡ y
-inner x y is = cc
-
 module _ (code : Tables) (one two three : Workplace) (parts : List DimRow) (d e f : DimRow) (many : length parts ≡ 3)
     (second : two ≡ one) (third : three ≡ two) where
   at_first : (number : ℕ) (part : DimRow) (w : Workplace) (value : Computed Dim) → w ≡ one
@@ -88,8 +67,8 @@ module _ (code : Tables) (one two three : Workplace) (parts : List DimRow) (d e 
   told_all rank x y z above below p q q' r r' =
       ap (λ ps. mapped (λ dims. (region_of rank dims).dims) (part_dims code (registers_of one.local) 0 (take rank ps))) (three_parts parts d e f many)
       ∙ dims_all code (registers_of one.local) (get_or parts 0 d) (get_or parts 1 e) (get_or parts 2 f) rank x y z above below p
-      (λ h. at_first 1 (get_or parts 1 e) two (Gives y) second (q h)) (λ h. inner y padding (q' h))
-      (λ h. at_first 2 (get_or parts 2 f) three (Gives z) (third ∙ second) (r h)) (λ h. inner z padding (r' h))
+      (λ h. at_first 1 (get_or parts 1 e) two (Gives y) second (q h)) (λ h. same_Some y padding (q' h))
+      (λ h. at_first 2 (get_or parts 2 f) three (Gives z) (third ∙ second) (r h)) (λ h. same_Some z padding (r' h))
 
   pub told_third : (rank : ℕ) (x y : Dim) → 1 ≤ rank → rank ≤ 3
       → (0 < rank → part_dim code (registers_of one.local) 0 (get_or parts 0 d) ≡ Gives x)

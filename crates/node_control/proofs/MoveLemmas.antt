@@ -9,8 +9,8 @@ use Rattle.zpl_region.specs.Dim.{HasStep}
 use Rattle.zpl_region.specs.Region.{IsWithinLimit}
 use Rattle.zpl_region.specs.Tests.{is_within_limit}
 use Rattle.zpl_region.proofs.TestLemmas.{is_within_limit_iff}
-use Rattle.node_form.specs.Control.{Control, Registers, Steps, Leaps, Ends, limited, with_slot}
-use Rattle.grid_meaning.specs.Action.{ended_as, goes_on, goes_to, moves}
+use Rattle.node_form.specs.Control.{Control, Registers, Steps, Ends, limited, with_slot}
+use Rattle.grid_meaning.specs.Action.{ended_as, goes_on, moves}
 use Rattle.grid_meaning.specs.Turn.{controlled, registers_of, with_registers}
 use Rattle.node_local.specs.Workplace.{Workplace}
 use Rattle.node_control.specs.Moving.{MovesBy}
@@ -18,13 +18,6 @@ use Rattle.node_control.specs.Moving.{MovesBy}
 pub steps_by : (control : Control) (old new : Workplace) (registers : Registers) → control ≡ Steps registers
     → new ≡ record old { local = goes_on (with_registers old.local registers) } → MovesBy control old new
 steps_by control old new registers is after = record {
-  moved = ap (controlled old.local) is ∙ ap (λ (w : Workplace). moves w.local []) (sym after);
-  same = after ∙ sym (ap (λ (w : Workplace). record old { local = w.local }) after);
-}
-
-pub leaps_by : (control : Control) (old new : Workplace) (goal : ℕ) → control ≡ Leaps goal
-    → new ≡ record old { local = goes_to old.local goal } → MovesBy control old new
-leaps_by control old new goal is after = record {
   moved = ap (controlled old.local) is ∙ ap (λ (w : Workplace). moves w.local []) (sym after);
   same = after ∙ sym (ap (λ (w : Workplace). record old { local = w.local }) after);
 }

@@ -3,7 +3,7 @@ use Rattle.std.proofs.Common.{◌≡◌, ℕ, true, false, zero, suc, ◌<◌, �
 use Rattle.std.specs.Prelude.{Option, Some, None, slice_get, All}
 use Rattle.std.specs.Option.{IfSome, IsSomeAnd}
 use Rattle.std.proofs.lemmas.Option.{get_or_from_slice_get, slice_get_within}
-use Rattle.std.proofs.lemmas.List.Elements.{All-append, All-cons, All-nil}
+use Rattle.std.proofs.lemmas.List.Elements.{All-append, All-cons, All-nil, All-weaker}
 use Rattle.node_form.specs.declared.words.ExprOp.{ExprOp}
 use Rattle.node_form.specs.declared.words.ExprOp.TheVariants as word
 use Rattle.node_form.specs.declared.arrays.ArrayRow.{ArrayRow}
@@ -19,8 +19,6 @@ use Rattle.node_form.specs.Fits.{IsRank, HasSlot, HasArray, IsStored, IsTemporar
 use Rattle.node_form.specs.Grid.{IsGrid}
 
 -- ---- facts of all rows, and of the row with a number
-All-weaker : {X : Type 0} (P Q : X → Type 0) → ((x : X) → P x → Q x) → (xs : List X) → All P xs → All Q xs
-All-weaker P Q weaker xs all k d inside = weaker _ (all k d inside)
 
 IsSomeAnd-Keeps : {X : Type 0} (P Q : X → Type 0) (old new : List X) (k : ℕ) → ((x : X) → P x → Q x) → Keeps old new → IsSomeAnd (slice_get old k) P → IsSomeAnd (slice_get new k) Q
 IsSomeAnd-Keeps {X} P Q old new k weaker keeps = go (slice_get old k) refl where

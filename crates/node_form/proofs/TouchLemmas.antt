@@ -10,7 +10,7 @@ use Rattle.node_form.specs.declared.instructions.Instr.TheVariants as instr
 use Rattle.node_form.specs.declared.tables.Tables.{Tables}
 use Rattle.node_form.specs.declared.touches.Thing.{Thing}
 use Rattle.node_form.specs.declared.touches.Thing.TheVariants.{Scalar, Slot, Array}
-use Rattle.node_form.specs.declared.touches.Touch.TheVariants.{No, Reads, Writes}
+use Rattle.node_form.specs.declared.touches.Touch.TheVariants.{Writes}
 use Rattle.node_form.specs.Touch.{IsTouch, IsWritten, IsWrittenByMember, IsNamed, IsNamedByMember, IsNamedByItem}
 
 IsNamedByMember-written : (tables : Tables) (thing : Thing) (row : Member) → IsWrittenByMember thing row → IsNamedByMember tables thing row
@@ -74,21 +74,3 @@ module _ (tables : Tables) (row : Instr) (thing : Thing) where
     reads = (λ e. cc, λ r. absurd (r.1 written));
     no = (λ e. cc, λ n. absurd (n (IsNamed-written tables row thing written)));
   }
-
-  pub told-Reads : (IsWritten tables row thing → ⊥) → IsNamed tables row thing → IsTouch tables (Some row) thing Reads
-  told-Reads unwritten named = record {
-    writes = (λ e. cc, λ w. absurd (unwritten w));
-    reads = (λ e. (named, unwritten), λ r. refl);
-    no = (λ e. cc, λ n. absurd (n named));
-  }
-
-  pub told-No : (IsNamed tables row thing → ⊥) → IsTouch tables (Some row) thing No
-  told-No unnamed = record {
-    writes = (λ e. cc, λ w. absurd (unnamed (IsNamed-written tables row thing w)));
-    reads = (λ e. cc, λ r. absurd (unnamed r.0));
-    no = (λ e. unnamed, λ n. refl);
-  }
-
--- where there is no row
-pub told-absent : (tables : Tables) (thing : Thing) → IsTouch tables None thing No
-told-absent tables thing = record { writes = (λ e. cc, λ w. absurd w); reads = (λ e. cc, λ r. absurd r); no = (λ e. λ n. n, λ n. refl) }

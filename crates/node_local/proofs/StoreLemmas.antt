@@ -1,25 +1,22 @@
 -- Where tuples stand in a store: arithmetic on the bounds of its box.
-use Rattle.std.proofs.Common.{◌≡◌, ℕ, ◌+◌, ◌*◌, ◌/◌, ◌<◌, ◌≤◌, Bool, true, false, cond, ◌&&◌, List, [], ◌∷◌, All, drop, length, map, replicate, get_or, ℤ, pos, negsuc, ◌+ℤ◌, ◌-ℤ◌, ◌*ℤ◌, ◌≤ℤ◌, unsigned_abs, refl, sym, ◌∙◌, ap, subst, arith}
+use Rattle.std.proofs.Common.{◌≡◌, ℕ, ◌+◌, ◌*◌, ◌<◌, ◌≤◌, Bool, true, false, cond, ◌&&◌, List, [], ◌∷◌, All, drop, length, map, replicate, get_or, ℤ, pos, ◌+ℤ◌, ◌-ℤ◌, ◌≤ℤ◌, refl, sym, ◌∙◌, ap, subst, arith}
 use Rattle.std.specs.Prelude.{Option, Some, None}
 use Rattle.std.specs.Int.RustNames.{int_le}
-use Rattle.std.proofs.lemmas.Int.{ints, clamps}
+use Rattle.std.proofs.lemmas.Int.{ints}
 use Rattle.std.proofs.Math.Bool.{and-true}
 use Rattle.std.proofs.Math.Nat.{mul-le-mul_left, mul-le-mul_right}
 use Rattle.std.proofs.lemmas.List.Elements.{recursion_from_All}
 use Rattle.grid_meaning.specs.of_zpl_region.declared.dims.Dim.{Dim}
 use Rattle.grid_meaning.specs.of_zpl_region.declared.dims.Dim.TheVariants.{Range, Flood}
 use Rattle.grid_meaning.specs.of_zpl_region.Dim.{HasStep, IsDim, IsUpTo, is_multiple}
-use Rattle.std.specs.Int.{int_wrap, saturate_signed}
 use mir.Syntax.{w64}
 use mir.Val.{to_z, of_z}
 use Rattle.std.specs.Prelude.{FitsSigned}
-use Rattle.std.proofs.lemmas.Int.{to_z-of_z, int_wrap_fits, int_wrap-add_left}
+use Rattle.std.proofs.lemmas.Int.{to_z-of_z}
 use Rattle.grid_meaning.specs.of_grid_layout.Layout.{HasWideBounds}
-use Rattle.grid_meaning.specs.of_zpl_region.Ends.{coordinate_count, first_of, tuple_count}
-use Rattle.grid_meaning.specs.of_zpl_region.Hull.{IsBoxed, all_from}
+use Rattle.grid_meaning.specs.of_zpl_region.Ends.{coordinate_count, tuple_count}
+use Rattle.grid_meaning.specs.of_zpl_region.Hull.{IsBoxed}
 use Rattle.grid_meaning.specs.of_zpl_region.Tests.{is_coordinate, are_coordinates}
-use Rattle.grid_meaning.proofs.of_zpl_region.DimLemmas.{multiple_passes, pos-extent}
-use Rattle.grid_meaning.proofs.of_zpl_region.HullLemmas.{first-all_from, count-all_from}
 use Rattle.grid_meaning.proofs.of_zpl_region.ProgressionLemmas.{between-true, true-between}
 use Rattle.grid_meaning.specs.of_zpl_region.declared.regions.Region.{Region}
 use Rattle.grid_meaning.specs.of_zpl_arrays.Array.{Array, array_of, element, each_has_place, has_place, place_along, place_among}
@@ -32,7 +29,6 @@ use Rattle.node_local.specs.Undo.{with_place}
 use Rattle.grid_meaning.specs.of_zpl_region.Region.{members}
 use Rattle.node_local.specs.Store.{StandsFor, place_in}
 use Rattle.grid_meaning.specs.Place.{held_value, moved_by, where_held}
-use Rattle.grid_meaning.specs.of_node_form.Value.{unmoved}
 use Rattle.node_local.specs.Reading.{boxed_value, is_flat, is_flat_coordinate}
 use Rattle.std.specs.Ordering.{int_eq}
 
@@ -40,31 +36,6 @@ use Rattle.std.specs.Ordering.{int_eq}
 -- the place of a coordinate in a dimension, if it has one
 abbrev pub dim_place : Dim → ℤ → Option ℕ
 dim_place dim x = where_held (each_has_place (dim ∷ []) (x ∷ [])) (place_along dim x)
-
--- a range of a box is the numbers from its bound to the other
-boxed_range : (d : Dim) (lo hi step align : ℤ) → IsBoxed d → d ≡ Range lo hi step align
-    → d ≡ all_from lo hi
-boxed_range d lo hi step align boxed is =
-    let parts : (step ≡ pos 1) × (align ≡ lo) = subst IsBoxed is boxed in
-    is ∙ (ap (λ s. Range lo hi s align) parts.0 ∙ ap (λ a. Range lo hi (pos 1) a) parts.1)
-
-coordinate_inside : (lo hi x : ℤ) → lo ≤ℤ x → x ≤ℤ hi → is_coordinate (all_from lo hi) x ≡ true
-coordinate_inside lo hi x low high =
-    let whole : x -ℤ lo ≡ (x -ℤ lo) *ℤ pos 1 = omega (arith, ints) in
-    ap (λ b. b && is_multiple (pos 1) (x -ℤ lo)) (between-true lo hi x low high)
-    ∙ multiple_passes 1 (x -ℤ lo) (x -ℤ lo) (omega arith) whole
-
-place_along-all_from : (lo hi x : ℤ) → place_along (all_from lo hi) x ≡ unsigned_abs (x -ℤ lo)
-place_along-all_from lo hi x =
-    let whole : unsigned_abs (x -ℤ first_of (all_from lo hi)) / 1 ≡ unsigned_abs (x -ℤ first_of (all_from lo hi)) = omega arith in
-    whole ∙ ap (λ f. unsigned_abs (x -ℤ f)) (first-all_from lo hi)
-
-pub dim_place-inside : (d : Dim) (lo hi step align x : ℤ) → IsBoxed d → d ≡ Range lo hi step align
-    → lo ≤ℤ x → x ≤ℤ hi → dim_place d x ≡ Some (unsigned_abs (x -ℤ lo))
-dim_place-inside d lo hi step align x boxed is low high =
-    ap (λ e. dim_place e x) (boxed_range d lo hi step align boxed is)
-    ∙ (ap (λ b. where_held (b && true) (place_along (all_from lo hi) x)) (coordinate_inside lo hi x low high)
-    ∙ ap Some (place_along-all_from lo hi x))
 
 -- outside the bounds it has none
 is_outside : (lo hi x : ℤ) (b : Bool) → (int_le lo x && int_le x hi) ≡ b
@@ -78,12 +49,6 @@ dim_place-outside d lo hi step align x is out =
     ap (λ e. dim_place e x) is
     ∙ ap (λ b. where_held ((b && is_multiple step (x -ℤ align)) && true) (place_along (Range lo hi step align) x))
     (is_outside lo hi x (int_le lo x && int_le x hi) refl out)
-
-pub dim_place-below : (d : Dim) (lo hi step align x : ℤ) → IsBoxed d → d ≡ Range lo hi step align
-    → lo ≤ℤ x → x ≤ℤ hi → unsigned_abs (x -ℤ lo) < coordinate_count d
-dim_place-below d lo hi step align x boxed is low high =
-    let same = ap coordinate_count (boxed_range d lo hi step align boxed is) ∙ count-all_from lo hi in
-    omega (arith, ints, clamps, same, pos-extent lo hi)
 
 -- ---- three dimensions
 -- whether a dimension has a place for a coordinate
@@ -127,42 +92,7 @@ place_three-joined a b c x y z =
     ap (λ h. where_held h (place_among (a ∷ b ∷ c ∷ []) (x ∷ y ∷ z ∷ []))) (has-three a b c x y z)
     ∙ by_tests (has a x) (has b y) (has c z) (place_along a x) (place_along b y) (place_along c z) (coordinate_count b) (coordinate_count c)
 
--- ---- what saturates
--- a number that is small stays as it is
-kept_small : (z m : ℤ) → m ≡ saturate_signed w64 z → IsUpTo 41 z → m ≡ z
-kept_small (pos n) m e h = omega (arith, ints)
-kept_small (negsuc n) m e h = omega (arith, ints)
-
--- and one that is small afterwards was so before
-was_small : (z m : ℤ) → m ≡ saturate_signed w64 z → IsUpTo 41 m → m ≡ z
-was_small (pos n) m e h = omega (arith, ints)
-was_small (negsuc n) m e h = omega (arith, ints)
-
-pub stands_saturated : (z m : ℤ) → m ≡ saturate_signed w64 z → StandsFor m z
-stands_saturated z m is = record { kept = kept_small z m is; told = was_small z m is }
-
 -- ---- what wraps
--- two numbers that are the same up to multiples of 2^64 are the same where both fit, moved alike
-same_moved : (z c : ℤ) → FitsSigned w64 (int_wrap w64 z +ℤ c) → FitsSigned w64 (z +ℤ c) → int_wrap w64 z ≡ z
-same_moved z c f g =
-    let same : int_wrap w64 z +ℤ c ≡ z +ℤ c =
-    sym (int_wrap_fits w64 (int_wrap w64 z +ℤ c) f) ∙ (int_wrap-add_left w64 z c ∙ int_wrap_fits w64 (z +ℤ c) g) in
-    omega (arith, ints, same)
-
--- a sum with a short number is small if it is so wrapped
-was_short : (x shift : ℤ) → FitsSigned w64 x → IsUpTo 29 shift → IsUpTo 41 (int_wrap w64 (x +ℤ shift))
-    → int_wrap w64 (x +ℤ shift) ≡ x +ℤ shift
-was_short (pos n) shift fits short small =
-    same_moved (pos n +ℤ shift) (negsuc 4611686018427387903) (omega (arith, ints, small)) (omega (arith, ints, fits, short))
-was_short (negsuc n) shift fits short small =
-    same_moved (negsuc n +ℤ shift) (pos 4611686018427387904) (omega (arith, ints, small)) (omega (arith, ints, fits, short))
-
-pub stands_wrapped : (x shift m : ℤ) → FitsSigned w64 x → IsUpTo 29 shift → m ≡ int_wrap w64 (x +ℤ shift)
-    → StandsFor m (x +ℤ shift)
-stands_wrapped x shift m fits short is = record {
-  kept = λ small. is ∙ int_wrap_fits w64 (x +ℤ shift) (omega (arith, ints, small));
-  told = λ small. is ∙ was_short x shift fits short (subst (IsUpTo 41) is small);
-}
 
 false_between : (lo hi x : ℤ) → (int_le lo x && int_le x hi) ≡ false → (lo ≤ℤ x) × (x ≤ℤ hi) → ⊥
 false_between lo hi x e inside =
@@ -375,16 +305,6 @@ pub moved_three : (shift t : List ℤ) → length shift ≡ 3 → length t ≡ 3
 moved_three shift t many three =
     ap (λ s. moved_by s t) (three_of shift many) ∙ ap (moved_by (get_or shift 0 (pos 0) ∷ get_or shift 1 (pos 0) ∷ get_or shift 2 (pos 0) ∷ [])) (three_of t three)
 
-pub moved_unmoved : (t : List ℤ) → length t ≡ 3 → moved_by unmoved t ≡ t
-moved_unmoved t three =
-    let zero_x : get_or t 0 (pos 0) +ℤ pos 0 ≡ get_or t 0 (pos 0) = omega (arith, ints) in
-    let zero_y : get_or t 1 (pos 0) +ℤ pos 0 ≡ get_or t 1 (pos 0) = omega (arith, ints) in
-    let zero_z : get_or t 2 (pos 0) +ℤ pos 0 ≡ get_or t 2 (pos 0) = omega (arith, ints) in
-    ap (moved_by unmoved) (three_of t three)
-    ∙ (ap (λ u. u ∷ (get_or t 1 (pos 0) +ℤ pos 0) ∷ (get_or t 2 (pos 0) +ℤ pos 0) ∷ []) zero_x
-    ∙ (ap (λ u. get_or t 0 (pos 0) ∷ u ∷ (get_or t 2 (pos 0) +ℤ pos 0) ∷ []) zero_y
-    ∙ (ap (λ u. get_or t 0 (pos 0) ∷ get_or t 1 (pos 0) ∷ u ∷ []) zero_z ∙ sym (three_of t three))))
-
 -- ---- tuples of the box
 -- a tuple of the box has a place, and 0 in each flood dimension
 moved_test : (c f h : Bool) → (c && (f && h)) ≡ (f && (c && h))
@@ -472,11 +392,6 @@ zeros_of storage = ap (λ values. record { storage = storage; values = values })
 pub three_tests : {a b c a' b' c' : Bool} → a ≡ a' → b ≡ b' → c ≡ c' → (a && (b && c)) ≡ (a' && (b' && c'))
 three_tests {a} {b} {c} {a'} {b'} {c'} e f g =
     ap (λ t. t && (b && c)) e ∙ (ap (λ t. a' && (t && c)) f ∙ ap (λ t. a' && (b' && t)) g)
-
-pub held_three : {r : Option ℤ} {a b c a' b' c' : ℤ} (s : Array) → r ≡ held_value (a ∷ b ∷ c ∷ []) s → a ≡ a' → b ≡ b' → c ≡ c'
-    → r ≡ held_value (a' ∷ b' ∷ c' ∷ []) s
-held_three {r} {a} {b} {c} {a'} {b'} {c'} s told e f g =
-    told ∙ (ap (λ u. held_value (u ∷ b ∷ c ∷ []) s) e ∙ (ap (λ u. held_value (a' ∷ u ∷ c ∷ []) s) f ∙ ap (λ u. held_value (a' ∷ b' ∷ u ∷ []) s) g))
 
 -- a store with a new value gets its old one back
 pub put_back : (stores : List Array) (array place : ℕ) (store new : Array) (old value : ℤ)

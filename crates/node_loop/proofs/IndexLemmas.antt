@@ -1,5 +1,5 @@
 -- Coordinates that follow one another, and the tuples at places among them.
-use Rattle.std.proofs.Common.{◌≡◌, refl, sym, ◌∙◌, ap, subst, arith, ℕ, zero, suc, ◌+◌, ◌*◌, ◌/◌, ◌%◌, ◌<◌, ◌≤◌, List, [], ◌∷◌, length, map, get_or, ℤ, pos, ◌+ℤ◌, ◌-ℤ◌, ◌*ℤ◌}
+use Rattle.std.proofs.Common.{◌≡◌, refl, sym, ◌∙◌, ap, subst, arith, ℕ, zero, suc, ◌+◌, ◌*◌, ◌/◌, ◌%◌, ◌<◌, ◌≤◌, List, [], ◌∷◌, length, map, ℤ, pos, ◌+ℤ◌, ◌-ℤ◌, ◌*ℤ◌}
 use Rattle.std.specs.Prelude.{Some, None, slice_get}
 use Rattle.std.proofs.lemmas.Int.{ints}
 use Rattle.std.proofs.Math.Nat.{mul-le-mul_right}
@@ -12,7 +12,6 @@ use Rattle.zpl_region.specs.Progression.{progression, terms}
 use Rattle.zpl_region.specs.Region.{members}
 use Rattle.zpl_region.proofs.DimLemmas.{Reaches, filter-multiples}
 use Rattle.zpl_region.proofs.WalkLemmas.{count_of_three, nth_of_three}
-use Rattle.grid_layout.proofs.ThreeLemmas.{rebuilt}
 
 reaches_all : (n : ℕ) → Reaches 0 n 1 n
 reaches_all zero = omega arith
@@ -25,12 +24,6 @@ coordinates_follow dim lo hi step align is one =
     sym (ap coordinates is ∙ (ap (λ s. coordinates (Range lo hi s align)) one
     ∙ (filter-multiples 1 align lo (lo -ℤ align) 0 (extent lo hi) (extent lo hi) (omega arith) apart (reaches_all (extent lo hi))
     ∙ ap (λ f. progression f 1 (extent lo hi)) first)))
-
-pub lists_are : (dims : List Dim) (e : Dim) (p q r : Progression) → length dims ≡ 3 → terms p ≡ coordinates (get_or dims 0 e) → terms q ≡ coordinates (get_or dims 1 e)
-    → terms r ≡ coordinates (get_or dims 2 e) → map terms (p ∷ q ∷ r ∷ []) ≡ map coordinates dims
-lists_are dims e p q r l f g h =
-    ap (λ x. x ∷ terms q ∷ terms r ∷ []) f ∙ (ap (λ y. coordinates (get_or dims 0 e) ∷ y ∷ terms r ∷ []) g
-    ∙ (ap (λ z. coordinates (get_or dims 0 e) ∷ coordinates (get_or dims 1 e) ∷ z ∷ []) h ∙ sym (ap (map coordinates) (rebuilt dims e l))))
 
 -- behind the last tuple
 none_at : {A : Type 0} (xs : List A) (i : ℕ) → length xs ≤ i → None ≡ slice_get xs i

@@ -117,11 +117,6 @@ apart_and q p b apart =
     let no : (q == p) ≡ false = grind (arith, nat_tests) in
     sym (ap (λ same. not same && b) no)
 
-pub same_and : (q p : ℕ) (b : Bool) → q ≡ p → false ≡ (not (q == p) && b)
-same_and q p b same =
-    let yes_same : (q == p) ≡ true = grind (arith, nat_tests) in
-    sym (ap (λ one. not one && b) yes_same)
-
 pub same_not : (q p : ℕ) (b : Bool) → q ≡ p → not (q == p) ≡ (not (q == p) && b)
 same_not q p b same =
     let one : (q == p) ≡ true = grind (arith, nat_tests) in

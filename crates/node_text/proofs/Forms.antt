@@ -1,6 +1,6 @@
 -- Each line of a program has a form, and numbers that can be written.
 use Rattle.std.proofs.Common.{◌≡◌, ℕ, zero, suc, ◌≤◌, Bool, true, false, List, [], ◌∷◌, ◌++◌, map, take, sym, ◌∙◌, ap, subst, refl, arith}
-use Rattle.std.specs.Prelude.{ℤ, pos, Option, Some, None, All, slice_get, ◌||◌, ◌&&◌, if◌then◌else◌}
+use Rattle.std.specs.Prelude.{ℤ, pos, Option, Some, None, All, ◌||◌, ◌&&◌, if◌then◌else◌}
 use Rattle.std.proofs.Math.Bool.{or-true}
 use Rattle.std.proofs.lemmas.List.Elements.{All-nil, All-cons, All-head, All-tail, All-take}
 use Rattle.hex.specs.Hex.{IsBytes}
@@ -164,9 +164,6 @@ operator_named op.Or = refl
 operator_named op.Max = refl
 operator_named op.Min = refl
 
-abbrev operand : (r : ℕ) (w : ExprOp) (z : ℤ) → IsInteger z → field_of (Word r w) ≡ Some (word_field r w) → is_kind kind.Word (word_field r w) ≡ true → IsField false (word_field r w) → Good kind.Word (Word r w)
-operand r w z is e k t = record { written = word_field r w; is = e; kind_is = k; typed = t }
-
 coordinate : (n : ℕ) → (1 ≤ n) × (n ≤ 3) → IsField false (field.Numbers mark.Coord (pos n ∷ []))
 coordinate zero is = let low = is.0 in absurd (omega arith)
 coordinate (suc zero) is = (refl, one_integer (pos 1) (integer 1 (omega arith)))
@@ -263,12 +260,6 @@ line_stands keyword saids plain fills =
       form = ap (λ (b : Bool). b || (is_array keyword && fits_slots (fields_of saids) hidden_form)) f.fit;
       is = subst (λ (b : Bool). All (IsField b) (fields_of saids)) (sym plain) f.typed;
     }
-
--- any number of fields of a kind
-pub each : {X : Type 0} (wanted : Kind) (f : X → Said) (xs : List X) → ((x : X) → (k : ℕ) → slice_get xs k ≡ Some x → Good wanted (f x)) → Fills (map f xs) (slot.Many wanted ∷ [])
-each wanted f [] good = Ends (slot.Many wanted ∷ []) refl
-each wanted f (x ∷ xs) good =
-    Many wanted (f x) (map f xs) [] (good x 0 refl) (each wanted f xs (λ y k e. good y (suc k) e))
 
 pub each_all : {X : Type 0} (P : X → Type 0) (wanted : Kind) (f : X → Said) (xs : List X) → All P xs → ((x : X) → P x → Good wanted (f x)) → Fills (map f xs) (slot.Many wanted ∷ [])
 each_all P wanted f [] all good = Ends (slot.Many wanted ∷ []) refl

@@ -4,27 +4,24 @@ use Rattle.std.specs.Prelude.{Option, Some, None, slice_get, option_and_then}
 use Rattle.std.specs.List.{AllZip}
 use Rattle.std.specs.Option.{IfSome, IsSomeAnd, option_map}
 use Rattle.grid_links.specs.declared.messages.Message.{Message}
-use Rattle.grid_links.specs.Machine.{Ended, Blocked, Goes, Awaits}
+use Rattle.grid_links.specs.Machine.{Blocked, Goes, Awaits}
 use Rattle.node_form.specs.declared.instructions.Instr.{Instr}
 use Rattle.node_form.specs.declared.instructions.Instr.TheVariants as instr
 use Rattle.node_form.specs.declared.tables.Tables.{Tables}
 use Rattle.node_form.specs.Control.{Control, control}
 use Rattle.node_form.specs.Fits.{FitsInstr}
-use Rattle.zpl_nums.specs.declared.ends.End.{End}
 use Rattle.zpl_nums.specs.declared.ends.End.TheVariants.{Done}
-use Rattle.grid_meaning.specs.Action.{Action, Feeding, Unheld, ended_as, goes_on, moves}
+use Rattle.grid_meaning.specs.Action.{Action, Feeding, Unheld, ended_as, moves}
 use Rattle.grid_meaning.specs.Collective.{Collective, Stage, Alone, Sends, TakesFrom, Last, folded, stage_of, star, tree, voted}
 use Rattle.grid_meaning.specs.Delivery.{edged}
 use Rattle.grid_meaning.specs.Exchange.{finished, started}
 use Rattle.grid_meaning.specs.Gather.{gathered}
 use Rattle.grid_meaning.specs.Local.{Local}
 use Rattle.grid_meaning.specs.Rows.{collective}
-use Rattle.grid_meaning.specs.Turn.{act, act_at, act_in, act_together, controlled, fed, fed_at, fed_by, fed_in, fed_together, registers_of, sends, steps_on, unless_ended}
-use Rattle.row_turn.specs.of_node_control.Running.{IsControlRow}
+use Rattle.grid_meaning.specs.Turn.{act, act_at, act_in, act_together, fed, fed_at, fed_by, fed_in, fed_together, registers_of, sends, steps_on, unless_ended}
 use Rattle.node_local.specs.Workplace.{Workplace}
 use Rattle.grid_meaning.specs.State.{HasThree, NextHasThree}
 use Rattle.row_turn.specs.of_node_control.Moving.{MovesOn}
-use Rattle.node_turn.specs.Turned.{IsPrinting}
 use Rattle.row_turn.specs.declared.answers.OwnTurn.{OwnTurn}
 use Rattle.row_turn.specs.Own.{IsOwn, message_of}
 use Rattle.row_turn.proofs.RecordLemmas.{IsRow, is_row, of_row}
@@ -37,21 +34,6 @@ pub acts_at : (code : Tables) (p : ℕ) (w : Workplace) (row : Instr) → IsAtRo
 acts_at code p w row at =
     ap (λ ended. unless_ended ended (act_at code p w.local (slice_get code.code w.local.at))) at.running
     ∙ ap (act_at code p w.local) at.here
-
-pub control_acts : (code : Tables) (p : ℕ) (local : Local) (row : Instr) → IsControlRow row
-    → act_at code p local (Some row) ≡ controlled local (control code (registers_of local) row)
-control_acts code p local (instr.Set scalar expr line) is = refl
-control_acts code p local (instr.Fix slot region) is = refl
-control_acts code p local (instr.Dims slot parts line) is = refl
-control_acts code p local (instr.Formed form slot from shift line) is = refl
-control_acts code p local (instr.Need slot array shift line) is = refl
-control_acts code p local (instr.Same target source kind line) is = refl
-control_acts code p local (instr.Fits slot shift line) is = refl
-control_acts code p local (instr.Jump goal) is = refl
-control_acts code p local (instr.Unless expr goal line) is = refl
-control_acts code p local (instr.Trap kind line) is = refl
-control_acts code p local instr.End is = refl
-control_acts code p local row is = absurd is
 
 pub together_acts : (code : Tables) (p : ℕ) (local : Local) (row : Instr) → IsTogether row
     → act_at code p local (Some row) ≡ act_together (collective code p row) local (control code (registers_of local) row)
@@ -162,21 +144,3 @@ module _ (code : Tables) (p : ℕ) (w : Workplace) (row : Instr) (at : IsAtRow c
       by : (words : Option (List ℤ)) → None ≡ tagged (there.together.tag local) words → sends there.together local to words ≡ Blocked Unheld
       by None same = refl
       by (Some words) same = cc
-
--- ---- a processor that prints is at a row
-pub prints_row : (code : Tables) (p : ℕ) (local : Local) (bytes : List ℕ) → IsPrinting code p bytes local
-    → (row : Instr) × (slice_get code.code local.at ≡ Some row)
-prints_row code p local bytes is = by local.ended (slice_get code.code local.at) refl refl
-  where
-    by : (ended : Option End) (row : Option Instr) → local.ended ≡ ended → slice_get code.code local.at ≡ row
-        → (r : Instr) × (slice_get code.code local.at ≡ Some r)
-    by (Some ending) row over here =
-        let none : Ended ≡ moves (goes_on local) bytes =
-        sym (ap (λ e. unless_ended e (act_at code p local (slice_get code.code local.at))) over) ∙ is.action in
-        cc
-    by None None over here =
-        let ends : moves (ended_as local Done) [] ≡ moves (goes_on local) bytes =
-        sym (ap (λ e. unless_ended e (act_at code p local (slice_get code.code local.at))) over ∙ ap (act_at code p local) here) ∙ is.action in
-        let same : [] ≡ bytes = cc in
-        absurd (is.some (sym same))
-    by None (Some row) over here = (row, here)

@@ -1,23 +1,21 @@
 -- Turns over links, by what a processor does.
-use Rattle.std.proofs.Common.{◌≡◌, ◌≢◌, ℕ, ◌+◌, ◌<◌, ◌&&◌, Bool, true, false, List, [], length, nat_lt, refl, sym, ap, ◌∙◌, subst}
+use Rattle.std.proofs.Common.{◌≡◌, ◌≢◌, ℕ, ◌+◌, ◌<◌, ◌&&◌, Bool, true, false, [], length, nat_lt, refl, sym, ap, ◌∙◌, subst}
 use Rattle.std.specs.Prelude.{Option, Some, None, OnOk, Result, Ok, Err, slice_get}
 use Rattle.std.specs.Result.{is_err}
 use Rattle.std.proofs.lemmas.Bool.{lt-ltb}
 use Rattle.grid_links.specs.declared.messages.Message.{Message}
 use Rattle.grid_links.specs.Links.{has_room, link_of}
-use Rattle.grid_links.specs.Machine.{Blocked, Goes, Awaits, Takes, Refuses, Turn as TurnOf, Moves, Waiting, Over, Stuck, awaits, goes, over_links, takes_from, where_room}
+use Rattle.grid_links.specs.Machine.{Blocked, Goes, Awaits, Takes, Turn as TurnOf, Moves, Waiting, Over, Stuck, awaits, goes, over_links, takes_from, where_room}
 use Rattle.grid_links.specs.Network.{Network, link, sending, taking}
 use Rattle.grid_links.specs.Run.{heads_at, rooms_at}
 use Rattle.node_form.specs.declared.tables.Tables.{Tables}
-use Rattle.grid_meaning.specs.Action.{Action, StuckKind, Unheld, goes_on, moves}
+use Rattle.grid_meaning.specs.Action.{Action, Unheld, goes_on, moves}
 use Rattle.grid_meaning.specs.Local.{Local, processors}
 use Rattle.grid_meaning.specs.State.{IsLocal}
 use Rattle.grid_meaning.specs.Turn.{Turn, act, fed}
-use Rattle.row_turn.specs.of_node_control.Moving.{MovesOn}
 use Rattle.node_local.specs.Workplace.{HasRoom, IsReady, Workplace}
 use Rattle.node_turn.specs.declared.steps.Traffic.TheVariants as traffic
-use Rattle.node_turn.specs.Turned.{IsAnswered, IsMade, IsPrinting, printing, turn_over}
-use Rattle.row_turn.specs.Own.{LacksPlace, ShowsFirst}
+use Rattle.node_turn.specs.Turned.{IsAnswered, IsMade, turn_over}
 
 -- nothing but the state has changed, and it is one that may be
 pub ready_again : (code : Tables) (p : ℕ) (old new : Workplace) → IsReady code p old → new ≡ record old { local = new.local }
@@ -44,31 +42,6 @@ module _ (code : Tables) (p : ℕ) (old new : Workplace) (before after : Network
   over action =
       over_links (fed code p old.local) (heads_at before.count before.links p)
       (rooms_at before.capacity before.count before.links p) action
-
-  -- ---- without a message
-  pub told_moves : IsReady code p old → IsLocal code p new.local → MovesOn (act code p old.local) old new
-      → IsMade code p (turn_over code p old.local before) traffic.Quiet old new before before
-  told_moves ready is does = record {
-    move = record { next = new.local; sent = None; taken = None; shown = [] };
-    moves = ap over does.moved;
-    silent = refl;
-    told = (refl, refl);
-    state = does.same;
-    ready = ready_again code p old new ready does.same is;
-    links = refl;
-  }
-
-  pub told_prints : (bytes : List ℕ) → ShowsFirst p (act code p old.local) bytes old new
-      → IsPrinting code p bytes old.local
-      × IsAnswered (turn_over code p old.local before) (printing old.local bytes) old new before before
-  told_prints bytes does = (
-    record { action = does.shows.printed; some = does.shows.some; first = does.first },
-    record { turn_is = ap over does.shows.printed; state = does.shows.same; links = refl },
-  )
-
-  pub told_lacks : LacksPlace (act code p old.local) old new
-      → IsAnswered (turn_over code p old.local before) (Stuck Unheld) old new before before
-  told_lacks does = record { turn_is = ap over does.stuck; state = does.same; links = refl }
 
   -- ---- with a message to be sent
   pub room_is : (to : ℕ) → before.count ≡ processors code → to < processors code
@@ -114,22 +87,6 @@ module _ (code : Tables) (p : ℕ) (old new : Workplace) (before after : Network
       }
 
   -- ---- with a message to be taken
-  pub waits_for_message : (from : ℕ) → act code p old.local ≡ Awaits from → slice_get (link before from p) 0 ≡ None
-      → new ≡ old → after ≡ before → IsAnswered (turn_over code p old.local before) Waiting old new before after
-  waits_for_message from does none same links = record {
-    turn_is = ap over does ∙ ap (awaits (fed code p old.local) from) none;
-    state = same;
-    links = links;
-  }
-
-  pub stuck_with : (from : ℕ) (message : Message) (kind : StuckKind) → act code p old.local ≡ Awaits from
-      → slice_get (link before from p) 0 ≡ Some message → fed code p old.local message ≡ Refuses kind
-      → new ≡ old → after ≡ before → IsAnswered (turn_over code p old.local before) (Stuck kind) old new before after
-  stuck_with from message kind does here refuses same links = record {
-    turn_is = ap over does ∙ (ap (awaits (fed code p old.local) from) here ∙ ap (takes_from from) refuses);
-    state = same;
-    links = links;
-  }
 
   pub took_from : (from : ℕ) (message : Message) → from < processors code → act code p old.local ≡ Awaits from
       → slice_get (link before from p) 0 ≡ Some message → fed code p old.local message ≡ Takes new.local

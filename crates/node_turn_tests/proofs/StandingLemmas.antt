@@ -4,7 +4,7 @@ use Rattle.std.specs.Prelude.{Bool, true, false, Option, Some, None, All, slice_
 use Rattle.std.specs.Option.{option_map}
 use Rattle.std.specs.List.{AllZip}
 use Rattle.std.proofs.lemmas.List.Elements.{All-cons, All-nil}
-use Rattle.std.proofs.lemmas.List.{take_more}
+use Rattle.std.proofs.lemmas.List.{take_more, map_push}
 use Rattle.std.proofs.lemmas.Option.{get_or_from_slice_get, slice_get_within}
 use Rattle.zpl_region.specs.declared.regions.Region.{Region}
 use Rattle.zpl_region.specs.Region.{members}
@@ -69,14 +69,10 @@ pub one_more_word : (xs out after : List ℤ) (i : ℕ) (x y : ℤ) → out ≡ 
 one_more_word xs out after i x y so_far there is same =
     one_more xs out after i x so_far there (is ∙ ap (λ v. out ++ v ∷ []) same)
 
-mapped : {A B : Type 0} (f : A → B) (list : List A) (x : A) → map f (list ++ x ∷ []) ≡ map f list ++ f x ∷ []
-mapped f [] x = refl
-mapped f (y ∷ list) x = ap (λ rest. f y ∷ rest) (mapped f list x)
-
 pub one_more_of : {A B : Type 0} (f : A → B) (xs : List B) (out after : List A) (i : ℕ) (x : A) → map f out ≡ take i xs
     → slice_get xs i ≡ Some (f x) → after ≡ out ++ x ∷ [] → map f after ≡ take (i + 1) xs
 one_more_of f xs out after i x so_far there is =
-    one_more xs (map f out) (map f after) i (f x) so_far there (ap (map f) is ∙ mapped f out x)
+    one_more xs (map f out) (map f after) i (f x) so_far there (ap (map f) is ∙ map_push f out x)
 
 -- ---- the array of a number
 pub array_told : (stores : List Array) (i : ℕ) (shape : Region) (after : List ℤ) (b : Bool) (found : Option Array) → All IsArray stores

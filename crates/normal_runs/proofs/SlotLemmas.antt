@@ -95,13 +95,6 @@ data KeepsSteps : Control → Type 0 where
   Ended : {ending : End} → KeepsSteps (control.Ends ending)
   NotSaid : KeepsSteps control.Outside
 
-computed_keeps : {X : Type 0} (P : X → Type 0) (computed : Computed X) (line : ℕ)
-    (next : X → Control) → ((x : X) → computed ≡ Gives x → P x)
-    → ((x : X) → P x → KeepsSteps (next x)) → KeepsSteps (with_computed computed line next)
-computed_keeps P (Gives x) line next holds keeps = keeps x (holds x refl)
-computed_keeps P Divides line next holds keeps = Ended
-computed_keeps P Lacks line next holds keeps = NotSaid
-
 row_keeps : {X : Type 0} (found : Option X) (next : X → Control)
     → ((x : X) → found ≡ Some x → KeepsSteps (next x)) → KeepsSteps (with_row found next)
 row_keeps (Some x) next keeps = keeps x refl

@@ -7,6 +7,7 @@ use Rattle.std.specs.Prelude.{slice_get, slice_set}
 use Rattle.std.specs.Option.{option_map}
 use Rattle.std.specs.List.{list_all}
 use Rattle.std.specs.Cmp.Lexicographic.{pointwise}
+use Rattle.std.proofs.lemmas.Bool.{and_from}
 use Rattle.zpl_nums.specs.Integer.{is_true}
 use Rattle.zpl_region.specs.declared.dims.Dim.{Dim}
 use Rattle.zpl_region.specs.declared.regions.Region.{Region}
@@ -44,10 +45,6 @@ pub and_second : (a b : Bool) → (a && b) ≡ true → b ≡ true
 and_second true b e = e
 and_second false b e = absurd (true≢false (sym e))
 
-pub both_hold : (a b : Bool) → a ≡ true → b ≡ true → (a && b) ≡ true
-both_hold true b e f = f
-both_hold false b e f = absurd (true≢false (sym e))
-
 pub all_behind : {X : Type 0} (test : X → Bool) (xs ys : List X) → list_all test (xs ++ ys) ≡ true
     → list_all test ys ≡ true
 all_behind test [] ys e = e
@@ -63,7 +60,7 @@ dims_match [] (other ∷ others) dims like e = absurd (true≢false (sym like))
 dims_match (row ∷ rows) [] dims like e = absurd (true≢false (sym like))
 dims_match (row ∷ rows) (other ∷ others) [] like e = refl
 dims_match (axis.Star ∷ rows) (axis.Star ∷ others) (dim ∷ dims) like e =
-    both_hold (dim_matches axis.Star dim) (each_matches others dims)
+    and_from (dim_matches axis.Star dim) (each_matches others dims)
     (and_first (dim_matches axis.Star dim) (each_matches rows dims) e)
     (dims_match rows others dims like
     (and_second (dim_matches axis.Star dim) (each_matches rows dims) e))
@@ -73,7 +70,7 @@ dims_match (axis.Range lo hi low high ∷ rows) (axis.Star ∷ others) (dim ∷ 
     absurd (true≢false (sym like))
 dims_match (axis.Range lo hi low high ∷ rows) (axis.Range from to before after ∷ others)
     (dim ∷ dims) like e =
-    both_hold (dim_matches (axis.Range from to before after) dim) (each_matches others dims)
+    and_from (dim_matches (axis.Range from to before after) dim) (each_matches others dims)
     (and_first (dim_matches (axis.Range lo hi low high) dim) (each_matches rows dims) e)
     (dims_match rows others dims like
     (and_second (dim_matches (axis.Range lo hi low high) dim) (each_matches rows dims) e))

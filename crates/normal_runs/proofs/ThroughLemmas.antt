@@ -6,6 +6,7 @@ use Rattle.std.specs.Prelude.{◌&&◌, flat_map, if◌then◌else◌, is_none, 
 use Rattle.std.specs.Prelude.{slice_get}
 use Rattle.std.specs.Prelude.{⊤}
 use Rattle.std.specs.List.{list_all}
+use Rattle.std.proofs.lemmas.Bool.{and_from}
 use Rattle.zpl_region.specs.declared.regions.Region.{Region}
 use Rattle.zpl_region.specs.Dim.{HasStep}
 use Rattle.zpl_region.specs.Region.{IsMember, members}
@@ -43,7 +44,7 @@ use Rattle.normal_runs.proofs.PutLemmas.{after_sum, cells_of, cells_there, loope
 use Rattle.normal_runs.proofs.PutLemmas.{put_does, put_group, puts, puts_alike, summed, summed_same}
 use Rattle.normal_runs.proofs.PutLemmas.{value_in, value_in_same, wanted, wanted_same}
 use Rattle.normal_runs.proofs.SlotLemmas.{HasSteps, StepsIn}
-use Rattle.normal_runs.proofs.SplitLemmas.{all_again, all_behind, and_first, and_second, both_hold}
+use Rattle.normal_runs.proofs.SplitLemmas.{all_again, all_behind, and_first, and_second}
 use Rattle.normal_runs.proofs.SplitLemmas.{leaves_rest, like_matches, puts_over, written_matches}
 
 -- ---- lists
@@ -72,7 +73,7 @@ places_there : (region : Region) (steps : All HasStep region.dims) (ts : List (L
     → list_all (λ t. has_place region (moved_by unmoved t)) ts ≡ true
 places_there region steps [] inside = refl
 places_there region steps (t ∷ ts) inside =
-    both_hold (has_place region (moved_by unmoved t))
+    and_from (has_place region (moved_by unmoved t))
     (list_all (λ t. has_place region (moved_by unmoved t)) ts)
     (ap (has_place region) (moved_none t) ∙ has region steps t inside.0)
     (places_there region steps ts inside.1)
@@ -201,9 +202,9 @@ module _ (tables : Tables) (extra : List ArrayRow) where
           let writes : can_write mid one region temporary ≡ true =
           ap (λ o. writes_well o (slice_get one.stores temporary) region) row_is
           ∙ (ap (λ o. writes_well (Some row) o region) one_there
-          ∙ both_hold (matches row region) (has_places (over region steps zeros) region unmoved)
+          ∙ and_from (matches row region) (has_places (over region steps zeros) region unmoved)
           fine (places_there region steps ts inside)) in
-          both_hold
+          and_from
           (list_all (can_read mid one region) (group_reads (put_group array expr mask line)))
           ((can_write mid one region temporary && true) && true) (reads_in one one_agree reads)
           (ap (λ b. (b && true) && true) writes)
@@ -267,12 +268,12 @@ module _ (tables : Tables) (extra : List ArrayRow) where
               let reads_it : can_read mid two region read ≡ true =
               ap (λ o. reads_well o (slice_get two.stores temporary) region unmoved) row_is
               ∙ (ap (λ o. reads_well (Some row) o region unmoved) two_there
-              ∙ both_hold (may_read row region unmoved) places
+              ∙ and_from (may_read row region unmoved) places
               (ap (λ b. if b then each_covers row.dims region.dims else matches row region) bare
               ∙ fine) (places_there region steps ts inside)) in
-              both_hold (all read && list_all all rest)
+              and_from (all read && list_all all rest)
               ((can_write mid two region array && true) && true)
-              (both_hold (all read) (list_all all rest) reads_it
+              (and_from (all read) (list_all all rest) reads_it
               (all_behind all (flat_map word_reads expr) rest
               (reads_in two two_agree reads)))
               (ap (λ b. (b && true) && true)

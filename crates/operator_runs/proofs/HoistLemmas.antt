@@ -69,6 +69,8 @@ use Rattle.std.proofs.Common.{List, [], ◌∷◌, ◌++◌, length, ℤ, pos, O
 use Rattle.std.specs.Prelude.{replicate, slice_get}
 use Rattle.std.specs.List.{list_all}
 use Rattle.std.proofs.lemmas.List.{length-append}
+use Rattle.std.proofs.lemmas.Bool.{and_parts}
+use Rattle.std.proofs.lemmas.List.Folds.{list_all-append}
 use Rattle.zpl_nums.specs.declared.operators.Op.{Op}
 use Rattle.zpl_nums.specs.declared.operators.UnaryOp.{UnaryOp}
 use Rattle.zpl_nums.specs.declared.operators.UnaryOp.TheVariants as unary
@@ -122,7 +124,7 @@ use Rattle.print_runs.specs.of_array_runs.Gates.{holds}
 use Rattle.print_runs.specs.of_array_runs.Elementwise.{IsReadableMask}
 use Rattle.print_runs.specs.of_array_runs.Integers.{GivesIntegers, HasIntegers}
 use Rattle.print_runs.proofs.of_array_runs.IntegerLemmas.{IfGives, array_integers, element_integer, kept_integer, store_integers, unit_integer}
-use Rattle.print_runs.proofs.of_array_runs.PartLemmas.{IsPart, all_append, both_true, coordinate_part}
+use Rattle.print_runs.proofs.of_array_runs.PartLemmas.{IsPart, coordinate_part}
 use Rattle.print_runs.proofs.of_array_runs.MaskLemmas.{IsMasking}
 use Rattle.operator_runs.specs.Meant.{Site, Alone, Under, InSlot, IsSite, IsMeant}
 use Rattle.operator_runs.specs.Meant.{ConstantMeant, VariableMeant, CoordinateMeant, ElementMeant}
@@ -336,12 +338,6 @@ module _ (tables : Tables) (n : ℕ) (spots : List Spot) (w : Where) (line : ℕ
             (record { reads = refl; names = (omega (arith, lt, le), tt) }, tt)
 
   -- ---- parts of array_runs
-
-  abbrev PartAt : Slotted → Region → Slate → Term → Whole → Expression → Type 0
-  PartAt over region one meant later left =
-      (i : InSlot later.slots over region)
-      → IsPart tables spots w line later region.rank over (current_in later.slots over region i) one
-      meant left
 
   part_hoists : (over : Slotted) (region : Region) → InSlot slots over region → (one : Slate)
       (meant : Term) (field : Field) → field_of store meant ≡ mean.Gives field → (free : Unused)
@@ -1134,8 +1130,8 @@ module _ (tables : Tables) (n : ℕ) (spots : List Spot) (w : Where) (line : ℕ
   held_both : (xs ys : List Reference) → list_all (holds_in tables slots) (xs ++ ys) ≡ true
       → (list_all (holds_in tables slots) xs ≡ true) × (list_all (holds_in tables slots) ys ≡ true)
   held_both xs ys e =
-      both_true (list_all (holds_in tables slots) xs) (list_all (holds_in tables slots) ys)
-      (sym (all_append (holds_in tables slots) xs ys) ∙ e)
+      and_parts (list_all (holds_in tables slots) xs) (list_all (holds_in tables slots) ys)
+      (sym (list_all-append (holds_in tables slots) xs ys) ∙ e)
 
   plain_element : (o : Option Stored) (shift : List ℤ)
       → stored_element o shift
@@ -1373,7 +1369,7 @@ module _ (tables : Tables) (n : ℕ) (spots : List Spot) (w : Where) (line : ℕ
         let mid = beyond free (copies_of one) first in
         let second = hoisted w.numbers line (free_of mid) other in
         let parts = held_both (referred w.numbers one) (referred w.numbers other) held in
-        let confs = both_true (conforms left) (conforms right) conf in
+        let confs = and_parts (conforms left) (conforms right) conf in
         subst (λ (last : Unused). Hoist site free last (tests_of one + tests_of other) now
         (word.Operation op first.left second.left) (field_of store (term.Binary op left right))
         (code.then_do (does tables n first.code now) (does tables n second.code)))
@@ -1408,7 +1404,7 @@ module _ (tables : Tables) (n : ℕ) (spots : List Spot) (w : Where) (line : ℕ
         let inner = hoisted w.numbers line (free_of free) one in
         let mid = beyond free (copies_of one) inner in
         let parts = held_both (over_reference w.numbers over) (referred w.numbers one) held in
-        let confs = both_true (reduction_conforms region tuples) (conforms operand) conf in
+        let confs = and_parts (reduction_conforms region tuples) (conforms operand) conf in
         let two = temps_rest tables.arrays free.temps inner.temps (source.flood ∷ over.flood ∷ []) temps
         in
         temp_hoists over region i source tuples j None tt everywhere (λ t. refl) free mid
@@ -1430,7 +1426,7 @@ module _ (tables : Tables) (n : ℕ) (spots : List Spot) (w : Where) (line : ℕ
         let inner = hoisted w.numbers line (free_of free) one in
         let mid = beyond free (copies_of one) inner in
         let parts = held_both (over_reference w.numbers over) (referred w.numbers one) held in
-        let confs = both_true (flood_conforms region tuples) (conforms operand) conf in
+        let confs = and_parts (flood_conforms region tuples) (conforms operand) conf in
         let two = temps_rest tables.arrays free.temps inner.temps (source.flood ∷ over.flood ∷ []) temps
         in
         temp_hoists over region i source tuples j None tt everywhere (λ t. refl) free mid
@@ -1487,7 +1483,7 @@ module _ (tables : Tables) (n : ℕ) (spots : List Spot) (w : Where) (line : ℕ
         let mid = beyond free (copies_of one) first_one in
         let others = all_hoisted w.numbers line (free_of mid) rest in
         let parts = held_both (referred w.numbers one) (all_referred w.numbers rest) held in
-        let confs = both_true (conforms first) (conform terms) conf in
+        let confs = and_parts (conforms first) (conform terms) conf in
         more_hoist site (AllAt site) (AllAt site) (λ free after field fields left rest v vs. (v, vs)) one rest first terms now free
         (hoists site one first h i now here parts.0 confs.0 free le since copied.0
         (omega (arith, space)) (temps_front tables.arrays free.temps first_one.temps others.temps temps))
@@ -1518,7 +1514,7 @@ module _ (tables : Tables) (n : ℕ) (spots : List Spot) (w : Where) (line : ℕ
       let mid = beyond free (copies_of one) first_one in
       let others = all_hoisted w.numbers line (free_of mid) rest in
       let parts = held_both (referred w.numbers one) (all_referred w.numbers rest) held in
-      let confs = both_true (conforms first) (conform terms) conf in
+      let confs = and_parts (conforms first) (conform terms) conf in
       more_hoist site (EachAt sites) (EachAt (site ∷ sites)) (λ free after field fields left rest v vs. MoreValues v vs) one rest first
       terms now free
       (hoists site one first h i.0 now here parts.0 confs.0 free le since copied.0

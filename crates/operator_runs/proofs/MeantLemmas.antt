@@ -5,6 +5,7 @@ use Rattle.std.proofs.Common.{◌≡◌, refl, ◌∙◌, ap, ℕ, ◌+◌, ◌�
 use Rattle.std.proofs.Common.{List, [], ◌++◌, ℤ, Option, Some, None, append_assoc}
 use Rattle.std.specs.Prelude.{slice_get}
 use Rattle.std.specs.List.{list_all}
+use Rattle.std.proofs.lemmas.List.Folds.{list_all-append}
 use Rattle.zpl_nums.specs.declared.ends.TrapKind.TheVariants.{RegionMismatch}
 use Rattle.zpl_region.specs.declared.regions.Region.{Region}
 use Rattle.zpl_meaning.specs.Store.{Store}
@@ -41,7 +42,7 @@ use Rattle.print_runs.specs.of_lowering_runs.Stands.{AreStored, IsSound}
 use Rattle.print_runs.specs.of_array_runs.Gates.{IsThere, holds}
 use Rattle.print_runs.specs.of_array_runs.Elementwise.{IsReadable, IsReadableMask}
 use Rattle.print_runs.proofs.of_array_runs.StoredLemmas.{found_array}
-use Rattle.print_runs.proofs.of_array_runs.PartLemmas.{IsPart, all_append}
+use Rattle.print_runs.proofs.of_array_runs.PartLemmas.{IsPart}
 use Rattle.print_runs.proofs.of_array_runs.ElementLemmas.{element_part}
 use Rattle.print_runs.proofs.of_array_runs.MaskLemmas.{IsMasking, masking}
 use Rattle.operator_runs.specs.Meant.{Site, Under, InSlot, IsSite, IsMeant, AreMeant}
@@ -122,7 +123,7 @@ module _ (tables : Tables) (spots : List Spot) (w : Where) (line : ℕ)
       → AreReferred (xs ++ ys) (a && b)
   both_referred xs ys a b h k = record {
     there = every_append (IsThere tables now) xs ys h.there k.there;
-    gate = all_append (holds tables now) xs ys ∙ ap (λ c. c && holding ys) h.gate
+    gate = list_all-append (holds tables now) xs ys ∙ ap (λ c. c && holding ys) h.gate
         ∙ ap (λ c. a && c) k.gate;
   }
 

@@ -1,7 +1,7 @@
 -- Whether a coordinate is outside the storage of a remap read's array, in code: just where the tuple
 -- of the indices has no place there.
 use Rattle.std.proofs.Common.{◌≡◌, refl, sym, ◌∙◌, ap, subst, arith, ℕ, zero, suc, Bool, true, false}
-use Rattle.std.proofs.Common.{◌&&◌, not, List, [], ◌∷◌, ◌++◌, length, ℤ, pos, ◌-ℤ◌, All}
+use Rattle.std.proofs.Common.{◌&&◌, not, List, [], ◌∷◌, length, ℤ, pos, ◌-ℤ◌, All}
 use Rattle.std.specs.Prelude.{◌||◌, ◌-◌, drop, take, replicate, int_le, int_lt}
 use Rattle.std.proofs.lemmas.Bool.{and_parts}
 use Rattle.std.proofs.lemmas.Int.{ints}
@@ -51,13 +51,6 @@ module _ (o : Operands) where
   AreTests [] (b ∷ bs) = ⊥
   AreTests (expr ∷ exprs) [] = ⊥
   AreTests (expr ∷ exprs) (b ∷ bs) = (tree_value o expr ≡ Gives (truth b)) × AreTests exprs bs
-
-  tests_both : (xs ys : List Expression) (bs cs : List Bool) → AreTests xs bs → AreTests ys cs
-      → AreTests (xs ++ ys) (bs ++ cs)
-  tests_both [] ys [] cs h k = k
-  tests_both [] ys (b ∷ bs) cs h k = absurd h
-  tests_both (x ∷ xs) ys [] cs h k = absurd h
-  tests_both (x ∷ xs) ys (b ∷ bs) cs h k = (h.0, tests_both xs ys bs cs h.1 k)
 
   or_value : (one other : Expression) (a b : Bool) → tree_value o one ≡ Gives (truth a)
       → tree_value o other ≡ Gives (truth b)

@@ -5,6 +5,7 @@ use Rattle.std.proofs.Common.{List, [], ◌++◌, map, append-nil}
 use Rattle.std.specs.Prelude.{slice_get}
 use Rattle.zpl_region.specs.declared.regions.Region.{Region}
 use Rattle.std.specs.List.{list_all}
+use Rattle.std.proofs.lemmas.Bool.{and_parts}
 use Rattle.zpl_nums.specs.declared.ends.TrapKind.TheVariants.{OutsideStorage, RegionMismatch}
 use Rattle.zpl_meaning.specs.Computed as mean
 use Rattle.zpl_meaning.specs.Computed.{computed_then, provided}
@@ -34,7 +35,6 @@ use Rattle.print_runs.proofs.of_lowering_runs.PrintLemmas.{rows_append}
 use Rattle.print_runs.specs.of_array_runs.Gates.{holds, gate}
 use Rattle.print_runs.specs.of_array_runs.Integers.{GivesIntegers}
 use Rattle.print_runs.proofs.of_array_runs.GateLemmas.{needs_gate}
-use Rattle.print_runs.proofs.of_array_runs.PartLemmas.{both_true}
 use Rattle.row_runs.specs.Straight.{Every}
 use Rattle.call_runs.specs.of_prefix_runs.Filled.{IsFilled}
 use Rattle.operator_runs.specs.Meant.{Site, AreMeantAt, IsSite}
@@ -75,8 +75,8 @@ own_held place store own last exprs fields = by (phase.settled_each place store 
         fields_of store terms))) ≡ mean.Gives fields → (own ≡ true) × (last ≡ true)
     by (mean.Traps kind) e = absurd (let no : ⊥ = cc in no)
     by (mean.Gives terms) e =
-        both_true own last
-        (both_true (own && last) (refer store terms)
+        and_parts own last
+        (and_parts (own && last) (refer store terms)
         (held terms (conform terms) ((own && last) && refer store terms) e)).0
 
 module _ (tables : Tables) (n : ℕ) (sight : Sight) (w : Where) (line : ℕ) (next : Next) (now : Whole)
@@ -190,7 +190,7 @@ module _ (tables : Tables) (n : ℕ) (sight : Sight) (w : Where) (line : ℕ) (n
 
       slates_held : goes ≡ true
           → list_all (holds tables there) (all_referred w.numbers slates) ≡ true
-      slates_held e = middle.gate ∙ (both_true (own_is && last_is) (refer store terms) e).1
+      slates_held e = middle.gate ∙ (and_parts (own_is && last_is) (refer store terms) e).1
 
       checks_do : rows checks there
           ≡ guard RegionMismatch (conform terms) line there (gate goes line there (code.goes_on there))

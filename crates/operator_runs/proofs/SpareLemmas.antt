@@ -1,21 +1,18 @@
 -- States that spare what was there before rows of operators.
-use Rattle.std.proofs.Common.{Some, ◌⊎◌, inl, inr, ◌&&◌, [], ◌∷◌}
+use Rattle.std.proofs.Common.{Some, ◌⊎◌, inl, inr, [], ◌∷◌}
 use Rattle.std.proofs.Common.{false, ◌≡◌, refl, ◌∙◌, ap, arith, ℕ, ◌≤◌, ◌<◌}
 use Rattle.std.proofs.Common.{List, ℤ}
 use Rattle.std.specs.Prelude.{map, slice_get, slice_set}
-use Rattle.std.specs.List.{list_all}
 use Rattle.zpl_nums.specs.declared.folds.Fold.{Fold}
 use Rattle.zpl_nums.specs.Integer.{IsInteger}
 use Rattle.node_form.specs.declared.tables.Tables.{Tables}
 use Rattle.flat_form.specs.Whole.{Whole}
 use Rattle.print_runs.specs.of_zpl_lowering.Where.{Stored}
-use Rattle.print_runs.specs.of_zpl_lowering.Reference.{Reference}
 use Rattle.print_runs.specs.of_lowering_runs.Seen.{scalar_in, Spot, numbered, seen_store}
 use Rattle.row_runs.specs.Straight.{Every}
 use Rattle.print_runs.specs.of_lowering_runs.Stands.{Rises, IsSound, Misses}
 use Rattle.print_runs.proofs.of_lowering_runs.NumberLemmas.{same_spots, get_other, get_set_other}
 use Rattle.print_runs.proofs.of_lowering_runs.RowLemmas.{set_sound}
-use Rattle.print_runs.specs.of_array_runs.Gates.{lies, holds}
 use Rattle.zpl_arrays.specs.Array.{Array}
 use Rattle.node_form.specs.declared.arrays.ArrayRow.{ArrayRow}
 use Rattle.flat_form.specs.States.{IsStoreOf}
@@ -73,17 +70,6 @@ module _ (tables : Tables) (spots : List Spot) (arrays : List Stored) (own : Own
           → (j < more.copies) ⊎ (own.temps ≤ j)
       copies_on j (inl below) = inl (omega (arith, below, le.copies))
       copies_on j (inr from) = inr from
-
-  -- references under slots that stay are the same there
-  pub holds_on : (before after : Whole)
-      → ((k : ℕ) → Misses own.slots k → slice_get after.slots k ≡ slice_get before.slots k)
-      → (refs : List Reference) → Every (λ (one : Reference). Misses own.slots one.slot) refs
-      → list_all (holds tables after) refs ≡ list_all (holds tables before) refs
-  holds_on before after same [] h = refl
-  holds_on before after same (one ∷ refs) h =
-      ap (λ o. lies one.shift o (slice_get tables.arrays one.array) && list_all (holds tables after) refs)
-      (same one.slot h.0)
-      ∙ ap (λ b. holds tables before one && b) (holds_on before after same refs h.1)
 
   -- a scalar that is free has another value
   module _ (free : Unused) (whole : Whole) (sound : IsSound tables whole)

@@ -2,14 +2,14 @@
 -- array is read round its home box.
 use Rattle.std.proofs.Common.{◌≡◌, refl, sym, ◌∙◌, ap, subst, arith, ℕ, zero, suc, ◌<◌, ◌≤◌, Bool, true, false, ◌&&◌}
 use Rattle.std.proofs.Common.{List, [], ◌∷◌, length, ℤ, pos, ◌+ℤ◌, ◌-ℤ◌, ◌*ℤ◌, ◌≤ℤ◌, ◌<ℤ◌, All, ◌⊎◌, inl, inr, cond}
-use Rattle.std.specs.Prelude.{◌||◌, if◌then◌else◌, int_lt, int_rem, nat_le, unsigned_abs}
+use Rattle.std.specs.Prelude.{if◌then◌else◌, int_lt, int_rem, nat_le, unsigned_abs}
 use Rattle.std.specs.Ordering.{int_eq}
 use Rattle.std.proofs.lemmas.Bool.Decides.{Decides-int_eq, nat_tests}
 use Rattle.std.specs.Int.{int_max, int_min}
 use Rattle.std.specs.List.{AllZip}
 use Rattle.std.proofs.lemmas.Int.{ints, clamps, rem_below}
 use Rattle.std.proofs.lemmas.List.Elements.{All-cons, All-head, All-nil, All-tail}
-use Rattle.std.proofs.lemmas.Bool.{and_from, false≢true}
+use Rattle.std.proofs.lemmas.Bool.{and_from, false≢true, or_right}
 use Rattle.zpl_nums.specs.declared.ends.Border.TheVariants.{Wrap}
 use Rattle.zpl_region.specs.declared.dims.Dim.{Dim}
 use Rattle.zpl_region.specs.declared.dims.Dim.TheVariants.{Flood, Range}
@@ -386,10 +386,6 @@ shift_long home d l = by (has_none home)
     by : (t : Bool) → length (cond t (zeros d) (each_rest d home.dims)) ≡ length home.dims
     by true = zeros_long d ∙ l
     by false = rest_long d home.dims l
-
-or_right : (a b : Bool) → b ≡ true → (a || b) ≡ true
-or_right true b e = refl
-or_right false b e = e
 
 rest_conforms : (d : ℤ) (dim : Dim) → IsBoxed dim → 0 < coordinate_count dim
     → dim_border_conforms (dim_rest d dim) dim ≡ true

@@ -1,5 +1,5 @@
 -- Words that are joined with what is at their places.
-use Rattle.std.proofs.Common.{◌≡◌, ℕ, zero, suc, ◌+◌, ◌<◌, ◌≤◌, ◌&&◌, Bool, true, false, cond, List, [], ◌∷◌, length, map, drop, get_or, drop-cons, refl, sym, ap, ◌∙◌, ℤ, arith}
+use Rattle.std.proofs.Common.{◌≡◌, ℕ, zero, suc, ◌+◌, ◌≤◌, ◌&&◌, Bool, true, false, cond, List, [], ◌∷◌, length, map, drop, refl, sym, ap, ◌∙◌, ℤ, arith}
 use Rattle.std.specs.Prelude.{Option, Some, None, is_some, option_and_then, slice_get, slice_set}
 use Rattle.std.specs.Option.{option_map}
 use Rattle.std.proofs.lemmas.List.{drop_all}
@@ -217,8 +217,3 @@ module _ (f : Fold) (array : ℕ) (walk : Walk) (words : List ℤ) where
       → joined_into f array (tuples_on walk) words old ≡ Some now
   words_end next i old now w all =
       w.whole ∙ (ap (λ ws. joined_into f array w.rest ws now) (drop_all i words all) ∙ no_words w.rest now)
-
-pub next_of : {X : Type 0} (xs : List X) (i : ℕ) (d : X) → i < length xs → drop i xs ≡ get_or xs i d ∷ drop (i + 1) xs
-next_of xs i d within =
-    let more : suc i ≡ i + 1 = omega arith in
-    drop-cons xs i d within ∙ ap (λ n. get_or xs i d ∷ drop n xs) more

@@ -3,7 +3,7 @@ use Rattle.std.proofs.Common.{◌≡◌, ◌↔◌, not, IsTrue, Bool, true, fal
 use Rattle.std.specs.Prelude.{filter, int_le}
 use Rattle.std.specs.List.{AllZip, list_any}
 use Rattle.std.specs.Ordering.{int_eq}
-use Rattle.std.proofs.lemmas.Bool.{false≢true}
+use Rattle.std.proofs.lemmas.Bool.{false≢true, and_from, and_right}
 use Rattle.std.proofs.lemmas.Bool.Decides.{Decides-int_eq}
 use Rattle.std.proofs.lemmas.Int.{ints}
 use Rattle.zpl_region.specs.declared.dims.Dim.{Dim}
@@ -21,9 +21,6 @@ use Rattle.reduce_plan.proofs.ReachedLemmas.{reached_any}
 use Rattle.part_messages.specs.Meeting.{each_meets, may_meet, overlap}
 
 -- ---- one dimension
-true_and : (a b : Bool) → a ≡ true → b ≡ true → (a && b) ≡ true
-true_and true b e f = f
-true_and false b e f = cc
 
 no_common : (own block : Dim) (x y : ℤ) → overlap own block ≡ false → Among (coordinates own) x → Among (coordinates block) y → int_eq y x ≡ false
 no_common Flood block x y e m n = cc
@@ -38,7 +35,7 @@ no_common (Range lo hi step align) (Range from to stride base) x y e m n = by (i
         let w = (among_range from to stride base y n).0 in
         let below : int_le lo to ≡ true = test_from_le lo to (omega (arith, ints, v, w, same)) in
         let above : int_le from hi ≡ true = test_from_le from hi (omega (arith, ints, v, w, same)) in
-        sym (true_and (int_le lo to) (int_le from hi) below above) ∙ e
+        sym (and_from (int_le lo to) (int_le from hi) below above) ∙ e
 
 no_agreement : (target own block : Dim) (x y : ℤ) → may_meet target own block ≡ false → Among (coordinates own) x → Among (coordinates block) y
     → (is_collapsed target || int_eq y x) ≡ false
@@ -49,9 +46,6 @@ no_agreement target own block x y e m n = by (is_collapsed target) e
     by false is = no_common own block x y is m n
 
 -- ---- all dimensions
-second_false : (a b : Bool) → b ≡ false → (a && b) ≡ false
-second_false true b e = e
-second_false false b e = refl
 
 disagree : (target own block : List Dim) (xs ys : List ℤ) → each_meets target own block ≡ false → AllZip Among (map coordinates own) xs
     → AllZip Among (map coordinates block) ys → agrees target xs ys ≡ false
@@ -64,7 +58,7 @@ disagree (t ∷ target) (d ∷ own) (b ∷ block) (x ∷ xs) (y ∷ ys) e m n = 
   where
     by : (c : Bool) → may_meet t d b ≡ c → (c && each_meets target own block) ≡ false → (each_meets target own block ≡ false → agrees target xs ys ≡ false)
         → ((is_collapsed t || int_eq y x) && agrees target xs ys) ≡ false
-    by true is rest further = second_false (is_collapsed t || int_eq y x) (agrees target xs ys) (further rest)
+    by true is rest further = and_right (is_collapsed t || int_eq y x) (agrees target xs ys) (further rest)
     by false is rest further = ap (λ c. c && agrees target xs ys) (no_agreement t d b x y is m.0 n.0)
 
 none_agree : (p : List ℤ → Bool) (ts : List (List ℤ)) → ((t : List ℤ) → Among ts t → p t ≡ false) → list_any p ts ≡ false

@@ -1,16 +1,13 @@
 -- Tables for another grid and with other code, which has no fewer rows, fit where these do.
 use Rattle.std.proofs.Common.{arith, ℕ, ◌≤◌, List, length}
 use Rattle.std.specs.Prelude.{All}
+use Rattle.std.proofs.lemmas.List.Elements.{All-weaker}
 use Rattle.node_form.specs.declared.instructions.Instr.{Instr}
 use Rattle.node_form.specs.declared.tables.Tables.{Tables}
 use Rattle.node_form.specs.Fits.{Fits, FitsExchange, FitsExpr, FitsGroup, FitsInstr, Grows}
 use Rattle.node_form.specs.Grid.{IsGrid}
 use Rattle.node_form.proofs.GrowthLemmas.{FitsExchange-grows, FitsExpr-grows, FitsGroup-grows}
 use Rattle.node_form.proofs.GrowthLemmas.{FitsInstr-grows, Keeps-same}
-
-weaker_all : {X : Type 0} (P Q : X → Type 0) → ((x : X) → P x → Q x) → (xs : List X) → All P xs
-    → All Q xs
-weaker_all P Q weaker xs all k d inside = weaker _ (all k d inside)
 
 module _ (old : Tables) (grid : List ℕ) (code : List Instr)
     (long : length old.code ≤ length code) where
@@ -36,13 +33,13 @@ module _ (old : Tables) (grid : List ℕ) (code : List Instr)
     slots = fits.slots;
     arrays = fits.arrays;
     exprs =
-        weaker_all (FitsExpr old) (FitsExpr new) (FitsExpr-grows old new grows) old.exprs
+        All-weaker (FitsExpr old) (FitsExpr new) (FitsExpr-grows old new grows) old.exprs
         fits.exprs;
     groups =
-        weaker_all (FitsGroup old) (FitsGroup new) (FitsGroup-grows old new grows) old.groups
+        All-weaker (FitsGroup old) (FitsGroup new) (FitsGroup-grows old new grows) old.groups
         fits.groups;
     exchanges =
-        weaker_all (FitsExchange old) (FitsExchange new) (FitsExchange-grows old new grows)
+        All-weaker (FitsExchange old) (FitsExchange new) (FitsExchange-grows old new grows)
         old.exchanges fits.exchanges;
-    code = weaker_all (FitsInstr old) (FitsInstr new) (FitsInstr-grows old new grows) code rows;
+    code = All-weaker (FitsInstr old) (FitsInstr new) (FitsInstr-grows old new grows) code rows;
   }

@@ -3,7 +3,7 @@ use Rattle.std.proofs.Common.{ℕ, ◌≤◌, List, [], ◌∷◌, length}
 use Rattle.std.specs.Prelude.{All, Option, Some, None, slice_get}
 use Rattle.std.specs.Option.{IfSome, IsSomeAnd}
 use Rattle.std.specs.List.{AllByRecursion}
-use Rattle.std.proofs.lemmas.List.Elements.{All-from_recursion}
+use Rattle.std.proofs.lemmas.List.Elements.{All-from_recursion, All-weaker}
 use Rattle.node_form.specs.declared.words.ExprOp.{ExprOp}
 use Rattle.node_form.specs.declared.words.ExprOp.TheVariants as word
 use Rattle.node_form.specs.declared.arrays.Item.{Item}
@@ -16,10 +16,6 @@ use Rattle.node_form.specs.declared.instructions.Instr.TheVariants as instr
 use Rattle.node_form.specs.declared.tables.Tables.{Tables}
 use Rattle.node_form.specs.Fits.{Fits, FitsExchange, FitsExpr, FitsGroup, FitsInstr, FitsItem}
 use Rattle.node_form.specs.Fits.{FitsMember, FitsPart, FitsRemap, FitsWord, HasExpr, HasScalarExpr}
-
-weaker_all : {X : Type 0} (P Q : X → Type 0) → ((x : X) → P x → Q x) → (xs : List X) → All P xs
-    → All Q xs
-weaker_all P Q weaker xs all k d inside = weaker _ (all k d inside)
 
 weaker_some : {X : Type 0} (P Q : X → Type 0) → ((x : X) → P x → Q x) → (o : Option X)
     → IsSomeAnd o P → IsSomeAnd o Q
@@ -58,7 +54,7 @@ module _ (old : Tables) (exchanges : List (List Item)) (code : List Instr) where
 
   words_same : (rank : ℕ) (words : List ExprOp) → All (FitsWord old rank) words
       → All (FitsWord anew rank) words
-  words_same rank = weaker_all (FitsWord old rank) (FitsWord anew rank) (word_same rank)
+  words_same rank = All-weaker (FitsWord old rank) (FitsWord anew rank) (word_same rank)
 
   expr_same : (words : List ExprOp) → FitsExpr old words → FitsExpr anew words
   expr_same words fits = record {
@@ -96,7 +92,7 @@ module _ (old : Tables) (exchanges : List (List Item)) (code : List Instr) where
 
   members_same : (rank : ℕ) (members : List Member) → All (FitsMember old rank) members
       → All (FitsMember anew rank) members
-  members_same rank = weaker_all (FitsMember old rank) (FitsMember anew rank) (member_same rank)
+  members_same rank = All-weaker (FitsMember old rank) (FitsMember anew rank) (member_same rank)
 
   group_same : (members : List Member) → FitsGroup old members → FitsGroup anew members
   group_same members fits = record {
@@ -152,7 +148,7 @@ module _ (old : Tables) (exchanges : List (List Item)) (code : List Instr) where
     fit = (
       fits.fit.0,
       (
-        weaker_all (FitsPart old fits.rank) (FitsPart anew fits.rank) (part_same fits.rank) parts
+        All-weaker (FitsPart old fits.rank) (FitsPart anew fits.rank) (part_same fits.rank) parts
             fits.fit.1.0,
         fits.fit.1.1,
       ),
@@ -181,8 +177,8 @@ module _ (old : Tables) (exchanges : List (List Item)) (code : List Instr) where
     grid = fits.grid;
     slots = fits.slots;
     arrays = fits.arrays;
-    exprs = weaker_all (FitsExpr old) (FitsExpr anew) expr_same old.exprs fits.exprs;
-    groups = weaker_all (FitsGroup old) (FitsGroup anew) group_same old.groups fits.groups;
+    exprs = All-weaker (FitsExpr old) (FitsExpr anew) expr_same old.exprs fits.exprs;
+    groups = All-weaker (FitsGroup old) (FitsGroup anew) group_same old.groups fits.groups;
     exchanges = all_exchanges;
     code = all_rows;
   }

@@ -3,7 +3,7 @@ use Rattle.std.proofs.Common.{◌≡◌, refl, sym, subst, ℕ, ◌+◌, true, L
 use Rattle.std.specs.Prelude.{All, Option, Some, None, slice_get}
 use Rattle.std.specs.Option.{IsSomeAnd}
 use Rattle.std.specs.List.{AllByRecursion}
-use Rattle.std.proofs.lemmas.List.Elements.{All-append, All-from_recursion}
+use Rattle.std.proofs.lemmas.List.Elements.{All-append, All-from_recursion, All-weaker}
 use Rattle.node_form.specs.declared.words.ExprOp.{ExprOp}
 use Rattle.node_form.specs.declared.words.ExprOp.TheVariants as word
 use Rattle.node_form.specs.declared.arrays.ArrayRow.{ArrayRow}
@@ -16,10 +16,6 @@ use Rattle.pass_parts.specs.of_fuse_contract.Contracting.{word_contracted}
 use Rattle.pass_parts.specs.of_fuse_contract.Fusing.{fused}
 use Rattle.pass_parts.proofs.of_fuse_contract.CellFitLemmas.{every_mapped}
 use Rattle.stored_shifts.specs.Stored.{IsStoredRead, ShiftsAreStored}
-
-weaker_all : {X : Type 0} (P Q : X → Type 0) → ((x : X) → P x → Q x) → (xs : List X) → All P xs
-    → All Q xs
-weaker_all P Q weaker xs all k d inside = weaker _ (all k d inside)
 
 -- in tables with other arrays, where stored ones are still stored
 module _ (old new : Tables) (keeps : (array : ℕ) → IsStoredRead old (word.Shifted array [])
@@ -39,8 +35,8 @@ module _ (old new : Tables) (keeps : (array : ℕ) → IsStoredRead old (word.Sh
   reads_kept : (exprs : List (List ExprOp)) → All (All (IsStoredRead old)) exprs
       → All (All (IsStoredRead new)) exprs
   reads_kept =
-      weaker_all (All (IsStoredRead old)) (All (IsStoredRead new))
-      (weaker_all (IsStoredRead old) (IsStoredRead new) read_kept)
+      All-weaker (All (IsStoredRead old)) (All (IsStoredRead new))
+      (All-weaker (IsStoredRead old) (IsStoredRead new) read_kept)
 
 -- ---- values that go through temporaries
 stored_before : (arrays more : List ArrayRow) (array : ℕ)

@@ -5,7 +5,7 @@ use Rattle.std.specs.Prelude.{◌&&◌, ◌||◌, filter, fold, if◌then◌else
 use Rattle.std.specs.Option.{IsSomeAnd}
 use Rattle.std.specs.List.{AllByRecursion, list_all, list_any}
 use Rattle.std.proofs.Math.Path.{fun_ext}
-use Rattle.std.proofs.lemmas.Bool.{and_parts}
+use Rattle.std.proofs.lemmas.Bool.{and_parts, not-false}
 use Rattle.std.proofs.lemmas.Bool.Decides.{Decides-eqb}
 use Rattle.std.proofs.lemmas.List.Elements.{recursion_from_All}
 use Rattle.std.proofs.lemmas.List.Folds.{list_all-append}
@@ -43,10 +43,6 @@ use Rattle.pass_parts.proofs.SeenLemmas.{could_join, may_stand}
 both : (a b : Bool) → a ≡ true → b ≡ true → (a && b) ≡ true
 both true b one other = other
 both false b one other = one
-
-not_denied : (b : Bool) → not b ≡ false → b ≡ true
-not_denied true e = refl
-not_denied false e = sym e
 
 weaker : (c x y : Bool) → (x ≡ true → y ≡ true) → (not c || x) ≡ true → (not c || y) ≡ true
 weaker true x y more known = more known
@@ -165,7 +161,7 @@ module _ (tables : Tables) where
       both (is_stored (slice_get tables.arrays array)) _
       (stored (slice_get tables.arrays array) fits.fit.2)
       (still_decided slot array shift line
-      (not_denied (is_decided tables (instr.Need slot array shift line)) out))
+      (not-false (is_decided tables (instr.Need slot array shift line)) out))
 
   -- ---- along the new rows
   abbrev new_learn : Option (ℕ × ℕ) → Instr → Option (ℕ × ℕ)

@@ -9,6 +9,7 @@ use Rattle.std.specs.List.{AllByRecursion, list_any}
 use Rattle.std.proofs.lemmas.Bool.Decides.{Decides-eqb}
 use Rattle.std.proofs.lemmas.List.Elements.{recursion_from_All}
 use Rattle.std.proofs.lemmas.Option.{slice_get-map, slice_get_within}
+use Rattle.std.proofs.lemmas.Bool.{not_from_false}
 use Rattle.node_form.specs.declared.arrays.ArrayRow.{ArrayRow}
 use Rattle.node_form.specs.declared.members.Member.{Member}
 use Rattle.node_form.specs.declared.members.Member.TheVariants as member
@@ -30,9 +31,6 @@ use Rattle.pass_parts.proofs.NameLemmas.{not_among, rows_silent}
 both : (a b : Bool) → a ≡ true → b ≡ true → (a && b) ≡ true
 both true b one other = other
 both false b one other = one
-
-not_false : (b : Bool) → b ≡ false → not b ≡ true
-not_false b is = ap not is
 
 -- what stands there is among all of which something holds
 every_at : {X : Type 0} (P : X → Type 0) (xs : List X) (k : ℕ) (x : X) → AllByRecursion P xs
@@ -159,7 +157,7 @@ module _ (tables : Tables) (array : ℕ) where
         (itself expr line)
         ∙ (ap (λ d. begins_it tables array d (the_put expr line)) outer
         ∙ both (array == array) _ ((Decides-eqb array array).1 refl)
-        (not_false (is_among array (flat_map arrays_in (words_of tables expr)))
+        (not_from_false (is_among array (flat_map arrays_in (words_of tables expr)))
         (sym (ap (λ words. is_among array (flat_map arrays_in words)) (words_new tables expr)
         ∙ words_name tables array kept (words_of tables expr)) ∙ unread))))
     begun_there (one ∷ group) (other ∷ before) after expr line depth is first outer unread =
@@ -192,8 +190,6 @@ module _ (tables : Tables) (array : ℕ) where
         either false b e = e
 
   -- ---- then it becomes a cell
-  abbrev IsGroupOf : ℕ → List Member → Type 0
-  IsGroupOf group members = slice_get tables.groups group ≡ Some members
 
   record Standing (group : ℕ) (cell : IsCellLeft (contracted tables) array group) : Type 0 where
     members : List Member
@@ -222,11 +218,11 @@ module _ (tables : Tables) (array : ℕ) where
       → becomes_cell tables array ≡ true
   becomes group cell =
       both (not (is_among array (flat_map arrays_of_row tables.code))) _
-      (not_false _ (rows_silent array tables.code cell.no_row))
+      (not_from_false _ (rows_silent array tables.code cell.no_row))
       (ap (fits_a_cell tables array)
       (one_naming tables.groups group s.members s.there
       (named_there kept s.members cell.before cell.after cell.expr cell.line s.is) others)
-      ∙ both (not (is_shifted_in tables array s.members)) _ (not_false _ unshifted)
+      ∙ both (not (is_shifted_in tables array s.members)) _ (not_from_false _ unshifted)
       (begun_there kept s.members cell.before cell.after cell.expr cell.line 0 s.is first
       cell.outermost
       (not_among array (flat_map arrays_in (words_of (contracted tables) cell.expr)) cell.unread)))

@@ -5,6 +5,7 @@ use Rattle.std.specs.Prelude.{◌||◌, flat_map, if◌then◌else◌, slice_get
 use Rattle.std.specs.List.{list_any}
 use Rattle.std.proofs.lemmas.Bool.Decides.{Decides-eqb}
 use Rattle.std.proofs.lemmas.List.Folds.{list_any-append}
+use Rattle.std.proofs.lemmas.Bool.{false_from_ne_true}
 use Rattle.node_form.specs.declared.words.ExprOp.{ExprOp}
 use Rattle.node_form.specs.declared.words.ExprOp.TheVariants as word
 use Rattle.node_form.specs.declared.members.Member.{Member}
@@ -22,7 +23,7 @@ use Rattle.pass_sizes.specs.of_fuse_contract.Contracting.{naming_group, put_or_c
 use Rattle.pass_parts.proofs.CellLemmas.{accumulated_new, cell_of, members_new, new_member}
 use Rattle.pass_parts.proofs.CellLemmas.{scalars_new, shifted_new, turning_new}
 use Rattle.pass_parts.proofs.JoinableLemmas.{AreApart, apart, can_be, shifts}
-use Rattle.pass_parts.proofs.NameLemmas.{among_in, in_among, not_true}
+use Rattle.pass_parts.proofs.NameLemmas.{among_in, in_among}
 
 -- ---- an array that becomes a cell is one of those that do
 cell_in : (cell : ℕ) (arrays : List ℕ) (array found : ℕ)
@@ -111,7 +112,7 @@ module _ (tables : Tables) where
             → is_among array (shifts tables (rows_or_none found)) ≡ false
         by None there = refl
         by (Some members) there =
-            not_true (is_shifted_in tables array members)
+            false_from_ne_true (is_shifted_in tables array members)
             (λ reads. true≢false (sym reads
             ∙ one_unshifted (flat_map (naming_group tables array) tables.groups) fits members
             (in_each (naming_group tables array) tables.groups members members

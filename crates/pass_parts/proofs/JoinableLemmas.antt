@@ -5,6 +5,7 @@ use Rattle.std.specs.Prelude.{◌&&◌, ◌||◌, flat_map}
 use Rattle.std.specs.List.{list_any}
 use Rattle.std.proofs.lemmas.Grind.{flat_map-append}
 use Rattle.std.proofs.lemmas.List.Folds.{list_any-append}
+use Rattle.std.proofs.lemmas.Bool.{not-true}
 use Rattle.node_form.specs.declared.words.ExprOp.{ExprOp}
 use Rattle.node_form.specs.declared.members.Member.{Member}
 use Rattle.node_form.specs.declared.tables.Tables.{Tables}
@@ -21,10 +22,6 @@ neither_left false b e = refl
 neither_right : (a b : Bool) → (a || b) ≡ false → b ≡ false
 neither_right true b e = absurd (true≢false e)
 neither_right false b e = e
-
-denied : (b : Bool) → not b ≡ true → b ≡ false
-denied true e = sym e
-denied false e = refl
 
 both : (a b : Bool) → a ≡ true → b ≡ true → (a && b) ≡ true
 both true b one other = other
@@ -112,13 +109,13 @@ module _ (tables : Tables) where
       let four = both_left (not a && not b && not c && not d) (not e) five in
       let three = both_left (not a && not b && not c) (not d) four in
       let two = both_left (not a && not b) (not c) three in (
-        denied a (both_left (not a) (not b) two),
-        denied b (both_right (not a) (not b) two),
-        denied c (both_right (not a && not b) (not c) three),
-        denied d (both_right (not a && not b && not c) (not d) four),
-        denied e (both_right (not a && not b && not c && not d) (not e) five),
-        denied f (both_right (not a && not b && not c && not d && not e) (not f) six),
-        denied g (both_right (not a && not b && not c && not d && not e && not f) (not g) is),
+        not-true a (both_left (not a) (not b) two),
+        not-true b (both_right (not a) (not b) two),
+        not-true c (both_right (not a && not b) (not c) three),
+        not-true d (both_right (not a && not b && not c) (not d) four),
+        not-true e (both_right (not a && not b && not c && not d) (not e) five),
+        not-true f (both_right (not a && not b && not c && not d && not e) (not f) six),
+        not-true g (both_right (not a && not b && not c && not d && not e && not f) (not g) is),
       )
 
   pub apart : (group other : List Member) → can_join tables group other ≡ true

@@ -3,6 +3,7 @@ use Rattle.std.proofs.Common.{◌≡◌, ◌⊎◌, inl, inr, refl, sym, ap, ◌
 use Rattle.std.proofs.Common.{true≢false, cond, List, [], ◌∷◌}
 use Rattle.std.specs.Prelude.{count_by, map, Option}
 use Rattle.std.proofs.lemmas.List.Elements.{recursion_from_All}
+use Rattle.std.proofs.lemmas.Bool.{false_from_ne_true}
 use Rattle.node_form.specs.declared.arrays.Item.{Item}
 use Rattle.node_form.specs.declared.instructions.Instr.{Instr}
 use Rattle.node_form.specs.declared.instructions.Instr.TheVariants as instr
@@ -21,7 +22,7 @@ use Rattle.pass_sizes.specs.Sizes.{IsBlind, PassesNoExchange}
 use Rattle.pass_sizes.proofs.CombineLemmas.{dropped_count, merged_count}
 use Rattle.pass_sizes.proofs.NeedLemmas.{planned_count}
 use Rattle.pass_parts.specs.Parts.{HasNoCellLeft, IsCellLeft, names_alone}
-use Rattle.pass_parts.proofs.NameLemmas.{none_counted, not_true, one_more, row_named}
+use Rattle.pass_parts.proofs.NameLemmas.{none_counted, one_more, row_named}
 
 -- ---- an array that could be a cell still could where exchanges don't count
 left_of : (tables : Tables) (array group : ℕ) → CanBeCell tables array group
@@ -29,7 +30,7 @@ left_of : (tables : Tables) (array group : ℕ) → CanBeCell tables array group
 left_of tables array group cell = record {
   no_row = none_counted (names_alone array)
       (λ row. (is_aside row ≡ true) ⊎ (IsNamed tables row (Array array) → ⊥))
-      (λ row either. not_true (names_alone array row) (λ names. by row names either))
+      (λ row either. false_from_ne_true (names_alone array row) (λ names. by row names either))
       tables.code
       (recursion_from_All (λ row. (is_aside row ≡ true) ⊎ (IsNamed tables row (Array array) → ⊥))
       tables.code cell.no_row);

@@ -7,6 +7,7 @@ use Rattle.std.specs.List.{AllByRecursion, filter_map}
 use Rattle.std.proofs.lemmas.Bool.Decides.{Decides-eqb}
 use Rattle.std.proofs.lemmas.List.Folds.{list_any-append}
 use Rattle.std.proofs.lemmas.List.Sums.{sum_by-cons}
+use Rattle.std.proofs.lemmas.Bool.{false_from_ne_true}
 use Rattle.node_form.specs.declared.instructions.Instr.{Instr}
 use Rattle.node_form.specs.declared.instructions.Instr.TheVariants as instr
 use Rattle.node_form.specs.declared.tables.Tables.{Tables}
@@ -29,14 +30,10 @@ pub in_among : (number : ℕ) (numbers : List ℕ) → In numbers number
 in_among number numbers h =
     some_passes (λ other. other == number) numbers number h ((Decides-eqb number number).1 refl)
 
-pub not_true : (b : Bool) → (b ≡ true → ⊥) → b ≡ false
-not_true true none = absurd (none refl)
-not_true false none = refl
-
 pub not_among : (number : ℕ) (numbers : List ℕ) → ¬ Contains numbers number
     → is_among number numbers ≡ false
 not_among number numbers none =
-    not_true (is_among number numbers)
+    false_from_ne_true (is_among number numbers)
     (λ among. none (contained numbers number (among_in number numbers among)))
 
 -- ---- rows that name an array by themselves

@@ -8,6 +8,7 @@ use Rattle.std.specs.List.{AllByRecursion, list_all, list_any}
 use Rattle.std.proofs.lemmas.Grind.{flat_map-append}
 use Rattle.std.proofs.lemmas.List.Elements.{All-from_recursion, recursion_from_All}
 use Rattle.std.proofs.lemmas.List.Sums.{sum_by-cons}
+use Rattle.std.proofs.lemmas.Bool.{not-true, or_from}
 use Rattle.row_runs.specs.Cut.{Stretch, moved_by}
 use Rattle.node_form.specs.declared.arrays.Item.{Item}
 use Rattle.node_form.specs.declared.arrays.ArrayRow.{ArrayRow}
@@ -198,14 +199,6 @@ module _ (R : List Member → Type 0) where
 abbrev one_if : Bool → ℕ
 one_if b = cond b 1 0
 
-pub not_true : (b : Bool) → not b ≡ true → b ≡ false
-not_true true e = absurd (true≢false (sym e))
-not_true false e = refl
-
-or_false : (a b : Bool) → a ≡ false → b ≡ false → (a || b) ≡ false
-or_false true b e f = e
-or_false false b e f = f
-
 or_first : (a b : Bool) → (a || b) ≡ false → a ≡ false
 or_first true b e = e
 or_first false b e = refl
@@ -218,7 +211,7 @@ pub any_both : {X : Type 0} (test : X → Bool) (xs ys : List X) → list_any te
     → list_any test ys ≡ false → list_any test (xs ++ ys) ≡ false
 any_both test [] ys e f = f
 any_both test (x ∷ xs) ys e f =
-    or_false (test x) (list_any test (xs ++ ys)) (or_first (test x) (list_any test xs) e)
+    or_from (test x) (list_any test (xs ++ ys)) (or_first (test x) (list_any test xs) e)
     (any_both test xs ys (or_second (test x) (list_any test xs) e) f)
 
 -- shared with two lists
@@ -227,7 +220,7 @@ share_right : (numbers one other : List ℕ) → share numbers one ≡ false
 share_right [] one other e f = refl
 share_right (number ∷ numbers) one other e f =
     let test : ℕ → Bool = λ k. number == k in
-    or_false (list_any test (one ++ other)) (share numbers (one ++ other))
+    or_from (list_any test (one ++ other)) (share numbers (one ++ other))
     (any_both test one other (or_first (list_any test one) (share numbers one) e)
     (or_first (list_any test other) (share numbers other) f))
     (share_right numbers one other (or_second (list_any test one) (share numbers one) e)
@@ -287,9 +280,9 @@ module _ (tables : Tables) where
       ∙ (ap (share (puts_of group ++ puts_of other)) (shifts_both group other)
       ∙ share_left (puts_of group) (puts_of other) (shifts_of group ++ shifts_of other)
       (share_right (puts_of group) (shifts_of group) (shifts_of other) e
-      (not_true (share (puts_of group) (shifts_of other)) found.third))
+      (not-true (share (puts_of group) (shifts_of other)) found.third))
       (share_right (puts_of other) (shifts_of group) (shifts_of other)
-      (not_true (share (puts_of other) (shifts_of group)) found.fourth) f))
+      (not-true (share (puts_of other) (shifts_of group)) found.fourth) f))
 
   no_loops : (group : List Member) → list_any is_turning group ≡ false
       → (let n : ℕ = 0 in loops_in group ≡ n)
@@ -310,8 +303,8 @@ module _ (tables : Tables) where
       omega (
         arith,
         count_append is_turning group other,
-        no_loops group (not_true (list_any is_turning group) found.first),
-        no_loops other (not_true (list_any is_turning other) found.second),
+        no_loops group (not-true (list_any is_turning group) found.first),
+        no_loops other (not-true (list_any is_turning other) found.second),
       )
 
   pub fused_normal : IsNormal tables → IsNormal (fused tables)
@@ -418,7 +411,7 @@ module _ (tables : Tables) where
           ∷ map (member_contracted cell_of) group)) ≡ false
       by (Some cell) rest = rest
       by None rest =
-          or_false (test array) (list_any test (puts_of (map (member_contracted cell_of) group)))
+          or_from (test array) (list_any test (puts_of (map (member_contracted cell_of) group)))
           (or_first (test array) (list_any test (puts_of group)) e) rest
   fewer_puts test (one ∷ group) e = fewer_puts test group e
 

@@ -1,6 +1,6 @@
 -- Code whose loops go through temporaries is at most twice as large, where it has as many rows that
 -- prepare for loops as loops that read what they put.
-use Rattle.std.proofs.Common.{◌≡◌, refl, sym, ap, ◌∙◌, arith, subst, ℕ, zero, suc, ◌+◌, ◌*◌, ◌≤◌, ◌||◌, ◌&&◌, Bool, true, false}
+use Rattle.std.proofs.Common.{◌≡◌, refl, sym, ap, ◌∙◌, arith, subst, ℕ, zero, suc, ◌+◌, ◌*◌, ◌≤◌, Bool, true, false}
 use Rattle.std.proofs.Common.{List, [], ◌∷◌, ◌++◌, length, length-append}
 use Rattle.std.specs.Prelude.{cond, count_by, flat_map, fold, map, sum_by, Option, Some, None, slice_get}
 use Rattle.std.specs.Prelude.{if◌then◌else◌, ◌==◌}
@@ -8,6 +8,7 @@ use Rattle.std.specs.List.{list_any}
 use Rattle.std.specs.Cmp.Lexicographic.{pointwise}
 use Rattle.std.proofs.lemmas.List.Folds.{list_any-append}
 use Rattle.std.proofs.lemmas.List.Sums.{sum_by-cons, sum_by-le-sum_by}
+use Rattle.std.proofs.lemmas.Bool.{or_left, or_right, and_from}
 use Rattle.row_runs.specs.Cut.{as_list as found_list}
 use Rattle.node_form.specs.declared.words.ExprOp.{ExprOp}
 use Rattle.node_form.specs.declared.arrays.ArrayDim.{ArrayDim}
@@ -91,22 +92,10 @@ dims_like (axis.Star ∷ dims) = dims_like dims
 same_number : (n : ℕ) → (n == n) ≡ true
 same_number n = grind arith
 
-both_true : (a b : Bool) → a ≡ true → b ≡ true → (a && b) ≡ true
-both_true true b first rest = rest
-both_true false b first rest = let no : ⊥ = cc in absurd no
-
 own_like : (row : ArrayRow) → is_like row (temporary_like row) ≡ true
 own_like row =
-    both_true (row.rank == row.rank) (pointwise is_same_kind row.dims (map without_storage row.dims))
+    and_from (row.rank == row.rank) (pointwise is_same_kind row.dims (map without_storage row.dims))
     (same_number row.rank) (dims_like row.dims)
-
-or_left : (a b : Bool) → a ≡ true → (a || b) ≡ true
-or_left true b is = refl
-or_left false b is = let no : ⊥ = cc in absurd no
-
-or_right : (a b : Bool) → b ≡ true → (a || b) ≡ true
-or_right true b is = refl
-or_right false b is = is
 
 module _ (tables : Tables) where
   -- arrays that are like one of these

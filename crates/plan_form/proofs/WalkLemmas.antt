@@ -4,7 +4,7 @@ use Rattle.std.proofs.Common.{Bool, true, false, true≢false, List, [], ◌∷�
 use Rattle.std.specs.Prelude.{Option, Some, None}
 use Rattle.std.specs.Option.{option_map}
 use Rattle.std.proofs.lemmas.List.{append-nil, append_assoc, length-append}
-use Rattle.flat_passes.specs.of_row_runs.Segments.{Segment, news}
+use Rattle.flat_passes.specs.of_row_runs.Segments.{news}
 use Rattle.flat_passes.specs.of_row_runs.Cut.{Stretch, as_list, cut, cut_row, joined_to, moved_by, passed}
 use Rattle.flat_passes.specs.of_row_runs.Cut.{relocated, rows_of, segments_by}
 use Rattle.flat_passes.specs.Numbers.{number_among}
@@ -166,9 +166,6 @@ module _ {F Old New : Type 0} (ends : Old → Bool) (is_goal : ℕ → Bool) (no
     -- a goal, or a place behind all rows
     abbrev pub IsPlace : ℕ → List Old → ℕ → Type 0
     IsPlace at rows g = (is_goal (at + g) ≡ true) ⊎ (length rows ≤ g)
-
-    segs : List (Stretch Old) → List (Segment Old New)
-    segs stretches = segments_by (closed nothing) last (λ g. g) stretches
 
     abbrev placed_from : F → List (Stretch Old) → ℕ → ℕ
     placed_from facts [] g = length (close facts)

@@ -1,30 +1,23 @@
 -- Slots that are told alike are the same.
-use Rattle.std.proofs.Common.{◌≡◌, refl, ap, ◌∙◌, Bool, true, false, List, ℤ, true≢false}
-use Rattle.std.specs.Prelude.{◌&&◌, ◌==◌}
+use Rattle.std.proofs.Common.{◌≡◌, refl, ap, ◌∙◌, List, ℤ}
+use Rattle.std.specs.Prelude.{◌==◌}
 use Rattle.std.specs.Bool.{Decides}
 use Rattle.std.specs.Cmp.Lexicographic.{pointwise}
 use Rattle.std.specs.Ordering.{int_eq}
 use Rattle.std.proofs.lemmas.Bool.Decides.{Decides-eqb, Decides-int_eq}
 use Rattle.std.proofs.lemmas.Slice.Eq.{slice_eq-Decides}
+use Rattle.std.proofs.lemmas.Bool.{and_parts, and_from as and_true}
 use Rattle.zpl_region.specs.declared.dims.Dim.{Dim}
 use Rattle.zpl_region.specs.declared.dims.Dim.TheVariants as dim
 use Rattle.zpl_region.specs.declared.regions.Region.{Region}
 use Rattle.plan_meaning.specs.Act.{is_dim, is_region}
 
-both : (a b : Bool) → (a && b) ≡ true → (a ≡ true) × (b ≡ true)
-both true b e = (refl, e)
-both false b e = absurd (true≢false (cc))
-
-and_true : (a b : Bool) → a ≡ true → b ≡ true → (a && b) ≡ true
-and_true true b e f = f
-and_true false b e f = cc
-
 is_dim-Decides : (one other : Dim) → Decides (is_dim one other) (one ≡ other)
 is_dim-Decides (dim.Range lo hi step align) (dim.Range low high by at) = (
   (λ is.
-      let first = both (int_eq lo low) _ is in
-      let second = both (int_eq hi high) _ first.1 in
-      let third = both (int_eq step by) _ second.1 in
+      let first = and_parts (int_eq lo low) _ is in
+      let second = and_parts (int_eq hi high) _ first.1 in
+      let third = and_parts (int_eq step by) _ second.1 in
       alike ((Decides-int_eq lo low).0 first.0) ((Decides-int_eq hi high).0 second.0)
       ((Decides-int_eq step by).0 third.0) ((Decides-int_eq align at).0 third.1)),
   (λ same.
@@ -44,7 +37,7 @@ is_dim-Decides dim.Flood dim.Flood = ((λ is. refl), (λ same. refl))
 is_region-Decides : (one other : Region) → Decides (is_region one other) (one ≡ other)
 is_region-Decides one other = (
   (λ is.
-      let halves = both (one.rank == other.rank) _ is in
+      let halves = and_parts (one.rank == other.rank) _ is in
       let rank : one.rank ≡ other.rank = (Decides-eqb one.rank other.rank).0 halves.0 in
       let dims : one.dims ≡ other.dims =
       (slice_eq-Decides is_dim-Decides one.dims other.dims _ refl).0 halves.1 in

@@ -2,7 +2,6 @@
 use Rattle.std.proofs.Common.{◌≡◌, ℕ, suc, ◌+◌, ◌*◌, ◌<◌, ◌≤◌, ◌==◌, nat_le, Bool, true, false, ◌&&◌, ℤ, List, [], ◌∷◌, ◌++◌, length, map, All, slice_get, Option, Some, None, option_map, is_some, refl, sym, ◌∙◌, ap, subst, arith, eqb-true, leb-true, ltb-true, length-append}
 use Rattle.std.specs.List.{list_all}
 use Rattle.std.proofs.lemmas.List.Elements.{All-nil, All-cons, All-tail, All-append}
-use Rattle.grid_links.specs.Machine.{Goes as Moves, Ended, Blocked, Awaits}
 use Rattle.grid_links.specs.Run.{count_of}
 use Rattle.grid_paths.specs.Path.{AreOthers}
 use Rattle.grid_links.specs.declared.messages.Message.{Message}
@@ -12,7 +11,6 @@ use Rattle.grid_paths.proofs.RoundLemmas.{leads_agreed}
 use Rattle.code_parts.specs.Early.{is_roomy}
 use Rattle.node_form.specs.declared.instructions.Instr.{Instr}
 use Rattle.node_form.specs.declared.tables.Tables.{Tables}
-use Rattle.grid_meaning.specs.Action.{Action}
 use Rattle.grid_meaning.specs.Collective.{Collective, Stage, Sends, TakesFrom, Last}
 use Rattle.grid_meaning.specs.Grid.{IsCapacity, system_over}
 use Rattle.grid_meaning.specs.Local.{Local, processors}
@@ -23,18 +21,16 @@ use Rattle.row_orders.proofs.StarLemmas.{processor_count}
 use Rattle.row_runs.specs.Run.{Does}
 use Rattle.plan_meaning.specs.Abreast.{Abreast, every, every_two, go_where, is_quiet, locals_of, of_processors}
 use Rattle.plan_meaning.proofs.ThereLemmas.{there_is}
-use Rattle.plan_meaning.specs.Messages.{are_partners, begun, bytes, delivered, does_well, final_of, finished, finished_in, from_of, leaves_row, middle_of, next_or, next_with, receivers, senders, shown_of, started, starts_alone, to_of, took, words_of}
+use Rattle.plan_meaning.specs.Messages.{are_partners, begun, bytes, delivered, does_well, final_of, finished, finished_in, from_of, leaves_row, middle_of, next_with, receivers, senders, shown_of, started, starts_alone, to_of, took, words_of}
 use Rattle.plan_orders.specs.Brings.{AreOpen, GoesWell, IsLimited, in_front, placed, row_most, standing_at}
 use Rattle.plan_orders.proofs.QuietLemmas.{most_some}
 use Rattle.std.proofs.lemmas.List.{length-map}
+use Rattle.std.proofs.lemmas.Bool.{and_parts}
 use Rattle.plan_orders.proofs.AgreeLemmas.{quiet_far, quiet_near}
 use Rattle.plan_orders.proofs.PlaceLemmas.{IsPlaceless, taking_placed}
-use Rattle.plan_orders.proofs.TestLemmas.{both, each_all, every_one, every_other, no_flights, no_room, there}
+use Rattle.plan_orders.proofs.TestLemmas.{each_all, every_one, every_other, no_flights, no_room, there}
 
 -- ---- the stages of a row
-sends_only : (to : List ℕ) → receivers (map Sends to) ≡ to
-sends_only [] = refl
-sends_only (q ∷ to) = ap (λ l. q ∷ l) (sends_only to)
 
 takes_none : (from : List ℕ) (rest : List Stage) → receivers (map TakesFrom from ++ rest)
     ≡ receivers rest
@@ -83,14 +79,6 @@ pub record IsDelivery (code : Tables) (p : ℕ) (row : Collective) : Type 0 wher
   pub from_others : (local : Local) → AreOthers (processors code) p (from local)
   pub few_to : (local : Local) → length (to local) ≤ processors code
   pub few_from : (local : Local) → length (from local) ≤ processors code
-
-left_row : (local : Local) (action : Action) → leaves_row action ≡ true
-    → action ≡ Moves (next_or local action) None (shown_of action)
-left_row local (Moves next None shown) e = refl
-left_row local (Moves next (Some sent) shown) e = cc
-left_row local Ended e = cc
-left_row local (Blocked kind) e = cc
-left_row local (Awaits from) e = cc
 
 four_parts : (a b c d : Bool) → (a && b && c && d) ≡ true
     → (a ≡ true) × (b ≡ true) × (c ≡ true) × (d ≡ true)
@@ -264,7 +252,7 @@ module _ (code : Tables) (links : Option ℕ) (at : ℕ) (instr : Instr)
       → p < count → q < count
       → (times q (to p) ≡ times p (from q)) × (times q (to p) ≤ 1)
   partners_both to from e p q a b =
-      let parts = both (times q (to p) == times p (from q)) (nat_le (times q (to p)) 1)
+      let parts = and_parts (times q (to p) == times p (from q)) (nat_le (times q (to p)) 1)
       (every_other code (λ r s. (times s (to r) == times r (from s)) && nat_le (times s (to r)) 1)
       e p q (inside p a) (inside q b)) in
       (eqb-true _ _ parts.0, leb-true _ _ parts.1)

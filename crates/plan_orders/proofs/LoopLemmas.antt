@@ -5,8 +5,7 @@ use Rattle.zpl_region.specs.declared.regions.Region.{Region}
 use Rattle.zpl_region.specs.Region.{members}
 use Rattle.zpl_arrays.specs.Array.{Array}
 use Rattle.grid_links.specs.Machine.{Goes as Moves}
-use Rattle.grid_links.specs.declared.messages.Message.{Message}
-use Rattle.grid_paths.specs.Path.{Event, IsPath, Quiet}
+use Rattle.grid_paths.specs.Path.{IsPath, Quiet}
 use Rattle.node_form.specs.declared.instructions.Instr.TheVariants as instr
 use Rattle.node_form.specs.declared.members.Member.{Member}
 use Rattle.node_form.specs.declared.members.Member.TheVariants.{Acc, Cell, CloseIf, CloseWhile, OpenIf, OpenRepeat, OpenWhile, Otherwise, Put, Until}
@@ -43,9 +42,6 @@ steps_then code p (suc j) k one two three (next, moves, first) second =
     let same : suc (j + k) ≡ suc j + k = omega arith in
     subst (λ m. Steps code p m one three) same
     (next, moves, steps_then code p j k next two three first second)
-
-quiet : List ℕ → Event Message
-quiet shown = Quiet shown
 
 pub steps_path : (code : Tables) (p k : ℕ) (one other : Local) → Steps code p k one other
     → IsPath (processes code) p one (map Quiet (replicate k [])) other

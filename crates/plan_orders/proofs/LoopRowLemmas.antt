@@ -43,9 +43,10 @@ use Rattle.grid_meaning.specs.Place.{own_part}
 use Rattle.nest_meaning.specs.Turns.{loops_in}
 use Rattle.std.proofs.Math.Nat.{one-le-pow, pow-le-pow_right}
 use Rattle.std.proofs.lemmas.Nat.{mul-le}
+use Rattle.std.proofs.lemmas.Bool.{and_parts, not-true, not-false}
 use Rattle.plan_orders.proofs.AgreeLemmas.{decided_blind, flag_of, quiet_near, vote_last}
 use Rattle.plan_orders.proofs.LoopLemmas.{group_fits, loops_are, Comes, ComesOut, ComesToLack, ComesToWant, Steps, WantsFirst, shows_none, steps_path, tuples_come}
-use Rattle.plan_orders.proofs.TestLemmas.{both, every_one, no_flights, on_way, ways_within}
+use Rattle.plan_orders.proofs.TestLemmas.{every_one, no_flights, on_way, ways_within}
 use Rattle.plan_orders.proofs.WaitLemmas.{sum_is, sum_of}
 
 -- ---- so many turns of each
@@ -77,14 +78,6 @@ some_fails test a (suc n) e = by (test a) refl e (some_fails test (a + 1) n)
         let (p, below, failed) = rest fails in
         (p, omega (arith, below), failed)
     by false is fails rest = (a, omega arith, is)
-
-not_false : (b : Bool) → not b ≡ true → b ≡ false
-not_false true e = cc
-not_false false e = refl
-
-not_true : (b : Bool) → not b ≡ false → b ≡ true
-not_true true e = refl
-not_true false e = cc
 
 -- ---- how a processor comes on
 module _ (code : Tables) (p at n : ℕ) (share : Share) (most : ℕ) (one : Local) where
@@ -222,7 +215,7 @@ module _ (code : Tables) (links : Option ℕ) (n at slot number : ℕ) (members 
   module _ (held : every code (λ p. not (lacks code n (result p))) ≡ true) where
     is_held : (p : ℕ) → p < count → lacks code n (result p) ≡ false
     is_held p below =
-        not_false (lacks code n (result p))
+        not-true (lacks code n (result p))
         (every_one code (λ q. not (lacks code n (result q))) held p (inside p below))
 
     -- all go through
@@ -250,7 +243,7 @@ module _ (code : Tables) (links : Option ℕ) (n at slot number : ℕ) (members 
             × (turns p ≤ most p)) (out_is p below)
             (out_facts code p at n (all.shares p) (most p) (one p) (result p) (comes p)
             (is_held p below)
-            (not_false (wants code n (result p))
+            (not-true (wants code n (result p))
             (every_one code (λ q. not (wants code n (result q))) done p (inside p below))))
 
     -- some want more
@@ -297,7 +290,7 @@ module _ (code : Tables) (links : Option ℕ) (n at slot number : ℕ) (members 
           (processors code) wanted in (
             p,
             subst (λ c. p < c) (sym (processor_count code links)) (omega (arith, below)),
-            not_true (wants code n (result p)) failed,
+            not-false (wants code n (result p)) failed,
           )
 
       partly : Partly code links kin least_flag flag_of (vote_last code number) away
@@ -443,7 +436,7 @@ module _ (code : Tables) (links : Option ℕ) (capable : IsCapacity links) (n at
               (Does (if b then Stops (Ends More) else Stops Wrong))
           by_vote false e held wanted = tt
           by_vote true e held wanted =
-              let parts = both (is_vote_of number next) (is_quiet all) e in
+              let parts = and_parts (is_vote_of number next) (is_quiet all) e in
               by_turns n refl (vote_waits next (followed number parts.0) parts.0 held wanted
               (no_flights all.flights parts.1))
 

@@ -4,6 +4,7 @@ use Rattle.std.specs.Prelude.{nat_lt}
 use Rattle.std.specs.List.{list_all, range_with_len}
 use Rattle.std.proofs.Math.Path.{fun_ext}
 use Rattle.std.proofs.lemmas.Bool.Decides.{nat_tests}
+use Rattle.std.proofs.lemmas.Bool.{not-true}
 use Rattle.zpl_nums.specs.declared.ends.End.{End}
 use Rattle.zpl_nums.specs.declared.ends.End.TheVariants.{More}
 use Rattle.zpl_region.specs.Region.{members}
@@ -54,10 +55,6 @@ every_alike : (code : Tables) (one other : ℕ → Bool)
     → ((p : ℕ) → p < processors code → one p ≡ other p) → every code one ≡ every code other
 every_alike code one other same =
     alike_along one other 0 (processors code) (λ p low high. same p (omega (arith, high)))
-
-no_more : (b : Bool) → not b ≡ true → b ≡ false
-no_more true e = cc
-no_more false e = refl
 
 -- ---- what a processor comes to
 module _ (code : Tables) where
@@ -168,7 +165,7 @@ module _ (code : Tables) (vote : Bool) (units : List Nest) (slot : ℕ) (all : A
     come_same : (p : ℕ) → p < processors code → come 0 p ≡ come 1 p
     come_same p below =
         is_same code (come 0 p) (come 1 p) (shared_more code units slot all p)
-        (no_more (wants code 0 (come 0 p))
+        (not-true (wants code 0 (come 0 p))
         (every_one code (λ q. not (wants code 0 (come 0 q))) none p below))
 
     held_same : held 0 ≡ held 1

@@ -18,6 +18,7 @@ use Rattle.plan_meaning.specs.Act.{Followed, all_followed, controlled, ends_wher
 use Rattle.plan_orders.specs.Brings.{AllEnd, AllWait, AreOpen, Brings, ComesToEnd, ComesToWait, GoesWell, HaveOrders, IsLimited, LeadsTo, StaysInFront, Stopped, in_front, row_most, standing_at}
 use Rattle.std.specs.Prelude.{pred}
 use Rattle.std.proofs.lemmas.Nat.{mul-le}
+use Rattle.std.proofs.lemmas.Option.{slice_get_within}
 use Rattle.grid_links.specs.Run.{count_of}
 use Rattle.plan_orders.specs.InStep.{some_turns}
 use Rattle.plan_orders.proofs.MoreLemmas.{IsNear, IsTheSame, IsWanting, StopsBefore, row_near}
@@ -264,16 +265,6 @@ in_code (first ∷ rows) (suc at) last row e = by (in_code rows at last row e)
     by (inl is) = inl is
     by (inr (end, is, none)) = inr (ap suc end, is, none)
 
-below_length : {X : Type 0} (xs : List X) (at : ℕ) (x : X) → slice_get xs at ≡ Some x
-    → at < length xs
-below_length [] at x e = cc
-below_length (y ∷ xs) zero x e = omega arith
-below_length (y ∷ xs) (suc at) x e =
-    let less = below_length xs at x e in up at (length xs) less
-  where
-    up : (a b : ℕ) → a < b → suc a < suc b
-    up a b less = omega (arith, less)
-
 not_vote : (group : ℕ) → is_vote_of group (Some instr.End) ≡ true → ⊥
 not_vote group e = cc
 
@@ -372,7 +363,7 @@ module _ (code : Tables) (links : Option ℕ) (n : ℕ) (ordered : HaveOrders co
         by behind (inl here) = (
           ordered turns at one.row one.next here
               (λ group vote. vote_in_code code (at + 1) group one.next behind vote) all open_now,
-          is_inside at (below_length code.code at one.row here) (plan_act code links turns one all),
+          is_inside at (slice_get_within code.code at one.row here) (plan_act code links turns one all),
         )
         by behind (inr (end, last, none)) =
             subst (λ row. RowIs turns at all (plan_act code links turns

@@ -2,6 +2,7 @@
 use Rattle.std.proofs.Common.{◌≡◌, ◌≢◌, ℕ, zero, suc, ◌+◌, Bool, true, false, ◌&&◌, ℤ, List, [], slice_get, Option, Some, None, refl, sym, ◌∙◌, ap}
 use Rattle.std.specs.List.{flat_map}
 use Rattle.std.specs.Fmt.{signed_decimal}
+use Rattle.std.proofs.lemmas.Bool.{and_parts}
 use Rattle.zpl_arrays.specs.Array.{Array}
 use Rattle.zpl_arrays.specs.ArrayText.{truth_text}
 use Rattle.zpl_region.specs.declared.regions.Region.{Region}
@@ -25,7 +26,7 @@ use Rattle.plan_meaning.specs.Act.{action_of, alone, ended_by, ends_where, is_en
 use Rattle.plan_meaning.specs.Messages.{leaves_row, next_or, shown_of}
 use Rattle.plan_orders.specs.Brings.{AreOpen, ComesToEnd, GoesWell, HasOrder, standing_at}
 use Rattle.plan_orders.proofs.QuietLemmas.{brings_once}
-use Rattle.plan_orders.proofs.TestLemmas.{both, every_one, no_flights, same_ending}
+use Rattle.plan_orders.proofs.TestLemmas.{every_one, no_flights, same_ending}
 
 -- what leaves a row does so wherever the row stands
 abbrev pub IsLeft : ℕ → Local → Action → Action → Type 0
@@ -119,7 +120,7 @@ module _ (code : Tables) (links : Option ℕ) (n at : ℕ) (row : Instr) (expr :
       → GoesWell code links n at all (Does (ends_where b ending))
   ends ending false first is = tt
   ends ending true first is =
-      let parts = both (is_quiet all)
+      let parts = and_parts (is_quiet all)
       (every code (λ p. is_ended_as ending (ended_by (action_of code row all p)))) is in
       ComesToEnd (record {
         over = flying (λ p. ended_as (standing_at at (all.shares p)) ending) all.flights;

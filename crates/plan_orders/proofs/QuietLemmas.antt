@@ -2,6 +2,7 @@
 use Rattle.std.proofs.Common.{◌^◌, ◌≡◌, ◌≢◌, ℕ, ◌+◌, ◌<◌, ◌≤◌, Bool, true, false, ◌&&◌, List, [], length, All, Option, Some, None, refl, sym, ◌∙◌, ap, subst, arith, eqb-true}
 use Rattle.std.specs.List.{flat_map}
 use Rattle.std.proofs.Math.Nat.{one-le-pow}
+use Rattle.std.proofs.lemmas.Bool.{and_parts}
 use Rattle.zpl_nums.specs.declared.ends.End.{End}
 use Rattle.zpl_nums.specs.declared.ends.End.TheVariants.{Done, Trap, More}
 use Rattle.zpl_nums.specs.declared.ends.TrapKind.TheVariants.{DivideByZero, RegionLimit}
@@ -26,7 +27,7 @@ use Rattle.row_runs.specs.Run.{Does}
 use Rattle.plan_meaning.specs.Abreast.{Abreast, Share, go_where, is_quiet}
 use Rattle.plan_meaning.specs.Act.{controlled, controlled_as, control_of, ends_where, go_one_way, is_way, leaps_where, registers_or, registers_of, shares_on, tested, with_registers}
 use Rattle.plan_orders.specs.Brings.{AreOpen, ComesToEnd, GoesWell, LeadsTo, most_loops, row_most, standing_at}
-use Rattle.plan_orders.proofs.TestLemmas.{both, every_one, no_flights, same_ending, ways_within}
+use Rattle.plan_orders.proofs.TestLemmas.{every_one, no_flights, same_ending, ways_within}
 
 -- ---- one turn of each
 pub most_some : (code : Tables) (m : ℕ) → 8388608 ≤ row_most code m
@@ -184,7 +185,7 @@ module _ (code : Tables) (links : Option ℕ) (n at : ℕ) (row : Instr)
       → GoesWell code links n at all (Does (ends_where b ending))
   ending_all ending false is alike = tt
   ending_all ending true is alike =
-      let parts = both (go_one_way code row all) (is_quiet all) alike in
+      let parts = and_parts (go_one_way code row all) (is_quiet all) alike in
       ComesToEnd (record {
         over = flying (λ p. ended_as (standing_at at (all.shares p)) ending) all.flights;
         brings =

@@ -1,6 +1,6 @@
 -- A remap read on all processors.
 use Rattle.std.proofs.Common.{◌≡◌, ◌≢◌, ℕ, ◌+◌, ◌-◌, ◌*◌, ◌<◌, ◌≤◌, ◌==◌, nat_le, Bool, true, false, ◌&&◌, List, [], ◌∷◌, ◌++◌, drop, length, map, All, slice_get, Option, Some, None, option_map, is_some, refl, sym, ◌∙◌, ap, ap₂, subst, arith, length-append, append_assoc, eqb-true, leb-true, le-leb}
-use Rattle.std.proofs.lemmas.Bool.{lt-leb}
+use Rattle.std.proofs.lemmas.Bool.{lt-leb, and_parts}
 use Rattle.std.specs.Prelude.{unwrap_or}
 use Rattle.std.specs.List.{list_all}
 use Rattle.std.proofs.lemmas.List.{length-map}
@@ -35,7 +35,7 @@ use Rattle.plan_orders.proofs.AgreeLemmas.{quiet_far, quiet_near}
 use Rattle.plan_orders.proofs.ChainLemmas.{place_of, re, sends_chain, takes_chain}
 use Rattle.plan_orders.proofs.PlaceLemmas.{goes_left}
 use Rattle.plan_orders.proofs.RemapLemmas.{Answers, Asks, IsOther, IsStored, Row, alone_re, alone_stored, answers_keep, are_others, asking_stages, asks_keep, awaits_same, back_from, most, names_of, others_both, receivers_are, senders_are, stages_are, taken_same, taking_more, words_same}
-use Rattle.plan_orders.proofs.TestLemmas.{both, each_all, every_one, every_other, fewer, no_flights, no_room, there}
+use Rattle.plan_orders.proofs.TestLemmas.{each_all, every_one, every_other, fewer, no_flights, no_room, there}
 
 six_parts : (a b c d e f : Bool) → (a && b && c && d && e && f) ≡ true
     → (a ≡ true) × (b ≡ true) × (c ≡ true) × (d ≡ true) × (e ≡ true) × (f ≡ true)
@@ -87,9 +87,6 @@ module _ (code : Tables) (links : Option ℕ) (at array slot from : ℕ) (parts 
 
   abbrev many : ℕ → ℕ
   many p = length (others code p)
-
-  abbrev after_asking : ℕ → ℕ
-  after_asking p = 1 + many p + many p
 
   abbrev to_back : ℕ → List ℕ
   to_back = answers_to code the_row all
@@ -468,7 +465,7 @@ module _ (code : Tables) (links : Option ℕ) (at array slot from : ℕ) (parts 
           → ((times q (to_back p) == times p (from_back q)) ≡ true)
           × (nat_le (times q (to_back p)) 1 ≡ true)
       pair p q a b =
-          both (times q (to_back p) == times p (from_back q)) (nat_le (times q (to_back p)) 1)
+          and_parts (times q (to_back p) == times p (from_back q)) (nat_le (times q (to_back p)) 1)
           (every_other code (λ r s. (times s (to_back r) == times r (from_back s))
           && nat_le (times s (to_back r)) 1) partners p q (inside p a) (inside q b))
 

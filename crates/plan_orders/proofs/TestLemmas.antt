@@ -1,9 +1,10 @@
 -- Tests that all pass, and what open exchanges have on the links.
-use Rattle.std.proofs.Common.{subst, slice_get, cond, filter, ◌≡◌, ◌⊎◌, ℕ, zero, suc, ◌+◌, ◌*◌, ◌<◌, ◌≤◌, Bool, true, false, ◌&&◌, ◌==◌, List, [], ◌∷◌, length, All, Option, Some, None, refl, sym, ◌∙◌, ap, ap₂, inl, inr, arith, eqb-true, eq-or-lt_of_le, length-append, le_trans, is_some}
+use Rattle.std.proofs.Common.{subst, slice_get, cond, filter, ◌≡◌, ◌⊎◌, ℕ, zero, suc, ◌+◌, ◌*◌, ◌<◌, ◌≤◌, Bool, true, false, ◌==◌, List, [], ◌∷◌, length, All, Option, Some, None, refl, sym, ◌∙◌, ap, ap₂, inl, inr, arith, eqb-true, eq-or-lt_of_le, length-append, le_trans, is_some}
 use Rattle.std.specs.Prelude.{is_none, unwrap_or}
 use Rattle.std.specs.List.{list_all, range_with_len, flat_map}
 use Rattle.std.proofs.lemmas.List.{length-replicate}
 use Rattle.std.proofs.lemmas.List.Elements.{All-nil, All-cons, All-head, All-tail}
+use Rattle.std.proofs.lemmas.Bool.{and_parts}
 use Rattle.zpl_nums.specs.declared.ends.End.{End}
 use Rattle.zpl_nums.specs.declared.ends.End.TheVariants.{Done, Trap}
 use Rattle.zpl_nums.specs.declared.ends.TrapKind.{TrapKind}
@@ -18,15 +19,12 @@ use Rattle.plan_meaning.specs.Abreast.{every, every_two, are_none}
 use Rattle.plan_meaning.specs.Act.{kind_number, is_ending}
 
 -- ---- tests
-pub both : (a b : Bool) → (a && b) ≡ true → (a ≡ true) × (b ≡ true)
-both true b e = (refl, e)
-both false b e = cc
 
 range_one : (test : ℕ → Bool) (a n p : ℕ) → list_all test (range_with_len a n) ≡ true → a ≤ p
     → p < a + n → test p ≡ true
 range_one test a zero p e low high = absurd (omega (arith, low, high))
 range_one test a (suc n) p e low high =
-    by (eq-or-lt_of_le low) (both (test a) (list_all test (range_with_len (a + 1) n)) e)
+    by (eq-or-lt_of_le low) (and_parts (test a) (list_all test (range_with_len (a + 1) n)) e)
     (λ rest more. range_one test (a + 1) n p rest more (omega (arith, high)))
   where
     by : (a ≡ p) ⊎ (a < p) → (test a ≡ true) × (list_all test (range_with_len (a + 1) n) ≡ true)
@@ -49,8 +47,8 @@ pub each_all : (test : ℕ → Bool) (ns : List ℕ) → list_all test ns ≡ tr
     → All (λ q. test q ≡ true) ns
 each_all test [] e = All-nil (λ q. test q ≡ true)
 each_all test (n ∷ ns) e =
-    All-cons (λ q. test q ≡ true) n ns (both (test n) (list_all test ns) e).0
-    (each_all test ns (both (test n) (list_all test ns) e).1)
+    All-cons (λ q. test q ≡ true) n ns (and_parts (test n) (list_all test ns) e).0
+    (each_all test ns (and_parts (test n) (list_all test ns) e).1)
 
 pub there : {X : Type 0} (o : Option X) (d : X) → is_some o ≡ true → o ≡ Some (unwrap_or o d)
 there None d e = cc
@@ -75,7 +73,7 @@ same_kind a b e = cc
 pub same_ending : (a b : End) → is_ending a b ≡ true → a ≡ b
 same_ending Done Done e = refl
 same_ending (Trap kind line) (Trap other at) e =
-    let parts = both (kind_number kind == kind_number other) (line == at) e in
+    let parts = and_parts (kind_number kind == kind_number other) (line == at) e in
     ap₂ Trap (same_kind kind other parts.0) (eqb-true line at parts.1)
 same_ending a b e = cc
 

@@ -2,6 +2,7 @@
 use Rattle.std.proofs.Common.{◌≡◌, ◌≢◌, refl, ap, subst, ℕ, zero, suc, Bool, true, false}
 use Rattle.std.proofs.Common.{List, [], ◌∷◌, true≢false}
 use Rattle.std.specs.Prelude.{◌==◌, Option, Some, None, slice_get, slice_set, take}
+use Rattle.std.proofs.lemmas.Bool.{or_parts}
 use Rattle.zpl_nums.specs.declared.ends.End.{End}
 use Rattle.zpl_nums.specs.declared.ends.TrapKind.{TrapKind}
 use Rattle.zpl_nums.specs.declared.ends.TrapKind.TheVariants.{OutsideStorage, RegionMismatch}
@@ -20,7 +21,7 @@ use Rattle.node_form.specs.declared.instructions.Instr.TheVariants as instr
 use Rattle.node_form.specs.declared.tables.Tables.{Tables}
 use Rattle.code_parts.specs.Stretch.{ends_stretch}
 use Rattle.code_parts.specs.Uses.{written_slots}
-use Rattle.plan_passes.proofs.LoopLemmas.{Misses, differs, neither}
+use Rattle.plan_passes.proofs.LoopLemmas.{Misses, differs}
 
 pub other_set : {X : Type 0} (xs : List X) (i j : ℕ) (x : X) → j ≢ i
     → slice_get (slice_set xs i x) j ≡ slice_get xs j
@@ -32,7 +33,7 @@ other_set (y ∷ xs) (suc i) (suc j) x apart = other_set xs i j x (λ e. apart (
 
 -- what doesn't stand in a list of one number isn't that
 pub misses_one : (number one : ℕ) → Misses number (one ∷ []) → number ≢ one
-misses_one number one e = differs one number (neither (one == number) false e).0
+misses_one number one e = differs one number (or_parts (one == number) false e).0
 
 -- ---- they go on, with slots as they were but for those that are written; or they end the run
 pub data IsStraightly (registers : Registers) (row : Instr) : Control → Type 0 where

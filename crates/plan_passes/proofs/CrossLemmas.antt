@@ -3,6 +3,7 @@ use Rattle.std.proofs.Common.{◌≡◌, refl, sym, ◌∙◌, ap, subst, ℕ, B
 use Rattle.std.proofs.Common.{List, [], ◌∷◌, ◌++◌, length, true≢false}
 use Rattle.std.specs.Prelude.{◌&&◌, ◌==◌, not, Option, Some, None, slice_get}
 use Rattle.std.specs.List.{AllByRecursion, list_any}
+use Rattle.std.proofs.lemmas.Bool.{not-true, or_parts}
 use Rattle.node_form.specs.declared.arrays.Item.{Item}
 use Rattle.node_form.specs.declared.instructions.Instr.{Instr}
 use Rattle.node_form.specs.declared.instructions.Instr.TheVariants as instr
@@ -29,7 +30,7 @@ use Rattle.plan_passes.proofs.FinishLemmas.{finish_leaves, finish_row}
 use Rattle.plan_passes.proofs.FreeLemmas.{Free, FreeOn, FreeWanted, FreeWrong, IsFree, LeavesItems}
 use Rattle.plan_passes.proofs.FreeLemmas.{clear_free, fix_free, loop_free, misses_changes, number_free}
 use Rattle.plan_passes.proofs.FreeLemmas.{print_free, room_free, set_free, truth_free}
-use Rattle.plan_passes.proofs.LoopLemmas.{Misses, neither}
+use Rattle.plan_passes.proofs.LoopLemmas.{Misses}
 use Rattle.plan_passes.proofs.StartLemmas.{HaveItems, can_send, can_send_same, flight_of}
 use Rattle.plan_passes.proofs.StartLemmas.{flight_same, start_row, started_is}
 
@@ -42,7 +43,7 @@ unchanged : (code : Tables) (row : Instr) (items : List Item) → changes_any co
     → AllByRecursion (λ item. changes code row item ≡ false) items
 unchanged code row [] e = tt
 unchanged code row (item ∷ items) e =
-    let parts = neither (changes code row item) (list_any (changes code row) items) e in
+    let parts = or_parts (changes code row item) (list_any (changes code row) items) e in
     (parts.0, unchanged code row items parts.1)
 
 nothing_changed : (code : Tables) (row : Instr) (items : List Item)
@@ -57,10 +58,6 @@ items_left : (code : Tables) (row : Instr) (all next : Abreast) → LeavesItems 
 items_left code row all next leaves [] none p = tt
 items_left code row all next leaves (item ∷ items) none p =
     (leaves item none.0 p, items_left code row all next leaves items none.1 p)
-
-not_true : (b : Bool) → not b ≡ true → b ≡ false
-not_true true e = absurd (true≢false (sym e))
-not_true false e = refl
 
 module _ (code : Tables) (links : Option ℕ) (n exchange : ℕ) where
   abbrev pub act : Instr → Await → Effect Await
@@ -284,7 +281,7 @@ module _ (code : Tables) (links : Option ℕ) (n exchange : ℕ) where
       → Unchanged row
   kept_items row e =
       unchanged code row (items_of code exchange)
-      (not_true (changes_any code row (items_of code exchange)) e)
+      (not-true (changes_any code row (items_of code exchange)) e)
 
   all_kept : (row : Instr) → ((item : Item) → changes code row item ≡ false) → Unchanged row
   all_kept row none = nothing_changed code row (items_of code exchange) none
@@ -308,15 +305,15 @@ module _ (code : Tables) (links : Option ℕ) (n exchange : ℕ) where
       (all_kept (instr.Print text) (λ item. refl))
   crossed_ready (instr.Set scalar expr line) all e =
       free_swaps (instr.Set scalar expr line) all
-      (set_free code links n scalar expr line all (not_true (may_divide code expr) e))
+      (set_free code links n scalar expr line all (not-true (may_divide code expr) e))
       (all_kept (instr.Set scalar expr line) (λ item. refl))
   crossed_ready (instr.Number expr) all e =
       free_swaps (instr.Number expr) all
-      (number_free code links n expr all (not_true (may_divide code expr) e))
+      (number_free code links n expr all (not-true (may_divide code expr) e))
       (all_kept (instr.Number expr) (λ item. refl))
   crossed_ready (instr.Truth expr) all e =
       free_swaps (instr.Truth expr) all
-      (truth_free code links n expr all (not_true (may_divide code expr) e))
+      (truth_free code links n expr all (not-true (may_divide code expr) e))
       (all_kept (instr.Truth expr) (λ item. refl))
   crossed_ready (instr.Finish other) all e =
       let keeps = not (changes_any code (instr.Finish other) (items_of code exchange)) in

@@ -7,6 +7,7 @@ use Rattle.std.proofs.lemmas.List.Elements.{filter-append}
 use Rattle.std.specs.Prelude.{◌||◌, ◌&&◌, ◌==◌, cond, if◌then◌else◌, not, Option, Some, None}
 use Rattle.std.specs.Prelude.{reverse, slice_get}
 use Rattle.std.specs.List.{AllByRecursion, list_any}
+use Rattle.std.proofs.lemmas.Bool.{or_parts, and_from}
 use Rattle.node_form.specs.declared.arrays.Item.{Item}
 use Rattle.node_form.specs.declared.instructions.Instr.{Instr}
 use Rattle.node_form.specs.declared.instructions.Instr.TheVariants as instr
@@ -15,7 +16,6 @@ use Rattle.code_parts.specs.Early.{is_roomy, may_cross, open_behind}
 use Rattle.code_parts.specs.Uses.{changes_any, items_of}
 use Rattle.code_parts.proofs.WalkLemmas.{both_left, both_right}
 use Rattle.comm_early.specs.Send.{open_behind_all, put_early}
-use Rattle.needs_runs.proofs.HoldsLemmas.{both_true}
 use Rattle.row_orders.specs.Rows.{Flight}
 use Rattle.row_runs.specs.Run.{Effect, Does}
 use Rattle.row_runs.specs.Straight.{Flow, OnTo, Halts, TiedHalt, TiedOn, TiedWrong}
@@ -27,7 +27,7 @@ use Rattle.needs_runs.specs.of_plan_meaning.Messages.{finished, finished_in, sta
 use Rattle.plan_passes.proofs.AwaitLemmas.{Await, Ready, Wanted, await_act, ready_act, ready_step}
 use Rattle.plan_passes.proofs.CrossLemmas.{AsBefore, crossed_ready, crossed_wanted}
 use Rattle.plan_passes.proofs.FinishLemmas.{finish_row}
-use Rattle.plan_passes.proofs.LoopLemmas.{Misses, neither}
+use Rattle.plan_passes.proofs.LoopLemmas.{Misses}
 use Rattle.plan_passes.proofs.OpenLemmas.{KeepsOpen, OpenLeap, OpenOn, OpenPass, OpenStop, OpenWanted}
 use Rattle.plan_passes.proofs.OpenLemmas.{row_open}
 use Rattle.plan_passes.proofs.StartLemmas.{flight_of, start_row, started_is}
@@ -98,14 +98,14 @@ AreApart (x ∷ xs) = Misses x xs × AreApart xs
 misses_append : (x : ℕ) (xs ys : List ℕ) → Misses x xs → Misses x ys → Misses x (xs ++ ys)
 misses_append x [] ys one two = two
 misses_append x (y ∷ xs) ys one two =
-    let parts = neither (y == x) (list_any (λ other. other == x) xs) one in
+    let parts = or_parts (y == x) (list_any (λ other. other == x) xs) one in
     ap (λ b. b || list_any (λ other. other == x) (xs ++ ys)) parts.0
     ∙ misses_append x xs ys parts.1 two
 
 misses_turned : (x : ℕ) (xs : List ℕ) → Misses x xs → Misses x (turned_over xs)
 misses_turned x [] one = refl
 misses_turned x (y ∷ xs) one =
-    let parts = neither (y == x) (list_any (λ other. other == x) xs) one in
+    let parts = or_parts (y == x) (list_any (λ other. other == x) xs) one in
     misses_append x (turned_over xs) (y ∷ []) (misses_turned x xs parts.1)
     (ap (λ b. b || false) parts.0)
 
@@ -119,7 +119,7 @@ turned a b e = by (b == a) refl
 apart_more : (xs : List ℕ) (x : ℕ) → AreApart xs → Misses x xs → AreApart (xs ++ x ∷ [])
 apart_more [] x apart misses = (refl, tt)
 apart_more (y ∷ xs) x apart misses =
-    let parts = neither (y == x) (list_any (λ other. other == x) xs) misses in (
+    let parts = or_parts (y == x) (list_any (λ other. other == x) xs) misses in (
       misses_append y xs (x ∷ []) apart.0 (ap (λ b. b || false) (turned y x parts.0)),
       apart_more xs x apart.1 parts.1,
     )
@@ -139,7 +139,7 @@ filter_turned p (x ∷ xs) =
 filter_others : (x : ℕ) (xs : List ℕ) → Misses x xs → filter (λ other. not (other == x)) xs ≡ xs
 filter_others x [] misses = refl
 filter_others x (y ∷ xs) misses =
-    let parts = neither (y == x) (list_any (λ other. other == x) xs) misses in
+    let parts = or_parts (y == x) (list_any (λ other. other == x) xs) misses in
     ap (λ b. cond (not b) (y ∷ filter (λ other. not (other == x)) xs)
     (filter (λ other. not (other == x)) xs)) parts.0
     ∙ ap (λ l. y ∷ l) (filter_others x xs parts.1)
@@ -306,7 +306,7 @@ module _ (code : Tables) (links : Option ℕ) where
           (ap (λ y. y == exchange) (eqb-true x other e) ∙ differ)
           ∙ more misses
       by false e misses more =
-          let parts = neither (x == exchange)
+          let parts = or_parts (x == exchange)
           (list_any (λ other. other == exchange) (filter (λ x. not (x == other)) xs)) misses in
           ap (λ b. b || list_any (λ other. other == exchange) xs) parts.0 ∙ more parts.1
 
@@ -365,8 +365,8 @@ module _ (code : Tables) (links : Option ℕ) where
         let differs = not (other == exchange) in
         let keeps = not (changes_any code (instr.Finish other) (items_of code exchange)) in
         let front = both_left (differs && is_roomy links count) keeps e in
-        both_true (differs && is_roomy over count) keeps
-        (both_true differs (is_roomy over count) (both_left differs (is_roomy links count) front)
+        and_from (differs && is_roomy over count) keeps
+        (and_from differs (is_roomy over count) (both_left differs (is_roomy links count) front)
         (roomy count (both_right differs (is_roomy links count) front)))
         (both_right (differs && is_roomy links count) keeps e)
     crosses_over row count exchange e = e

@@ -5,6 +5,7 @@ use Rattle.std.specs.Prelude.{◌==◌, Option, Some, None, drop, option_and_the
 use Rattle.std.specs.Prelude.{take, unwrap_or}
 use Rattle.std.specs.List.{list_any}
 use Rattle.std.specs.Option.{option_map}
+use Rattle.std.proofs.lemmas.Bool.{or_parts}
 use Rattle.zpl_arrays.specs.Array.{Array}
 use Rattle.node_form.specs.declared.arrays.Item.{Item}
 use Rattle.node_form.specs.declared.tables.Tables.{Tables}
@@ -18,7 +19,7 @@ use Rattle.grid_meaning.proofs.RemapLemmas.{IfApart, values_apart}
 use Rattle.row_orders.specs.Rows.{alone_where, taken_where, taking}
 use Rattle.needs_runs.specs.of_plan_meaning.Abreast.{Abreast, locals_of, share_of}
 use Rattle.needs_runs.specs.of_plan_meaning.Messages.{final_of, from_of, middle_of, next_or, starts_alone}
-use Rattle.plan_passes.proofs.LoopLemmas.{Misses, differs, neither}
+use Rattle.plan_passes.proofs.LoopLemmas.{Misses, differs}
 
 pub takes_together : (xs : List ℕ) → starts_alone (map TakesFrom xs ++ Last ∷ []) ≡ false
 takes_together [] = refl
@@ -40,7 +41,7 @@ module _ (code : Tables) (number : ℕ) (items : List Item) where
     written_stays local from to [] words stores misses = refl
     written_stays local from to (item ∷ items) words stores misses =
         let places = places_of code local from to item in
-        let parts = neither (item.array == array)
+        let parts = or_parts (item.array == array)
         (list_any (λ other. other == array) (arrays_of_items items)) misses in
         by (with_values item.array places (take (length places) words) stores)
         (values_apart item.array places (take (length places) words) stores)

@@ -6,6 +6,7 @@ use Rattle.std.specs.Prelude.{◌&&◌, ◌==◌, not, if◌then◌else◌, Opti
 use Rattle.std.specs.Prelude.{slice_get}
 use Rattle.std.specs.Fmt.{signed_decimal}
 use Rattle.std.specs.List.{list_any}
+use Rattle.std.proofs.lemmas.Bool.{or_parts}
 use Rattle.zpl_nums.specs.declared.ends.End.TheVariants.{More}
 use Rattle.zpl_nums.specs.declared.operators.Op.{Op}
 use Rattle.zpl_nums.specs.declared.operators.Op.TheVariants as operator
@@ -47,7 +48,7 @@ use Rattle.needs_runs.specs.of_plan_meaning.Messages.{leaves_row, next_or, shown
 use Rattle.plan_passes.proofs.AwaitLemmas.{Await, Ready, Wanted, looping, ready, ready_act}
 use Rattle.plan_passes.proofs.ControlLemmas.{EndsThere, IsStraightly, NotSaid, StepsOn, misses_one}
 use Rattle.plan_passes.proofs.ControlLemmas.{other_set, straightly}
-use Rattle.plan_passes.proofs.LoopLemmas.{Misses, behind_stays, neither, shared_stays}
+use Rattle.plan_passes.proofs.LoopLemmas.{Misses, behind_stays, shared_stays}
 use Rattle.plan_passes.proofs.StartLemmas.{HaveItem}
 
 -- ---- expressions without a quotient
@@ -109,7 +110,7 @@ words_whole : (operands : Operands) (words : List ExprOp) (stack : List ℤ)
     → list_any divides_in words ≡ false → IsWhole (evaluated operands words stack)
 words_whole operands [] stack e = tt
 words_whole operands (word ∷ words) stack e =
-    let parts = neither (divides_in word) (list_any divides_in words) e in
+    let parts = or_parts (divides_in word) (list_any divides_in words) e in
     then_whole (evaluated operands words) (stepped operands word stack)
     (step_whole operands word stack parts.0)
     (λ stack. words_whole operands words stack parts.1)
@@ -161,7 +162,7 @@ module _ (code : Tables) (row : Instr) (all : Abreast) where
 pub misses_changes : (code : Tables) (row : Instr) (item : Item) → changes code row item ≡ false
     → Misses item.array (written_arrays code row) × Misses item.slot (written_slots row)
 misses_changes code row item e =
-    neither (list_any (λ array. array == item.array) (written_arrays code row))
+    or_parts (list_any (λ array. array == item.array) (written_arrays code row))
     (list_any (λ slot. slot == item.slot) (written_slots row)) e
 
 module _ (code : Tables) (links : Option ℕ) (n : ℕ) where

@@ -55,9 +55,6 @@ use Rattle.plan_passes.proofs.WriteLemmas.{shape, written, written_shapes}
 
 -- ---- the slots that a row makes fit
 module _ (code : Tables) (ranks : All IsRank code.slots) where
-  some_steps : {a b : Registers} → control.Steps a ≡ control.Steps b → a ≡ b
-  some_steps e = cc
-
   abbrev pub IfFit : Control → Type 0
   IfFit (control.Steps next) = AllZip IsSlot code.slots next.slots
   IfFit other = Unit {0}

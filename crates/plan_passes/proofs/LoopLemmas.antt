@@ -1,11 +1,12 @@
 -- What a loop doesn't put stays.
-use Rattle.std.proofs.Common.{◌≡◌, ◌≢◌, refl, sym, ◌∙◌, ap, subst, ℕ, ◌+◌, Bool, true, false, ℤ}
+use Rattle.std.proofs.Common.{◌≡◌, ◌≢◌, refl, sym, ◌∙◌, ap, subst, ℕ, ◌+◌, false, ℤ}
 use Rattle.std.proofs.Common.{List, [], ◌∷◌, ◌++◌, length, true≢false, eq-eqb}
 use Rattle.std.proofs.lemmas.Grind.{flat_map-append}
 use Rattle.std.specs.Prelude.{◌||◌, ◌==◌, Option, Some, None, flat_map, option_and_then, slice_get}
 use Rattle.std.specs.Prelude.{slice_set}
 use Rattle.std.specs.List.{AllByRecursion, list_any}
 use Rattle.std.specs.Option.{IfSome, option_map}
+use Rattle.std.proofs.lemmas.Bool.{or_parts}
 use Rattle.zpl_nums.specs.Fold.{joined}
 use Rattle.zpl_nums.specs.declared.folds.Fold.{Fold}
 use Rattle.zpl_region.specs.declared.regions.Region.{Region}
@@ -35,15 +36,11 @@ use Rattle.needs_runs.specs.of_plan_meaning.Loops.{units_shared}
 abbrev pub Misses : ℕ → List ℕ → Type 0
 Misses number numbers = list_any (λ other. other == number) numbers ≡ false
 
-pub neither : (a b : Bool) → (a || b) ≡ false → (a ≡ false) × (b ≡ false)
-neither true b e = absurd (true≢false e)
-neither false b e = (refl, e)
-
 pub misses_both : (number : ℕ) (xs ys : List ℕ) → Misses number (xs ++ ys)
     → Misses number xs × Misses number ys
 misses_both number [] ys e = (refl, e)
 misses_both number (x ∷ xs) ys e =
-    let parts = neither (x == number) (list_any (λ other. other == number) (xs ++ ys)) e in
+    let parts = or_parts (x == number) (list_any (λ other. other == number) (xs ++ ys)) e in
     let more = misses_both number xs ys parts.1 in
     (ap (λ b. b || list_any (λ other. other == number) xs) parts.0 ∙ more.0, more.1)
 
@@ -116,7 +113,7 @@ module _ (array : ℕ) (start : Option Array) where
     nest_stays : (nest : Nest) → PutsNone (members_of nest) → IsNestSame Stays ways ways nest
     nest_stays Nothing none = tt
     nest_stays (Putting other expr mask line after) none =
-        let parts = neither (other == array)
+        let parts = or_parts (other == array)
         (list_any (λ a. a == array) (flat_map put_by (members_of after))) none in (
           (mask_stays mask, value_stays expr, put_stays other (differs other array parts.0)),
           nest_stays after parts.1,

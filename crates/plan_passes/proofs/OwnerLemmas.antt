@@ -6,6 +6,7 @@ use Rattle.std.specs.Prelude.{◌==◌, ◌+ℤ◌, if◌then◌else◌, int_le}
 use Rattle.std.specs.Int.{int_max, int_min}
 use Rattle.std.specs.List.{AllZip}
 use Rattle.std.proofs.lemmas.Int.{ints}
+use Rattle.std.proofs.lemmas.Bool.{and_parts, and_from}
 use Rattle.zpl_region.specs.declared.dims.Dim.{Dim}
 use Rattle.zpl_region.specs.declared.dims.Dim.TheVariants as dim
 use Rattle.zpl_region.specs.Dim.{IsCoordinate}
@@ -18,7 +19,7 @@ use Rattle.grid_layout.specs.Grid.{blocks_at, product}
 use Rattle.grid_layout.specs.Piece.{each_needed, nothing, part, place_dim, range_or_nothing}
 use Rattle.grid_layout.proofs.BlockLemmas.{in_block}
 use Rattle.grid_layout.proofs.OwnerLemmas.{EachSome, some_product}
-use Rattle.grid_layout.proofs.PartLemmas.{AreBelow, both_true, has_dim, has_each, true_both}
+use Rattle.grid_layout.proofs.PartLemmas.{AreBelow, has_dim, has_each}
 use Rattle.node_form.specs.declared.arrays.ArrayDim.{ArrayDim}
 use Rattle.node_form.specs.declared.arrays.ArrayDim.TheVariants.{Range, Star}
 use Rattle.needs_runs.proofs.OwnerLemmas.{KindsAs}
@@ -27,7 +28,7 @@ use Rattle.needs_runs.proofs.OwnerLemmas.{KindsAs}
 between_block : (axis : Axis) (n c : ℕ) (x : ℤ) → c < n
     → is_between (block_first axis n c) (block_last axis n c) x ≡ true → c ≡ block_of axis n x
 between_block axis n c x below e =
-    let b = both_true (int_le (block_first axis n c) x) (int_le x (block_last axis n c)) e in
+    let b = and_parts (int_le (block_first axis n c) x) (int_le x (block_last axis n c)) e in
     in_block axis n c x below (le_from_test _ _ b.0, le_from_test _ _ b.1)
 
 one_dim : (axis : Axis) (n c d k : ℕ) (held : Dim) (x : ℤ) → c < n → d < n
@@ -43,8 +44,8 @@ pub one_each : (axes : List Axis) (ns cs ds ks : List ℕ) (helds : List Dim) (t
     → has_each axes ns ds ks helds t ≡ true → cs ≡ ds
 one_each [] [] [] [] [] [] [] one two a b c d e f has too = refl
 one_each (axis ∷ axes) (n ∷ ns) (i ∷ cs) (j ∷ ds) (k ∷ ks) (held ∷ helds) (x ∷ t) one two a b c d e f has too =
-    let first = both_true _ _ has in
-    let second = both_true _ _ too in
+    let first = and_parts _ _ has in
+    let second = and_parts _ _ too in
     ap₂ (λ z zs. z ∷ zs) (one_dim axis n i j k held x one.0 two.0 first.0 second.0)
     (one_each axes ns cs ds ks helds t one.1 two.1 (omega (arith, a)) (omega (arith, b))
     (omega (arith, c)) (omega (arith, d)) (omega (arith, e)) (omega (arith, f)) first.1 second.1)
@@ -104,8 +105,8 @@ pub needed_as_held : (axes : List Axis) (ns cs ks : List ℕ) (helds : List Dim)
     → has_each axes ns cs ks helds t ≡ true
 needed_as_held [] [] [] [] [] [] [] [] a b c d e f g are has = refl
 needed_as_held (axis ∷ axes) (n ∷ ns) (i ∷ cs) (k ∷ ks) (held ∷ helds) (w ∷ v) (own ∷ dims) (x ∷ t) a b c d e f g are has =
-    let parts = both_true _ _ has in
-    true_both _ _
+    let parts = and_parts _ _ has in
+    and_from _ _
     (sym (place_is axis n i k held w x (part (block_first axis n k) (block_last axis n k) own) are.0)
     ∙ parts.0)
     (needed_as_held axes ns cs ks helds v dims t (omega (arith, a)) (omega (arith, b))
@@ -140,10 +141,10 @@ pub own_each : (axes : List Axis) (ns cs ks : List ℕ) (rows : List ArrayDim) (
     → has_each axes ns cs ks helds t ≡ true → has_each axes ns cs cs owns t ≡ true
 own_each [] [] [] [] [] [] [] [] a b c d e f g one two has = refl
 own_each (axis ∷ axes) (n ∷ ns) (i ∷ cs) (k ∷ ks) (row ∷ rows) (held ∷ helds) (own ∷ owns) (x ∷ t) a b c d e f g one two has =
-    let parts = both_true _ _ has in
+    let parts = and_parts _ _ has in
     let first = kinds_parts row rows held helds one in
     let second = kinds_parts row rows own owns two in
-    true_both _ _ (own_dim axis n i k row held own x first.0 second.0 parts.0)
+    and_from _ _ (own_dim axis n i k row held own x first.0 second.0 parts.0)
     (own_each axes ns cs ks rows helds owns t (omega (arith, a)) (omega (arith, b))
     (omega (arith, c)) (omega (arith, d)) (omega (arith, e)) (omega (arith, f)) (omega (arith, g))
     first.1 second.1 parts.1)

@@ -5,6 +5,7 @@ use Rattle.std.proofs.Common.{eqb-true, eq-eqb, true≢false, All}
 use Rattle.std.proofs.lemmas.List.Elements.{All-head, All-tail}
 use Rattle.std.specs.Prelude.{◌==◌, IsSomeAnd, drop, slice_get}
 use Rattle.std.specs.List.{AllZip}
+use Rattle.std.proofs.lemmas.Bool.{and_parts}
 use Rattle.zpl_region.specs.declared.dims.Dim.{Dim}
 use Rattle.zpl_region.specs.declared.dims.Dim.TheVariants as dim
 use Rattle.zpl_region.specs.declared.regions.Region.{Region}
@@ -17,7 +18,7 @@ use Rattle.zpl_arrays.proofs.ArrayLemmas.{place_of_tuple}
 use Rattle.grid_layout.specs.Grid.{blocks_at, cuts, processors_of, product}
 use Rattle.grid_layout.specs.Layout.{axes_at, held_of, laid_out}
 use Rattle.grid_layout.specs.Piece.{needed_in, owned_part}
-use Rattle.grid_layout.proofs.PartLemmas.{AreBelow, blocks_are_below, blocks_length, both_true, has_each}
+use Rattle.grid_layout.proofs.PartLemmas.{AreBelow, blocks_are_below, blocks_length, has_each}
 use Rattle.node_form.specs.declared.arrays.ArrayDim.{ArrayDim}
 use Rattle.node_form.specs.declared.arrays.ArrayDim.TheVariants.{Range, Star}
 use Rattle.node_form.specs.declared.arrays.ArrayRow.{ArrayRow}
@@ -75,7 +76,7 @@ tuple_there (Range c d l h ∷ rows) (dim.Flood ∷ helds) (own ∷ owns) (x ∷
 tuple_there (Range c d l h ∷ rows) (dim.Range lo hi step align ∷ helds) (dim.Flood ∷ owns) (x ∷ t) a b one two steps are has =
     absurd two
 tuple_there (Range c d l h ∷ rows) (dim.Range lo hi step align ∷ helds) (dim.Range lo' hi' step' align' ∷ owns) (x ∷ t) a b one two steps are has =
-    let parts = both_true _ _ has in (
+    let parts = and_parts _ _ has in (
       (is_coordinate_iff (dim.Range lo' hi' step' align') x
           (All-head HasStep (dim.Range lo' hi' step' align') owns steps)).0 parts.0,
       tuple_there rows helds owns t (omega (arith, a)) (omega (arith, b)) one two
@@ -275,7 +276,7 @@ module _ (code : Tables) (layout : HasLayout code) where
         → hits (shares p).stores (record { array = array; place = t; value = v }) a i ≡ true
         → (array ≡ a) × (place_among (held_by row p).dims t ≡ i)
     cell_place p below array row t v there told a i hit =
-        let parts = both_true (array == a) _ hit in (
+        let parts = and_parts (array == a) _ hit in (
           eqb-true array a parts.0,
           eqb-true _ i (ap (λ o. place_in o t == i) (sym (placed.boxes p below array row there told))
               ∙ parts.1),

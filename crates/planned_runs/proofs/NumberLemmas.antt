@@ -7,6 +7,7 @@ use Rattle.std.proofs.Common.{◌≡◌, refl, sym, ◌∙◌, ap, subst, arith,
 use Rattle.std.proofs.Common.{true, false, true≢false, List, [], ◌∷◌, ◌++◌, drop}
 use Rattle.std.proofs.lemmas.Bool.Decides.{nat_tests}
 use Rattle.std.specs.Prelude.{◌==◌, Option, Some, None, slice_get}
+use Rattle.std.proofs.lemmas.Bool.{and_from}
 use Rattle.zpl_nums.specs.declared.ends.End.TheVariants.{Done, Trap, More}
 use Rattle.node_form.specs.declared.arrays.Item.{Item}
 use Rattle.node_form.specs.declared.instructions.Instr.{Instr}
@@ -28,7 +29,7 @@ use Rattle.plan_passes.specs.of_plan_meaning.Act.{ends_where, go_one_way, loop_d
 use Rattle.plan_passes.specs.of_plan_meaning.Messages.{finished, finished_in, started}
 use Rattle.comm_needs.specs.Needs.{is_voted_on}
 use Rattle.plan_passes.specs.of_needs_runs.Planned.{planned_does, vote_where}
-use Rattle.plan_passes.proofs.of_needs_runs.HoldsLemmas.{both_true, every_all}
+use Rattle.plan_passes.proofs.of_needs_runs.HoldsLemmas.{every_all}
 use Rattle.plan_passes.proofs.AwaitLemmas.{Await, Ready, Wanted, await_act, loop_next, looping}
 use Rattle.plan_passes.proofs.AwaitLemmas.{next_as}
 use Rattle.plan_passes.proofs.AwaitLemmas.{ready, ready_step, wanted_stop}
@@ -273,7 +274,7 @@ module _ (code : Tables) (links : Option ℕ) (n : ℕ) (exchanges : List (List 
             → Keeps (Old at [] all) (New at [] (Ready all))
         ends at all none =
             Same (sym (ap (λ b. stepped (ready_step (ends_where b Done)) (λ _. stopped (Ends Done)))
-            (both_true (go_one_way plan instr.End all) (is_quiet all)
+            (and_from (go_one_way plan instr.End all) (is_quiet all)
             (every_all plan _ (λ p below. refl))
             (ap (λ l. is_quiet (record all { flights = l })) none))))
 

@@ -2,10 +2,10 @@
 --
 --   plans_keep
 use Rattle.std.proofs.Common.{◌≡◌, refl, sym, ◌∙◌, ap, subst, arith, ℕ, zero, suc, ◌+◌, true}
-use Rattle.std.proofs.Common.{List, [], ◌∷◌, drop, map, All, Option}
+use Rattle.std.proofs.Common.{List, [], ◌∷◌, drop, map, Option}
 use Rattle.std.proofs.Math.Path.{fun_ext}
 use Rattle.std.specs.List.{AllByRecursion, flat_map}
-use Rattle.std.proofs.lemmas.List.Elements.{recursion_from_All}
+use Rattle.std.proofs.lemmas.List.Elements.{recursion_from_All, All-weaker}
 use Rattle.zpl_nums.specs.declared.ends.End.TheVariants.{Done}
 use Rattle.node_form.specs.declared.instructions.Instr.{Instr}
 use Rattle.node_form.specs.declared.tables.Tables.{Tables}
@@ -46,11 +46,6 @@ use Rattle.message_runs.proofs.ScanRows.{scan_agrees}
 use Rattle.plan_passes.proofs.AwaitLemmas.{plan_awaits}
 use Rattle.planned_runs.proofs.NumberLemmas.{runs_kept}
 use Rattle.planned_runs.proofs.RunnableLemmas.{planned_run}
-
--- ---- lists
-all_map : {X : Type 0} (P Q : X → Type 0) → ((x : X) → P x → Q x) → (xs : List X) → All P xs
-    → All Q xs
-all_map P Q more xs all k d inside = more _ (all k d inside)
 
 -- ---- rows that are read first
 module _ {S Row Read : Type 0} (act : Read → S → Effect S) (read : Row → Read) where
@@ -116,16 +111,16 @@ module _ (tables : Tables) (grid : List ℕ) (links : Option ℕ)
         grid = is_grid;
         slots = sharable.fits.slots;
         arrays = sharable.fits.arrays;
-        exprs = all_map (FitsExpr tables) (FitsExpr code)
+        exprs = All-weaker (FitsExpr tables) (FitsExpr code)
             (FitsExpr-grows tables code grows) tables.exprs
             sharable.fits.exprs;
-        groups = all_map (FitsGroup tables) (FitsGroup code)
+        groups = All-weaker (FitsGroup tables) (FitsGroup code)
             (FitsGroup-grows tables code grows) tables.groups
             sharable.fits.groups;
-        exchanges = all_map (FitsExchange tables) (FitsExchange code)
+        exchanges = All-weaker (FitsExchange tables) (FitsExchange code)
             (FitsExchange-grows tables code grows) tables.exchanges
             sharable.fits.exchanges;
-        code = all_map (FitsInstr tables) (FitsInstr code)
+        code = All-weaker (FitsInstr tables) (FitsInstr code)
             (FitsInstr-grows tables code grows) tables.code
             sharable.fits.code;
       };

@@ -4,6 +4,8 @@ use Rattle.std.proofs.Common.{List, [], ◌∷◌, ◌++◌, ℤ, length, All, O
 use Rattle.std.specs.Prelude.{flat_map, slice_get}
 use Rattle.std.specs.List.{list_all}
 use Rattle.std.specs.Option.{option_map}
+use Rattle.std.proofs.lemmas.Bool.{and_parts}
+use Rattle.std.proofs.lemmas.List.Folds.{list_all-append}
 use Rattle.zpl_nums.specs.declared.operators.Op.{Op}
 use Rattle.zpl_region.specs.declared.regions.Region.{Region}
 use Rattle.zpl_region.specs.Dim.{HasStep}
@@ -59,7 +61,7 @@ use Rattle.array_runs.specs.Elementwise.{IsElement, IsElementwise, IsReadable}
 use Rattle.array_runs.specs.Assigned.{IsWritable}
 use Rattle.array_runs.proofs.IntegerLemmas.{IfGives, member_integers, term_integers}
 use Rattle.array_runs.proofs.StoredLemmas.{IsFound, found_array}
-use Rattle.array_runs.proofs.PartLemmas.{all_append, both_true, CanRead}
+use Rattle.array_runs.proofs.PartLemmas.{CanRead}
 use Rattle.array_runs.proofs.ElementLemmas.{all_members, holds_is, ref_there}
 use Rattle.array_runs.proofs.TargetLemmas.{covers_matching, matches_row, flat_member}
 use Rattle.array_runs.proofs.CodedLemmas.{CurrentOf}
@@ -165,7 +167,7 @@ module _ (tables : Tables) (n : ℕ) (sight : Sight) (w : Where) (line : ℕ) (n
       → list_all (can_read tables now region) (flat_map word_reads words) ≡ true
   each_read [] h = refl
   each_read (one ∷ words) h =
-      all_append (can_read tables now region) (word_reads one) (flat_map word_reads words)
+      list_all-append (can_read tables now region) (word_reads one) (flat_map word_reads words)
       ∙ ap (λ b. b && list_all (can_read tables now region) (flat_map word_reads words)) h.0
       ∙ each_read words h.1
 
@@ -363,7 +365,7 @@ module _ (tables : Tables) (n : ℕ) (sight : Sight) (w : Where) (line : ℕ) (n
     fields = h.fields ++ k.fields;
     fielded = fields_both h.terms k.terms h.fields k.fields h.fielded k.fielded;
     there = every_append (IsThere tables now) refs more h.there k.there;
-    gate = all_append (holds tables now) refs more
+    gate = list_all-append (holds tables now) refs more
         ∙ ap (λ b. b && holding more) h.gate
         ∙ ap (λ b. (are_targets_within place store region one && refer store h.terms) && b) k.gate
         ∙ two_same (are_targets_within place store region one) (refer store h.terms)
@@ -391,8 +393,8 @@ module _ (tables : Tables) (n : ℕ) (sight : Sight) (w : Where) (line : ℕ) (n
     there = every_append (IsThere tables now) more refs
         (every_right (IsThere tables now) refs more h.there)
         (every_left (IsThere tables now) refs more h.there);
-    gate = all_append (holds tables now) more refs ∙ and_swap (holding more) (holding refs)
-        ∙ sym (all_append (holds tables now) refs more) ∙ h.gate;
+    gate = list_all-append (holds tables now) more refs ∙ and_swap (holding more) (holding refs)
+        ∙ sym (list_all-append (holds tables now) refs more) ∙ h.gate;
   }
 
   right_true : (b : Bool) → (b && true) ≡ b
@@ -530,7 +532,7 @@ module _ (tables : Tables) (n : ℕ) (sight : Sight) (w : Where) (line : ℕ) (n
           (put_member line over.slot (code_of (assigned_expr name op value)) o).members
       by None found here e = absurd here
       by (Some stored) found here e =
-          let split = both_true (holds tables now (at_place over.slot stored.array))
+          let split = and_parts (holds tables now (at_place over.slot stored.array))
           (holding (code_of (assigned_expr name op value)).references) e in
           put_does tables now region (IsTarget tables region) own line n stored.array
           (λ t store. point_value (at_point t) store (assigned_expr name op value))
@@ -631,7 +633,7 @@ module _ (tables : Tables) (n : ℕ) (sight : Sight) (w : Where) (line : ℕ) (n
   split : (refs more : List Reference) → holding (refs ++ more) ≡ true
       → (holding refs ≡ true) × (holding more ≡ true)
   split refs more e =
-      both_true (holding refs) (holding more) (sym (all_append (holds tables now) refs more) ∙ e)
+      and_parts (holding refs) (holding more) (sym (list_all-append (holds tables now) refs more) ∙ e)
 
   while_one : (test : Expr) (body : Stmts) → IsPartHere (Reads test)
       → Does_ (λ t. point_stmts (at_point t) n body) (stmts_inside w line next rank body)

@@ -5,6 +5,8 @@ use Rattle.zpl_nums.specs.Integer.{IsInteger}
 use Rattle.std.proofs.Common.{List, [], ◌∷◌, ◌++◌, length, drop, ℤ, Option, Some, None, append-nil, append_assoc}
 use Rattle.std.specs.Prelude.{flat_map, slice_get}
 use Rattle.std.specs.List.{list_all}
+use Rattle.std.proofs.lemmas.List.Folds.{list_all-append}
+use Rattle.std.proofs.lemmas.List.{length-append}
 use Rattle.zpl_region.specs.declared.regions.Region.{Region}
 use Rattle.zpl_region.specs.Region.{IsMember}
 use Rattle.zpl_meaning.specs.Computed as mean
@@ -29,7 +31,6 @@ use Rattle.flat_form.specs.Right.{can_read, can_write}
 use Rattle.flat_form.specs.Whole.{Whole}
 use Rattle.array_runs.specs.of_zpl_lowering.Statement.{otherwise_members}
 use Rattle.array_runs.specs.of_array_puts.Put.{IsSame, BothGive, BothDivide}
-use Rattle.array_runs.proofs.PartLemmas.{all_append}
 use Rattle.point_runs.proofs.AlikeLemmas.{GoAlike, BothGo, BothTrap, PutsAlone, FromAlike, TestAlike, point, last_alike, test_at, then_alike, tested_alike, while_alike, repeat_alike}
 
 -- ---- lists
@@ -40,10 +41,6 @@ flat_append f [] ys = refl
 flat_append f (x ∷ xs) ys =
     ap (λ rest. f x ++ rest) (flat_append f xs ys)
     ∙ sym (append_assoc (f x) (flat_map f xs) (flat_map f ys))
-
-length_append : {A : Type 0} (xs ys : List A) → length (xs ++ ys) ≡ length xs + length ys
-length_append [] ys = omega arith
-length_append (x ∷ xs) ys = let rest = length_append xs ys in omega (arith, rest)
 
 pub coded_append : (k : ℕ) (one other : List Member)
     → group_coded k (one ++ other)
@@ -57,7 +54,7 @@ coded_append k (x ∷ one) other =
     ap (λ ms. row.member_coded k x ∷ ms) rest
     ∙ ap (λ (i : ℕ). row.member_coded k x ∷ (group_coded (k + length (member_words x)) one
     ++ group_coded i other))
-    (same (length_append (member_words x) (group_words one)))
+    (same (length-append (member_words x) (group_words one)))
   where
     same : length (member_words x ++ group_words one)
         ≡ length (member_words x) + length (group_words one)
@@ -177,7 +174,7 @@ module _ (tables : Tables) (now : Whole) (region : Region) (IsTarget : ℕ → T
       (flat_append member_words one other)
       ∙ ap (list_all (can_read tables now region))
       (flat_append (λ expr. flat_map word_reads expr) (group_words one) (group_words other))
-      ∙ all_append (can_read tables now region) (group_reads one) (group_reads other)
+      ∙ list_all-append (can_read tables now region) (group_reads one) (group_reads other)
 
   writes_append : (one other : List Member)
       → list_all (can_write tables now region) (group_puts (one ++ other))
@@ -185,7 +182,7 @@ module _ (tables : Tables) (now : Whole) (region : Region) (IsTarget : ℕ → T
       && list_all (can_write tables now region) (group_puts other))
   writes_append one other =
       ap (list_all (can_write tables now region)) (flat_append member_puts one other)
-      ∙ all_append (can_write tables now region) (group_puts one) (group_puts other)
+      ∙ list_all-append (can_write tables now region) (group_puts one) (group_puts other)
 
   totals_append : (one other : List Member)
       → group_totals (one ++ other) ≡ group_totals one ++ group_totals other
@@ -247,7 +244,7 @@ module _ (tables : Tables) (now : Whole) (region : Region) (IsTarget : ℕ → T
       → list_all (can_read tables now region) (each_word word_reads rest) ≡ true
       → list_all (can_read tables now region) (each_word word_reads (words ∷ rest)) ≡ true
   words_reads words rest e f =
-      all_append (can_read tables now region) (flat_map word_reads words) (each_word word_reads rest)
+      list_all-append (can_read tables now region) (flat_map word_reads words) (each_word word_reads rest)
       ∙ ap (λ b. b && list_all (can_read tables now region) (each_word word_reads rest)) e ∙ f
 
   pub put_does : (array : ℕ) (value : List ℤ → Store → mean.Computed ℤ) (words : Words)
@@ -358,7 +355,7 @@ module _ (tables : Tables) (now : Whole) (region : Region) (IsTarget : ℕ → T
         reads = ap (λ ws. list_all (can_read tables now region) (each_word word_reads ws)) repeat_words
             ∙ ap (list_all (can_read tables now region))
             (flat_append (λ expr. flat_map word_reads expr) (group_words body) (words ∷ []))
-            ∙ all_append (can_read tables now region) (group_reads body)
+            ∙ list_all-append (can_read tables now region) (group_reads body)
             (each_word word_reads (words ∷ []))
             ∙ ap (λ b. b && list_all (can_read tables now region) (each_word word_reads (words ∷ [])))
             h.reads
@@ -483,7 +480,7 @@ module _ (tables : Tables) (now : Whole) (region : Region) (IsTarget : ℕ → T
                 ∙ ap (list_all (can_read tables now region))
                 (flat_append (λ expr. flat_map word_reads expr) (group_words body)
                 (group_words others))
-                ∙ all_append (can_read tables now region) (group_reads body) (group_reads others)
+                ∙ list_all-append (can_read tables now region) (group_reads body) (group_reads others)
                 ∙ ap (λ b. b && list_all (can_read tables now region) (group_reads others)) h.reads
                 ∙ other.reads);
             writes = writes_append body (row.Otherwise ∷ closed)

@@ -3,6 +3,8 @@ use Rattle.std.proofs.Common.{◌≡◌, refl, sym, ◌∙◌, ap, subst, arith,
 use Rattle.std.proofs.Common.{List, [], ◌∷◌, ◌++◌, filter, ℤ, pos, Option, Some, None, append-nil, length}
 use Rattle.std.specs.Prelude.{drop, flat_map, replicate, slice_get, if◌then◌else◌}
 use Rattle.std.specs.List.{list_all}
+use Rattle.std.proofs.lemmas.Bool.{and_parts}
+use Rattle.std.proofs.lemmas.List.Folds.{list_all-append}
 use Rattle.zpl_nums.specs.declared.ends.End.{End}
 use Rattle.zpl_nums.specs.declared.ends.TrapKind.TheVariants.{OutsideStorage, RegionMismatch}
 use Rattle.zpl_nums.specs.Integer.{is_true}
@@ -72,7 +74,6 @@ use Rattle.array_runs.specs.Gates.{IsThere, holds, gate}
 use Rattle.array_runs.specs.Elementwise.{IsReadableMask}
 use Rattle.array_runs.proofs.GateLemmas.{needs_gate}
 use Rattle.array_runs.proofs.StoredLemmas.{index_of_found}
-use Rattle.array_runs.proofs.PartLemmas.{all_append, both_true}
 use Rattle.array_runs.proofs.AssignLemmas.{all_read}
 use Rattle.array_runs.proofs.CodedLemmas.{CurrentOf, current_of}
 use Rattle.array_runs.proofs.FloodLemmas.{elementwise, mask_readable, writable}
@@ -267,7 +268,7 @@ module _ (tables : Tables) (n : ℕ) (sight : Sight) (w : Where) (line : ℕ) (n
           reads = ap (λ ws. list_all (can_read tables now region) (each_word word_reads ws)) words_are
               ∙ ap (list_all (can_read tables now region))
               (flat_append (λ expr. flat_map word_reads expr) (mask ∷ []) (group_words inside.members))
-              ∙ all_append (can_read tables now region) (each_word word_reads (mask ∷ []))
+              ∙ list_all-append (can_read tables now region) (each_word word_reads (mask ∷ []))
               (group_reads inside.members)
               ∙ ap (λ b. b && list_all (can_read tables now region) (group_reads inside.members)) may
               ∙ d.does.reads;
@@ -428,7 +429,7 @@ module _ (tables : Tables) (n : ℕ) (sight : Sight) (w : Where) (line : ℕ) (n
 
     all_is : holding refs ≡ goes
     all_is =
-        all_append (holds tables now) (inside form).references mask_refs
+        list_all-append (holds tables now) (inside form).references mask_refs
         ∙ ap (λ b. b && holding mask_refs) g.gate
         ∙ ap (λ b. (targets && refer store g.terms) && b) m.gate
         ∙ three_same targets (refer store g.terms) (has_mask_within store meant_over)
@@ -466,8 +467,8 @@ module _ (tables : Tables) (n : ℕ) (sight : Sight) (w : Where) (line : ℕ) (n
         (λ _. all_run))
         (gate b line now (rows (row.Loop over.slot group ∷ []) now))
     by_goes true e =
-        let both = both_true (holding (inside form).references) (holding mask_refs)
-        (sym (all_append (holds tables now) (inside form).references mask_refs) ∙ all_is ∙ e) in
+        let both = and_parts (holding (inside form).references) (holding mask_refs)
+        (sym (list_all-append (holds tables now) (inside form).references mask_refs) ∙ all_is ∙ e) in
         let d = form_one tables n sight w line next now stands room like.sound like.held rank c form
         head served both.0 in
         loop_agrees form group (is_kept_in store meant_over) (loop_of form d over.mask m both.1)

@@ -5,6 +5,8 @@ use Rattle.std.proofs.Common.{List, [], ◌∷◌, length, map, ℤ, pos, Option
 use Rattle.std.specs.Prelude.{option_and_then, slice_get, slice_index_or, ◌-◌, ◌<◌, ◌==◌, if◌then◌else◌}
 use Rattle.std.specs.List.{AllZip, list_all}
 use Rattle.std.specs.Option.{option_map}
+use Rattle.std.proofs.lemmas.Bool.{and_parts}
+use Rattle.std.proofs.lemmas.List.Folds.{list_all-append}
 use Rattle.zpl_nums.specs.declared.operators.Op.{Op}
 use Rattle.zpl_nums.specs.declared.operators.UnaryOp.{UnaryOp}
 use Rattle.zpl_nums.specs.declared.operators.UnaryOp.TheVariants as unary
@@ -54,7 +56,7 @@ use Rattle.array_runs.specs.Elementwise.{IsReadable, IsElement, IsElementwise}
 use Rattle.array_runs.specs.Integers.{AreIntegers, HasIntegers}
 use Rattle.array_runs.proofs.IntegerLemmas.{element_integer}
 use Rattle.array_runs.proofs.StoredLemmas.{found_array, index_of_found, read_same}
-use Rattle.array_runs.proofs.PartLemmas.{IsPart, all_append, both_true, constant_part, coordinate_part, unary_part, binary_part, variable_part}
+use Rattle.array_runs.proofs.PartLemmas.{IsPart, constant_part, coordinate_part, unary_part, binary_part, variable_part}
 use Rattle.array_runs.proofs.ElementLemmas.{element_part, holding_is, own_covers}
 use Rattle.array_runs.proofs.CodedLemmas.{CurrentOf, region_of}
 use Rattle.point_runs.specs.Own.{own_array, own_store, value_behind}
@@ -207,9 +209,9 @@ module _ (tables : Tables) (sight : Sight) (w : Where) (line : ℕ) (next : Next
     part = binary_part tables spots w line now c.of over c.current op one other a b left right h.part
         k.part;
     values = λ e t m log.
-        let both = both_true (list_all (holds tables now) (referred w.numbers one))
+        let both = and_parts (list_all (holds tables now) (referred w.numbers one))
         (list_all (holds tables now) (referred w.numbers other))
-        (sym (all_append (holds tables now) (referred w.numbers one) (referred w.numbers other)) ∙ e)
+        (sym (list_all-append (holds tables now) (referred w.numbers one) (referred w.numbers other)) ∙ e)
         in
         let p = h.values both.0 t m log in
         let q = k.values both.1 t m log in
@@ -456,7 +458,7 @@ module _ (tables : Tables) (sight : Sight) (w : Where) (line : ℕ) (next : Next
       unary_pointed unary.Abs operand (Abs at operand) (λ free. refl) (λ store. refl)
       (pointed operand e h)
   pointed (Pair at op left right) e h =
-      let both = both_true (is_elementwise left) (is_elementwise right) e in
+      let both = and_parts (is_elementwise left) (is_elementwise right) e in
       let a = pointed left both.0 h.0 in
       let b = pointed right both.1 h.1 in
       record {

@@ -3,6 +3,7 @@ use Rattle.std.proofs.Common.{◌≡◌, refl, ◌∙◌, ap, ℕ, suc, Bool, tr
 use Rattle.std.proofs.Common.{List, [], ◌∷◌, Option, Some, None}
 use Rattle.std.specs.Prelude.{option_and_then}
 use Rattle.std.specs.Option.{option_map}
+use Rattle.std.proofs.lemmas.Option.{none-some}
 use Rattle.zpl_nums.specs.Integer.{truth, negated, denied, absolute}
 use Rattle.zpl_nums.specs.Op.{applied}
 use Rattle.zpl_region.specs.declared.dims.Dim.{Dim}
@@ -29,13 +30,10 @@ use Rattle.array_runs.proofs.of_lowering_runs.ValueLemmas.{thing_seen}
 
 -- ---- options
 
-none_some : {A : Type 0} (x : A) → None ≡ Some x → ⊥
-none_some x e = cc
-
 mapped_is : (f : ℤ → ℤ) (o : Option ℤ) (value : mean.Computed ℤ) (v : ℤ)
     → ((x : ℤ) → o ≡ Some x → value ≡ mean.Gives x) → option_map f o ≡ Some v
     → computed_then value (λ x. mean.Gives (f x)) ≡ mean.Gives v
-mapped_is f None value v h e = absurd (none_some v e)
+mapped_is f None value v h e = absurd (none-some v e)
 mapped_is f (Some x) value v h e =
     let same : f x ≡ v = cc in
     ap (λ c. computed_then c (λ x. mean.Gives (f x))) (h x refl) ∙ ap (λ y. mean.Gives y) same
@@ -46,15 +44,15 @@ both_is : {A : Type 0} (one other : Option ℤ) (left right : mean.Computed ℤ)
     → ((x : ℤ) → other ≡ Some x → right ≡ mean.Gives x)
     → ((x y : ℤ) → next x y ≡ Some a → then x y ≡ mean.Gives a) → both one other next ≡ Some a
     → both_then left right then ≡ mean.Gives a
-both_is None other left right next then a h k f e = absurd (none_some a e)
-both_is (Some x) None left right next then a h k f e = absurd (none_some a e)
+both_is None other left right next then a h k f e = absurd (none-some a e)
+both_is (Some x) None left right next then a h k f e = absurd (none-some a e)
 both_is (Some x) (Some y) left right next then a h k f e =
     ap (λ c. both_then c right then) (h x refl)
     ∙ ap (λ c. both_then (mean.Gives x) c then) (k y refl)
     ∙ f x y e
 
 given_is : (o : Option ℤ) (v : ℤ) → o ≡ Some v → mean.given o ≡ mean.Gives v
-given_is None v e = absurd (none_some v e)
+given_is None v e = absurd (none-some v e)
 given_is (Some x) v e = let same : x ≡ v = cc in ap (λ y. mean.Gives y) same
 
 dim_some : (one other : Dim) → Some one ≡ Some other → mean.Gives one ≡ mean.Gives other
@@ -64,7 +62,7 @@ within_is : (outcome : Outcome Region) (region : Region) → within outcome ≡ 
     → computed_of outcome ≡ mean.Gives region
 within_is (bound.Gives one) region e =
     let same : one ≡ region = cc in ap (λ r. mean.Gives r) same
-within_is (bound.Fails fault) region e = absurd (none_some region e)
+within_is (bound.Fails fault) region e = absurd (none-some region e)
 
 module _ (sight : Sight) (w : Where) (now : Whole) (store : Store) where
   abbrev place : Place
@@ -73,9 +71,9 @@ module _ (sight : Sight) (w : Where) (now : Whole) (store : Store) where
   thing_is : (thing : Option Thing) (v : ℤ) → fixed_value thing ≡ Some v
       → mean.Gives (mean_value.thing_value store (option_map (seen_thing sight.spots) thing))
       ≡ mean.Gives v
-  thing_is None v e = absurd (none_some v e)
-  thing_is (Some (Scalar p)) v e = absurd (none_some v e)
-  thing_is (Some (ArrayAt p home)) v e = absurd (none_some v e)
+  thing_is None v e = absurd (none-some v e)
+  thing_is (Some (Scalar p)) v e = absurd (none-some v e)
+  thing_is (Some (ArrayAt p home)) v e = absurd (none-some v e)
   thing_is (Some (Fixed value)) v e = let same : value ≡ v = cc in ap (λ y. mean.Gives y) same
 
   constant_is : (expr : Expr) (v : ℤ) → constant_of w.environment expr ≡ Some v
@@ -102,19 +100,19 @@ module _ (sight : Sight) (w : Where) (now : Whole) (store : Store) where
       (λ a b. applied op a b) (λ a b. mean.given (applied op a b)) v
       (λ x q. constant_is left x q) (λ x q. constant_is right x q)
       (λ x y q. given_is (applied op x y) v q) e
-  constant_is (Coord at k) v e = absurd (none_some v e)
-  constant_is (Shifted at name shift) v e = absurd (none_some v e)
-  constant_is (Around at name shift) v e = absurd (none_some v e)
-  constant_is (Remap at name indices) v e = absurd (none_some v e)
-  constant_is (Call at name actuals) v e = absurd (none_some v e)
-  constant_is (Reduce at operator over operand) v e = absurd (none_some v e)
-  constant_is (Scan at operator along operand) v e = absurd (none_some v e)
-  constant_is (Flood at source operand) v e = absurd (none_some v e)
+  constant_is (Coord at k) v e = absurd (none-some v e)
+  constant_is (Shifted at name shift) v e = absurd (none-some v e)
+  constant_is (Around at name shift) v e = absurd (none-some v e)
+  constant_is (Remap at name indices) v e = absurd (none-some v e)
+  constant_is (Call at name actuals) v e = absurd (none-some v e)
+  constant_is (Reduce at operator over operand) v e = absurd (none-some v e)
+  constant_is (Scan at operator along operand) v e = absurd (none-some v e)
+  constant_is (Flood at source operand) v e = absurd (none-some v e)
 
   dim_is : (current : Dim) (text : DimText) (one : Dim)
       → constant_dim w.environment text ≡ Some one
       → dim_in place.environment store current text ≡ mean.Gives one
-  dim_is current (Blank at) one e = absurd (none_some one e)
+  dim_is current (Blank at) one e = absurd (none-some one e)
   dim_is current (Star at) one e = dim_some _ one e
   dim_is current (One index) one e =
       by (constant_of w.environment index) (λ x q. constant_is index x q) e
@@ -124,7 +122,7 @@ module _ (sight : Sight) (w : Where) (now : Whole) (store : Store) where
           → option_map (λ value. all_from value value) o ≡ Some one
           → computed_then (value_of place.environment store index)
           (λ value. mean.Gives (all_from value value)) ≡ mean.Gives one
-      by None h e = absurd (none_some one e)
+      by None h e = absurd (none-some one e)
       by (Some x) h e =
           ap (λ c. computed_then c (λ value. mean.Gives (all_from value value))) (h x refl)
           ∙ dim_some (all_from x x) one e
@@ -154,8 +152,8 @@ module _ (sight : Sight) (w : Where) (now : Whole) (store : Store) where
           → both_then (dim_in place.environment store (dim_at current k) first)
           (dims_in place.environment store current (suc k) rest)
           (λ dim dims. mean.Gives (dim ∷ dims)) ≡ mean.Gives all
-      by None os h hs e = absurd (none_some all e)
-      by (Some one) None h hs e = absurd (none_some all e)
+      by None os h hs e = absurd (none-some all e)
+      by (Some one) None h hs e = absurd (none-some all e)
       by (Some one) (Some others) h hs e =
           let same : one ∷ others ≡ all = cc in
           ap (λ c. both_then c (dims_in place.environment store current (suc k) rest)
@@ -176,7 +174,7 @@ module _ (sight : Sight) (w : Where) (now : Whole) (store : Store) where
           → option_and_then (λ all. within (limited (region_over all))) o ≡ Some region
           → computed_then (dims_in place.environment store current 1 texts)
           (λ all. computed_of (limited (region_over all))) ≡ mean.Gives region
-      by None h e = absurd (none_some region e)
+      by None h e = absurd (none-some region e)
       by (Some all) h e =
           ap (λ c. computed_then c (λ all. computed_of (limited (region_over all)))) (h all refl)
           ∙ within_is (limited (region_over all)) region e
@@ -196,5 +194,5 @@ module _ (sight : Sight) (w : Where) (now : Whole) (store : Store) where
       → inner_over place store current inner ≡ mean.Gives region
   constant_region_is current (Rexpr pre (NamedRegion name) post) region e =
       name_is (is_index w.scope pre name post) current pre name post region e
-  constant_region_is current (Rexpr pre (Ditto at) post) region e = absurd (none_some region e)
+  constant_region_is current (Rexpr pre (Ditto at) post) region e = absurd (none-some region e)
   constant_region_is current (Dims dims) region e = span_is current dims region e

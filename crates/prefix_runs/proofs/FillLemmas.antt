@@ -3,6 +3,7 @@ use Rattle.std.proofs.Common.{◌≡◌, refl, sym, ◌∙◌, ap, subst, arith,
 use Rattle.std.proofs.Common.{Bool, true, false, List, [], ◌∷◌, ◌++◌, length, Option, Some}
 use Rattle.std.proofs.Common.{length-append}
 use Rattle.std.specs.Prelude.{slice_get, option_and_then, is_none}
+use Rattle.std.proofs.lemmas.Option.{slice_get_within}
 use Rattle.zpl_nums.specs.declared.ends.End.TheVariants.{Trap}
 use Rattle.zpl_nums.specs.declared.ends.TrapKind.{TrapKind}
 use Rattle.zpl_nums.specs.declared.folds.Fold.{Fold}
@@ -74,17 +75,11 @@ pub data Filling (bottom slot line : ℕ) (before : Whole) : mean.Computed Regio
 
 -- ---- slots that are there
 
-some_below : {A : Type 0} (xs : List A) (k : ℕ) (x : A) → slice_get xs k ≡ Some x → k < length xs
-some_below [] zero x e = absurd (let no : ⊥ = cc in no)
-some_below [] (suc k) x e = absurd (let no : ⊥ = cc in no)
-some_below (y ∷ xs) zero x e = omega arith
-some_below (y ∷ xs) (suc k) x e = let l = some_below xs k x e in omega (arith, l)
-
 pub slots_below : (slots : List ℕ) (k : ℕ) (ranks : List ℕ) → SlotsAt slots k ranks → (i : ℕ)
     → i < length ranks → k + i < length slots
 slots_below slots k [] h i lt = absurd (omega (arith, lt))
 slots_below slots k (rank ∷ ranks) h zero lt =
-    let l = some_below slots k rank h.0 in omega (arith, l)
+    let l = slice_get_within slots k rank h.0 in omega (arith, l)
 slots_below slots k (rank ∷ ranks) h (suc i) lt =
     let l = slots_below slots (suc k) ranks h.1 i (omega (arith, lt)) in omega (arith, l)
 
@@ -120,7 +115,7 @@ declared_first regions slots p one h e =
 
 pub region_below : (regions : List (Computed Region)) (p : ℕ) (one : Computed Region)
     → slice_get regions p ≡ Some one → p < length regions
-region_below regions p one e = some_below regions p one e
+region_below regions p one e = slice_get_within regions p one e
 
 -- ---- forms
 

@@ -3,6 +3,7 @@
 use Rattle.std.proofs.Common.{◌≡◌, refl, sym, ◌∙◌, ap, subst, ℕ, zero, suc, ◌≤◌, true}
 use Rattle.std.proofs.Common.{◌&&◌, List, [], ◌∷◌, ◌++◌, Some, None}
 use Rattle.std.specs.List.{list_all}
+use Rattle.std.proofs.lemmas.List.Folds.{list_all-append}
 use Rattle.zpl_nums.specs.declared.operators.UnaryOp.TheVariants as unary
 use Rattle.zpl_tree.specs.Syntax.{Expr, Number, Truth, Coord, Named, Shifted, Around, Remap, Call, Paren, Neg, Not, Abs, Pair, Reduce, Scan, Flood, Item, Str, Value}
 use Rattle.zpl_names.specs.Kinds.{Rank}
@@ -38,7 +39,7 @@ use Rattle.array_runs.proofs.of_lowering_runs.ValueLemmas.{scalar_unseen}
 use Rattle.array_runs.specs.Gates.{IsThere, holds}
 use Rattle.array_runs.proofs.CodedLemmas.{coded, current_of}
 use Rattle.array_runs.proofs.FloodLemmas.{elementwise}
-use Rattle.array_runs.proofs.PartLemmas.{IsStill, all_append, alone_still, both_still}
+use Rattle.array_runs.proofs.PartLemmas.{IsStill, alone_still, both_still}
 use Rattle.print_runs.specs.Printed.{ArePrinted, IsPrintedAs}
 use Rattle.print_runs.proofs.ScalarLemmas.{scalar_field}
 
@@ -230,7 +231,7 @@ module _ (tables : Tables) (sight : Sight) (w : Where) (line : ℕ) (next : Next
   gates_are [] s = refl
   gates_are (placed ∷ rest) s =
       let others = all_referred w.numbers (slates_of rest s.1) in
-      all_append (holds tables now) (referred w.numbers s.0.one) others
+      list_all-append (holds tables now) (referred w.numbers s.0.one) others
       ∙ ap (λ b. b && list_all (holds tables now) others) s.0.gate
       ∙ ap (λ b. refers store s.0.term && b) (gates_are rest s.1)
 

@@ -5,6 +5,7 @@ use Rattle.std.proofs.Common.{Bool, true, false, List, [], ◌∷◌, ◌++◌, 
 use Rattle.std.proofs.Common.{Option, Some, None, append_assoc}
 use Rattle.std.specs.Prelude.{All, slice_get}
 use Rattle.std.specs.List.{list_all}
+use Rattle.std.proofs.lemmas.Bool.{and_parts}
 use Rattle.zpl_nums.specs.Integer.{IsInteger}
 use Rattle.zpl_nums.specs.declared.ends.End.TheVariants.{Trap}
 use Rattle.zpl_nums.specs.declared.ends.TrapKind.{TrapKind}
@@ -74,7 +75,6 @@ use Rattle.array_runs.specs.of_array_puts.Put.{IsSame, assigned, put_group, with
 use Rattle.array_runs.specs.Floods.{IsElementwiseAs, three_floods}
 use Rattle.array_runs.proofs.CodedLemmas.{coded, current_of, region_of}
 use Rattle.array_runs.proofs.FloodLemmas.{current_floods, elementwise}
-use Rattle.array_runs.proofs.PartLemmas.{both_true}
 use Rattle.array_runs.proofs.StoredLemmas.{zip_at}
 use Rattle.print_runs.specs.Printed.{ArePrinted, IsPrintedAs, HasNoFlood}
 use Rattle.print_runs.proofs.ScalarLemmas.{scalar_field}
@@ -527,7 +527,7 @@ module _ (tables : Tables) (n : ℕ) (sight : Sight) (w : Where) (line : ℕ) (n
           s.0.left in
           let rest = low.items_of w line (scalar + shown.scalars) (temp + length shown.temps) ends items
           (lefts items s.1) in
-          let both = both_true (refers store s.0.term) (refer store (terms items s.1)) r in
+          let both = and_parts (refers store s.0.term) (refer store (terms items s.1)) r in
           subst (λ (c : mean.Computed (List ℕ)). Fills scalar temp now (shown.print ∷ rest.prints) c
           (rows (shown.values ++ rest.values) now))
           (ended_both (field_text place type rank s.0.field) (items_text place items (fields items s.1)))

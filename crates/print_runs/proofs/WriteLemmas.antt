@@ -45,10 +45,6 @@ use Rattle.print_runs.specs.Printed.{ArePrinted, PrintLeaf}
 use Rattle.print_runs.proofs.ItemLemmas as item
 use Rattle.print_runs.proofs.ValueLemmas.{Fills, Filled, Fails, items_fill}
 
-right_true : (b : Bool) → (b && true) ≡ b
-right_true true = refl
-right_true false = refl
-
 module _ (tables : Tables) (n : ℕ) (sight : Sight) (w : Where) (line : ℕ) (next : Next) (now : Whole)
     (stands : Stands sight.spots w next) (ends : Bool) (items : List Item)
     (begin : IsLike tables sight.spots w next now (seen_store sight.spots w.numbers.arrays now) now)

@@ -5,7 +5,7 @@ use native.Mathlib.Nat.{zero-mod}
 use Rattle.std.specs.Prelude.{ℤ, pos, ◌==◌, drop, filter, flat_map, int_rem, slice_get, sum_by}
 use Rattle.std.specs.List.{AllByRecursion}
 use Rattle.std.proofs.lemmas.Bool.Decides.{Decides-eqb}
-use Rattle.std.proofs.lemmas.Option.{slice_get_within}
+use Rattle.std.proofs.lemmas.Option.{slice_get_within, same_Some}
 use Rattle.std.proofs.lemmas.List.{length-map, map-append}
 use Rattle.std.proofs.lemmas.List.Elements.{All-from_recursion}
 use Rattle.std.proofs.lemmas.List.Sums.{sum_by-append}
@@ -55,9 +55,6 @@ below_apart a b less = by (a == b) (Decides-eqb a b)
     by : (same : Bool) → Decides same (a ≡ b) → same ≡ false
     by true is = let wrong : ⊥ = omega (arith, less, is.0 refl) in absurd wrong
     by false is = refl
-
-same_some : {A : Type 0} (x y : A) → Some x ≡ Some y → x ≡ y
-same_some x y e = cc
 
 -- ---- the shifts of copies
 
@@ -194,7 +191,7 @@ module _ (program : Program) (known : Known) (different : AreDifferent (expanded
             (Decides-eqb found.0 k).0
             (sym (same_numbers all different k found.0 array other here found.1) ∙ is) in
             ap (λ (a : ExpandedArray). a.storage)
-            (same_some other array (sym found.1 ∙ ap (slice_get all) alike ∙ here));
+            (same_Some other array (sym found.1 ∙ ap (slice_get all) alike ∙ here));
       }
 
   are_told : (k : ℕ) (array : ExpandedArray) → slice_get all k ≡ Some array →

@@ -33,7 +33,7 @@ use Rattle.zpl_meaning.proofs.NamesLemmas.{IsSound, routine_sound}
 use Rattle.zpl_meaning.proofs.ProperLemmas.{taken}
 use Rattle.zpl_lowering.specs.Lowered.{Lowered}
 use Rattle.zpl_lowering.specs.Program.{Entry, Framed, body_code, call_code, in_call, out_of_call, reads_round, routine_code, where_in}
-use Rattle.zpl_lowering.specs.Statement.{Calling, given_to, lowered}
+use Rattle.zpl_lowering.specs.Statement.{Calling, given_to}
 use Rattle.zpl_lowering.specs.Where.{Next, Numbers, Where}
 use Rattle.lowered_flat.specs.of_lowering_fits.Declarations.{FitsProgram}
 use Rattle.lowered_flat.specs.of_lowering_fits.Reach.{AreGlobals, FitNames, place_at}
@@ -198,12 +198,6 @@ module _ (program : Program) (settings : List Setting) (grammar : IsProgram prog
 
     abbrev body : Lowered
     body = body_code setup entry (call_code setup depth) one.routine calling inside
-
-    abbrev inner : Lowered
-    inner = lowered (record {
-      place = where_in setup one.routine calling frame;
-      call = call_code setup depth;
-    }) last one.routine.procedure.body
 
     pub called_have : Placed one frame last.arrays → Sized one.routine frame →
         IsVisited setup (place_at (where_in setup one.routine calling frame) result currents edge)

@@ -5,6 +5,7 @@ use Rattle.std.proofs.Common.{◌≡◌, ℕ, ◌+◌, Bool, true, false, List, 
 use Rattle.std.specs.Prelude.{Option, Some, None, Contains}
 use Rattle.std.specs.Option.{option_to_list}
 use Rattle.std.specs.List.{flat_map}
+use Rattle.std.proofs.lemmas.List.Elements.{Contains-append_left, Contains-append_right}
 use Rattle.node_form.specs.Expression.{Variable}
 use Rattle.zpl_tree.specs.Grammar.{IsBody}
 use Rattle.zpl_tree.specs.Syntax.{Base, Name, Expr, Mask as MaskText, Prefix, ForHead, Item, Str, Value, Stmt, Prefixed, Stmts, NoStmt, ThenStmt, Form, Assign, Invoke, Block, If, While, Repeat, For, Border, Write, Return, Tested, Arms, NoArm, ThenArm, Otherwise, NoElse, Else}
@@ -32,7 +33,7 @@ use Rattle.zpl_lowering.specs.Slate as settle
 use Rattle.zpl_lowering.specs.Lowered.{Lowered, rows_alone, behind, joined, both, followed, phased, first_left}
 use Rattle.zpl_lowering.specs.Statement.{Calling, Lowering, placed_in, Testing, test_of, with_values, value_rows, lowered_borders, is_border, prefix_opened, current_for, under_prefix, of_opened, is_last, lowered_under, head_exprs, counter_from, counted, lowered_for, scalar_of, set_row, printed_exprs, items_of, of_prints, lowered_write, shattered, choose_code, chosen, when, while_code, repeat_code, ends_arms, lowered, lowered_all, lowered_form, lowered_arms, lowered_arm, lowered_otherwise}
 use Rattle.lowered_flat.specs.of_lowering_fits.Reach.{place_at}
-use Rattle.lowered_flat.proofs.of_lowering_fits.PartLemmas.{AreRight, contains_first, contains_later, contains_left, contains_right}
+use Rattle.lowered_flat.proofs.of_lowering_fits.PartLemmas.{AreRight, contains_first, contains_later}
 use Rattle.lowered_flat.proofs.of_lowering_fits.MadeLemmas.{inner_tame}
 use Rattle.lowered_flat.proofs.of_lowering_fits.MadeAssignLemmas.{IsWithin}
 use Rattle.stored_boxes.specs.Reads.{IsReadAs}
@@ -508,11 +509,11 @@ module _ (setup : Setup) (scope : Scope) (environment : Environment) (numbers : 
         (λ tests. arms_own w here result currents edge next at reach within arms otherwise
         (λ after. lowered_otherwise context after otherwise)
         (λ part in_it. held part
-        (contains_left (arms_parts arms) (else_parts otherwise) part in_it)) tests
+        (Contains-append_left (arms_parts arms) (else_parts otherwise) part in_it)) tests
         (each_left Good xs ys good)
         (λ after. otherwise_own w here result currents edge after within otherwise
         (λ part in_it. held part
-        (contains_right (arms_parts arms) (else_parts otherwise) part in_it))
+        (Contains-append_right (arms_parts arms) (else_parts otherwise) part in_it))
         (each_right Good xs ys good)))
     form_own w here result currents edge next at reach (While test body) start whole prefixes
         visited under proper ranked good =
@@ -612,11 +613,11 @@ module _ (setup : Setup) (scope : Scope) (environment : Environment) (numbers : 
         (test_own w here result currents edge next reach test at tests.0
         (each_left Good xs ys first))
         (λ after. all_own w here result currents edge after within body
-        (λ part in_it. visited part (contains_left (list_of body) (arms_parts rest) part in_it))
+        (λ part in_it. visited part (Contains-append_left (list_of body) (arms_parts rest) part in_it))
         (each_right Good xs ys first))
         (λ after. arms_own w here result currents edge after (arms_at rest) reach within rest
         otherwise last
-        (λ part in_it. visited part (contains_right (list_of body) (arms_parts rest) part in_it))
+        (λ part in_it. visited part (Contains-append_right (list_of body) (arms_parts rest) part in_it))
         tests.1 (each_right Good (xs ++ ys) zs good) lasts))
 
     otherwise_own : (w : Where) → Here w → (result : ℕ) (currents : Currents)

@@ -1,8 +1,9 @@
 -- Texts that read nothing with a shift: brackets, vectors, names, and statements that are
 -- shattered.
-use Rattle.std.proofs.Common.{◌≡◌, ℕ, suc, ◌+◌, Bool, true, false, ◌&&◌, List, [], ◌∷◌, ◌++◌, refl, ap, ◌∙◌, arith, cond}
+use Rattle.std.proofs.Common.{◌≡◌, ℕ, suc, ◌+◌, Bool, true, false, List, [], ◌∷◌, ◌++◌, refl, ap, ◌∙◌, arith, cond}
 use Rattle.std.specs.Prelude.{Option, Some, None}
 use Rattle.std.specs.Option.{option_or}
+use Rattle.std.proofs.lemmas.Bool.{and_parts}
 use Rattle.zpl_nums.specs.declared.operators.Op.{Op}
 use Rattle.zpl_tree.specs.Syntax.{Name, Pre, RegionBase, NamedRegion, Ditto, Expr, Number, Truth, Coord, Named, Shifted, Around, Remap, Call, Paren, Neg, Not, Abs, Pair, Reduce, Scan, Flood, Exprs, NoExpr, ThenExpr, Dir, NamedDir, Vector, Inner, Rexpr, Dims, NoBracket, Bracketed, Posts, NoPost, ThenPost, DimText, Blank, Star, One, Span, DimTexts, NoDim, ThenDim, Stmt, Prefixed, Stmts, NoStmt, ThenStmt, Form, Assign, Invoke, Block, If, While, Repeat, For, Border, Write, Return, Tested, Arms, NoArm, ThenArm, Otherwise, NoElse, Else}
 use Rattle.zpl_names.specs.Kinds as kind
@@ -19,7 +20,6 @@ use Rattle.zpl_meaning.proofs.DepthLemmas.{Each, each_left, each_right}
 use Rattle.zpl_meaning.proofs.ProperLemmas.{taken}
 use Rattle.meaning_ranks.specs.Ranked.{IsPointOf, ArePointsOf, IsPointFormOf, ArePointArmsOf, IsPointElseOf}
 use Rattle.lowered_flat.proofs.of_lowering_fits.TallyLemmas.{tally, IsTameDim, AreTameDims, IsTameInner}
-use Rattle.lowered_flat.proofs.of_lowering_fits.PointSiteLemmas.{actual_sites, IsNamed}
 
 -- ---- tallies
 
@@ -316,10 +316,6 @@ region_still environment reach hint (Dims dims) is clean =
 
 -- ---- elementwise expressions ask for nothing
 
-both_true : (a b : Bool) → (a && b) ≡ true → (a ≡ true) × (b ≡ true)
-both_true true b is = (refl, is)
-both_true false b is = let no : ⊥ = cc in absurd no
-
 pub elementwise_still : (reach : Reach) (rank : Rank) (one : Expr) → is_elementwise one ≡ true →
     IsStill (expr_sites reach rank one)
 elementwise_still reach rank (Number at value) is = record { reads = refl }
@@ -339,7 +335,7 @@ elementwise_still reach rank (Abs at operand) is =
     let later = elementwise_still reach rank operand is in
     record { reads = later.reads }
 elementwise_still reach rank (Pair at op left right) is =
-    let are = both_true (is_elementwise left) (is_elementwise right) is in
+    let are = and_parts (is_elementwise left) (is_elementwise right) is in
     let later = still_both (expr_sites reach rank left) (expr_sites reach rank right)
     (elementwise_still reach rank left are.0) (elementwise_still reach rank right are.1) in
     record { reads = later.reads }
@@ -352,25 +348,6 @@ elementwise_still reach rank (Reduce at operator over operand) is =
 elementwise_still reach rank (Scan at operator along operand) is =
     let no : ⊥ = cc in absurd no
 elementwise_still reach rank (Flood at source operand) is = let no : ⊥ = cc in absurd no
-
-pub named_still : (reach : Reach) (actual : Expr) → IsNamed actual →
-    IsStill (actual_sites reach actual)
-named_still reach (Number at value) is = absurd is
-named_still reach (Truth at value) is = absurd is
-named_still reach (Coord at k) is = absurd is
-named_still reach (Named at name) is = record { reads = refl }
-named_still reach (Shifted at name shift) is = absurd is
-named_still reach (Around at name shift) is = absurd is
-named_still reach (Remap at name indices) is = absurd is
-named_still reach (Call at callee actuals) is = absurd is
-named_still reach (Paren at inside) is = absurd is
-named_still reach (Neg at operand) is = absurd is
-named_still reach (Not at operand) is = absurd is
-named_still reach (Abs at operand) is = absurd is
-named_still reach (Pair at operator left right) is = absurd is
-named_still reach (Reduce at operator over operand) is = absurd is
-named_still reach (Scan at operator along operand) is = absurd is
-named_still reach (Flood at source operand) is = absurd is
 
 -- ---- right sides that are elementwise
 

@@ -12,9 +12,6 @@ use Rattle.flat_code.specs.declared.builds.Build.{Build}
 use Rattle.flat_code.specs.Passes.{node_tables}
 use Rattle.flat_code.specs.declared.faults.FlatFault.{FlatFault}
 use Rattle.flat_code.specs.declared.faults.FlatFault.TheVariants as flat_fault
-use Rattle.zpl_lower.specs.Programs as lowering
-use Rattle.zpl_lower.specs.declared.faults.LowerFault.{LowerFault}
-use Rattle.zpl_lower.specs.declared.faults.LowerFault.TheVariants as lower_fault
 use Rattle.temp_norm.specs.Normalised.{normalised}
 use Rattle.bound_check.specs.Checked.{checked}
 use Rattle.zpl_compile.specs.of_fuse_contract.Fusing.{fused}
@@ -27,7 +24,7 @@ use Rattle.node_emit.specs.Emit.{emitted}
 use Rattle.zpl_compile.specs.Compile as whole
 use Rattle.zpl_compile.specs.Compile.{compiled}
 use Rattle.zpl_compile.specs.Compilable.{IsCompiledTo, IsCounted}
-use Rattle.program_code.specs.Faults.{of_flat, of_lowering}
+use Rattle.program_code.specs.Faults.{of_flat}
 use Rattle.program_code.specs.Outcome.{IsUncompiled, build_with}
 use Rattle.program_code.specs.declared.faults.CompileFault.{CompileFault}
 
@@ -75,13 +72,6 @@ module _ (build : Build) (program : Program) (settings : List Setting) where
   pub counted_as : ((¬ HasTooManyStatements program) × (¬ HasTooManyNodes program)) →
       IsCounted program
   counted_as counted = record { statements = counted.0; nodes = counted.1 }
-
-  -- the lowering refuses it
-  pub lowering_refuses : (fault : LowerFault) → lowering.Refuses program fault →
-      IsUncompiled (build_with build settings) program (of_lowering fault)
-  lowering_refuses lower_fault.TooManyStatements h = h
-  lowering_refuses lower_fault.TooManyNodes h = h
-  lowering_refuses lower_fault.NoMemory h = tt
 
   -- ---- of the tables that it is lowered to
   module _ (counted : IsCounted program) (tables : Tables)

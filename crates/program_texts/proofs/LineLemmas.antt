@@ -1,6 +1,6 @@
 -- One line more, and how long lines are.
 use Rattle.std.proofs.Common.{◌≡◌, ℕ, zero, suc, ◌+◌, ◌-◌, ◌*◌, ◌%◌, ◌<◌, ◌≤◌, ◌==◌, Bool, true, false, if◌then◌else◌, List, [], ◌++◌, length, codes, sym, ◌∙◌, ap, arith}
-use Rattle.std.proofs.lemmas.List.{append-nil, append_assoc, length-append}
+use Rattle.std.proofs.lemmas.List.{append_assoc, length-append}
 use Rattle.std.proofs.lemmas.Fmt.{length-decimal-le}
 use Rattle.std.specs.Fmt.{decimal}
 use Rattle.program_texts.specs.Text.{array_name, chosen_line, direction_name, drawn_of, drawn_program}
@@ -19,12 +19,6 @@ pub line_more : (out : List ℕ) (count done x : ℕ) → done < count
 line_more out count done x less =
     append_assoc out (line_text (line_behind x)) (lines_text (count - (done + 1)) (line_behind x).direction)
     ∙ ap (λ (rest : List ℕ). out ++ rest) (first_of (count - (done + 1)) (count - done) x (omega arith))
-
-pub none_left : (out all : List ℕ) (count done x : ℕ) → count ≤ done
-    → out ++ lines_text (count - done) x ≡ all → out ≡ all
-none_left out all count done x over is =
-    let none : count - done ≡ 0 = omega arith in
-    sym (append-nil out) ∙ (ap (λ n. out ++ lines_text n x) (sym none) ∙ is)
 
 -- ---- lengths
 within : (b : Bool) (xs ys : List ℕ) (most : ℕ) → length xs ≤ most → length ys ≤ most

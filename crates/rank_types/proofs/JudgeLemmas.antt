@@ -220,10 +220,6 @@ passed (Ok v) fault program is h = tt
 passed (Err f) fault program is h =
     let P : Fault → Type 0 = λ f. Holds program f in subst P (sym is) h
 
-pub memory : {A : Type 0} (r : Result A Fault) (program : Program) →
-    IsErrAnd r (λ f. f ≡ NoMemory) → IfErr r (Holds program)
-memory r program is = passed r NoMemory program is tt
-
 pub err-map : {A : Type 0} (r : Result A Fault) (P Q : Fault → Type 0) →
     ((f : Fault) → P f → Q f) → IfErr r P → IfErr r Q
 err-map (Ok v) P Q h e = tt

@@ -3,7 +3,7 @@ use Rattle.std.proofs.Common.{◌≡◌, ℕ, zero, suc, arith, ◌+◌, ◌<◌
 use Rattle.std.specs.List.{flat_map}
 use Rattle.std.specs.Map.{lookup}
 use Rattle.std.specs.Str.{bytes_eq}
-use Rattle.std.proofs.lemmas.List.{map-append, take_more}
+use Rattle.std.proofs.lemmas.List.{map-append, take_more, drop_more}
 use Rattle.indexmap.specs.IndexMap.{insert_entry}
 use Rattle.zpl_tree.specs.Syntax.{Name, Integer}
 use Rattle.zpl_tree.specs.View.{bracket_of, decl_of, name_of, var_of}
@@ -16,7 +16,6 @@ use Rattle.zpl_names.specs.Declared.{entry_for}
 use Rattle.zpl_names.specs.Faults.{repeated}
 use Rattle.zpl_names.proofs.NameLemmas.{found, kind_in-cons}
 use Rattle.name_kinds.proofs.NameLemmas.{bytes_eq-comm}
-use Rattle.site_faults.proofs.FindingLemmas.{drop-next}
 use Rattle.text_routines.specs.of_text_names.Heads.{scalars}
 use Rattle.text_routines.specs.of_text_names.Stops.{second_names}
 use Rattle.text_routines.specs.of_text_names.declared.stops.Stop.TheVariants.{Twice}
@@ -38,7 +37,7 @@ rows-step g one step xs k d old new whole less is invariant =
     ap (λ rows. rows ++ rest) is ∙
     append_assoc old (one (get_or xs k d)) rest ∙
     ap (λ more. old ++ more) (sym (step (get_or xs k d) (drop (k + 1) xs))) ∙
-    ap (λ xs. old ++ g xs) (sym (drop-next xs k d less)) ∙ invariant
+    ap (λ xs. old ++ g xs) (sym (drop_more xs k d less)) ∙ invariant
 
 -- one group of variables more
 pub vars-step : (vars : List CodeVarDef) (k : ℕ) (d : CodeVarDef) (old new whole : List Row)

@@ -65,9 +65,6 @@ abbrev AllEmpty : List (List ℕ) → Type 0
 AllEmpty [] = Unit {0}
 AllEmpty (places ∷ rest) = (places ≡ []) × AllEmpty rest
 
-abbrev nones : List (List ℕ)
-nones = [] ∷ [] ∷ [] ∷ [] ∷ [] ∷ [] ∷ [] ∷ [] ∷ [] ∷ [] ∷ [] ∷ [] ∷ [] ∷ []
-
 all-nones : (lists : List (List ℕ)) → AllEmpty lists → lists ≡ map (λ places. []) lists
 all-nones [] h = refl
 all-nones (places ∷ rest) h = ap₂ (λ a b. a ∷ b) h.0 (all-nones rest h.1)

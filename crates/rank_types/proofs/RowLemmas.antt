@@ -1,8 +1,9 @@
 -- The global names of a text by its declarations, and that the names of its procedures differ.
-use Rattle.std.proofs.Common.{◌≡◌, ℕ, zero, suc, Bool, true, false, ◌||◌, List, [], ◌∷◌, ◌++◌, map, slice_get, Option, Some, None, append_assoc, append-nil, refl, sym, ◌∙◌, ap, ap₂, subst, true≢false}
+use Rattle.std.proofs.Common.{◌≡◌, ℕ, zero, suc, Bool, false, List, [], ◌∷◌, ◌++◌, map, slice_get, Option, Some, None, append_assoc, append-nil, refl, sym, ◌∙◌, ap, ap₂, subst}
 use Rattle.std.specs.List.{flat_map, list_any}
 use Rattle.std.specs.Str.{bytes_eq}
 use Rattle.std.proofs.lemmas.List.{map-append}
+use Rattle.std.proofs.lemmas.Bool.{or_parts, or_from}
 use Rattle.zpl_tree.specs.Syntax as plain
 use Rattle.zpl_tree.specs.Syntax.{Name, Bracket, NoBracket, Bracketed, Base, Decl, Config, Constant, Regions, Directions, Vars, Defined, Program}
 use Rattle.zpl_names.specs.Kinds as names
@@ -147,14 +148,6 @@ Fresh before (routine ∷ routines) =
     (is_there before routine.procedure.name.text ≡ false) ×
     Fresh (routine.procedure.name ∷ before) routines
 
-neither : (a b : Bool) → a || b ≡ false → (a ≡ false) × (b ≡ false)
-neither true b h = absurd (true≢false h)
-neither false b h = (refl, h)
-
-both-false : (a b : Bool) → a ≡ false → b ≡ false → a || b ≡ false
-both-false true b e f = e
-both-false false b e f = f
-
 -- what isn't among these names isn't among those
 abbrev Fewer : List Name → List Name → Type 0
 Fewer those these = (text : List ℕ) → is_there these text ≡ false → is_there those text ≡ false
@@ -171,7 +164,7 @@ skip [] rest these those fewer e = record { these = these; fewer = fewer; none =
 skip (name ∷ more) rest these those fewer e =
     skip more rest (name ∷ these) those
     (λ text h.
-    fewer text (neither (bytes_eq name.text text) (is_there these text) h).1)
+    fewer text (or_parts (bytes_eq name.text text) (is_there these text) h).1)
     (empty_parts (at_if (is_there these name.text) name.at)
     (repeated (name ∷ these) (more ++ rest)) e).1
 
@@ -197,8 +190,8 @@ fresh-behind (Defined procedure ∷ decls) earlier these those fewer e =
       fewer name.text (no_place (is_there these name.text) name.at parts.0),
       fresh-behind decls (with_decl earlier (Defined procedure)) (name ∷ these) (name ∷ those)
           (λ text h.
-          let either = neither (bytes_eq name.text text) (is_there these text) h in
-          both-false (bytes_eq name.text text) (is_there those text) either.0
+          let either = or_parts (bytes_eq name.text text) (is_there these text) h in
+          or_from (bytes_eq name.text text) (is_there those text) either.0
           (fewer text either.1))
           parts.1,
     )
@@ -233,7 +226,7 @@ fresh-absent before (first ∷ routines) zero routine fresh e =
     let P : Routine → Type 0 = λ routine. is_there before routine.procedure.name.text ≡ false in
     subst P same fresh.0
 fresh-absent before (first ∷ routines) (suc node) routine fresh e =
-    (neither (bytes_eq first.procedure.name.text routine.procedure.name.text)
+    (or_parts (bytes_eq first.procedure.name.text routine.procedure.name.text)
     (is_there before routine.procedure.name.text)
     (fresh-absent (first.procedure.name ∷ before) routines node routine fresh.1 e)).1
 
@@ -248,7 +241,7 @@ fresh-node before (first ∷ routines) zero routine fresh e =
     subst P same (node-first first.procedure.name.text (texts_of routines))
 fresh-node before (first ∷ routines) (suc node) routine fresh e =
     node-later first.procedure.name.text (texts_of routines) routine.procedure.name.text
-    (neither (bytes_eq first.procedure.name.text routine.procedure.name.text)
+    (or_parts (bytes_eq first.procedure.name.text routine.procedure.name.text)
     (is_there before routine.procedure.name.text)
     (fresh-absent (first.procedure.name ∷ before) routines node routine fresh.1 e)).0 ∙
     ap suc (fresh-node (first.procedure.name ∷ before) routines node routine fresh.1 e)

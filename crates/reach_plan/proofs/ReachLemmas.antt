@@ -52,46 +52,8 @@ placed_at cuts bs q l some is =
 pub mul_most : (x y : ℕ) → x ≤ 64 → y ≤ 64 → x * y ≤ 4096
 mul_most x y one two = let more : x * y ≤ 64 * y = mul-le-mul_right y one in omega (arith, more, two)
 
--- ---- wider spans
-abbrev pub Widens : Span → Span → Type 0
-Widens s t = (c : ℕ) → LiesIn s c → LiesIn t c
-
-three_widen : (s t u x y z : Span) (bs : List ℕ) → Widens s x → Widens t y → Widens u z → AllZip LiesIn (s ∷ t ∷ u ∷ []) bs → AllZip LiesIn (x ∷ y ∷ z ∷ []) bs
-three_widen s t u x y z [] f g h all = absurd all
-three_widen s t u x y z (a ∷ []) f g h all = absurd all.1
-three_widen s t u x y z (a ∷ b ∷ []) f g h all = absurd all.1.1
-three_widen s t u x y z (a ∷ b ∷ c ∷ []) f g h all = (f a all.0, (g b all.1.0, (h c all.1.1.0, tt)))
-three_widen s t u x y z (a ∷ b ∷ c ∷ d ∷ bs) f g h all = absurd all.1.1.1
-
-pub widened : (spans : List Span) (e x y z : Span) (bs : List ℕ) → length spans ≡ 3 → Widens (get_or spans 0 e) x → Widens (get_or spans 1 e) y → Widens (get_or spans 2 e) z
-    → AllZip LiesIn spans bs → AllZip LiesIn (x ∷ y ∷ z ∷ []) bs
-widened spans e x y z bs l =
-    by_three (λ spans. Widens (get_or spans 0 e) x → Widens (get_or spans 1 e) y → Widens (get_or spans 2 e) z → AllZip LiesIn spans bs → AllZip LiesIn (x ∷ y ∷ z ∷ []) bs) spans l
-    (λ s t u f g h all. three_widen s t u x y z bs f g h all)
-
 -- ---- all blocks
 at_most : (q d : ℕ) → 1 ≤ d → q / d ≤ q
 at_most q d some =
     let split : q / d * d + q % d ≡ q = omega (arith, some) in
     let more : q / d ≤ q / d * d = le_product (q / d) d some in omega (arith, split, more)
-
-rest_at_most : (q d : ℕ) → 1 ≤ d → q % d ≤ q
-rest_at_most q d some = let split : q / d * d + q % d ≡ q = omega (arith, some) in omega (arith, split)
-
-three_all : (m n k : ℕ) (all : Span) (q : ℕ) → 1 ≤ n → 1 ≤ k → all.low ≡ 0 → q ≤ all.high → AllZip LiesIn (all ∷ all ∷ all ∷ []) (blocks_at (m ∷ n ∷ k ∷ []) q)
-three_all m n k all q some more low high =
-    let last : 1 ≤ k * 1 = omega (arith, more) in
-    let positive : 1 ≤ n * (k * 1) = omega (arith, le_product n (k * 1) last, some) in
-    let a = at_most q (n * (k * 1)) positive in
-    let r = rest_at_most q (n * (k * 1)) positive in
-    let b = at_most (q % (n * (k * 1))) (k * 1) last in
-    let s = rest_at_most (q % (n * (k * 1))) (k * 1) last in
-    let c : q % (n * (k * 1)) % (k * 1) / 1 ≡ q % (n * (k * 1)) % (k * 1) = over_one _ in (
-      (omega (arith, low), omega (arith, high, a)),
-      ((omega (arith, low), omega (arith, high, r, b)), ((omega (arith, low), omega (arith, high, r, s, c)), tt)),
-    )
-
-pub all_lie : (cuts : List ℕ) (all : Span) (q : ℕ) → length cuts ≡ 3 → All (λ n. 1 ≤ n) cuts → all.low ≡ 0 → q ≤ all.high → AllZip LiesIn (all ∷ all ∷ all ∷ []) (blocks_at cuts q)
-all_lie cuts all q l some low high =
-    by_three (λ cuts. All (λ n. 1 ≤ n) cuts → AllZip LiesIn (all ∷ all ∷ all ∷ []) (blocks_at cuts q)) cuts l
-    (λ a b c each. three_all a b c all q (each 1 0 (omega arith)) (each 2 0 (omega arith)) low high) some

@@ -201,10 +201,6 @@ needer_lies axis n c k held d e (Range from to step align) owner receiver back s
 abbrev pub span_of : ℕ → ℕ → Span
 span_of low high = record { low = low; high = high }
 
-pub span_stays : (axis : Axis) (n c : ℕ) (d : ℤ) (dim : Dim) → (dim ≡ Flood → ⊥) → int_eq d (pos 0) ≡ true → span_of c c ≡ dim_span axis n c d dim
-span_stays axis n c d Flood other stays = absurd (other refl)
-span_stays axis n c d (Range from to step align) other stays = sym (ap (λ t. cond t (span_of c c) (moved_span axis n c d)) stays)
-
 pub span_told : (axis : Axis) (n c : ℕ) (d : ℤ) (dim : Dim) (low high : ℕ) → (dim ≡ Flood → ⊥) → int_eq d (pos 0) ≡ false
     → low ≡ min (block_of axis n (block_first axis n c +ℤ d)) c → high ≡ max (block_of axis n (block_last axis n c +ℤ d)) c
     → span_of low high ≡ dim_span axis n c d dim

@@ -1,7 +1,8 @@
 -- Equal keys of the set of pairs are the same.
-use Rattle.std.proofs.Common.{◌≡◌, Bool, true, false, ◌&&◌, refl, sym, ap₂, true≢false}
+use Rattle.std.proofs.Common.{◌≡◌, true, false, refl, sym, ap₂, true≢false}
 use Rattle.std.specs.Cmp.{booleans_Decides}
 use Rattle.std.proofs.lemmas.Slice.Eq.{bytes_eq-Decides}
+use Rattle.std.proofs.lemmas.Bool.{and_parts}
 use Rattle.zpl_names.specs.Shapes as spec
 use Rattle.name_kinds.specs.Seen.{current_of, shapes_of}
 use Rattle.name_kinds.specs.declared.shapes.Shape.{Shape}
@@ -15,10 +16,6 @@ use Rattle.name_kinds.specs.contracts.shapes.ShapesPartialEq.TheImpl.{eq-value a
 use Rattle.reached_regions.specs.contracts.pairs.PairPartialEq.TheImpl.{eq-value as pair_eq}
 use Rattle.reached_regions.specs.declared.pairs.Pair.{Pair}
 use Rattle.reached_regions.specs.Pairs.{pair_of}
-
-both : (a b : Bool) → a && b ≡ true → (a ≡ true) × (b ≡ true)
-both true b h = (refl, h)
-both false b h = absurd (true≢false (sym h))
 
 same-shape : (x y : Shape) → shape_eq.it x y ≡ true → x ≡ y
 same-shape Empty Empty h = refl
@@ -42,14 +39,14 @@ same-current : (x y : Current) → current_eq.it x y ≡ true → x ≡ y
 same-current Absent Absent h = refl
 same-current Unknown Unknown h = refl
 same-current (Over one masked) (Over two other) h =
-    let parts = both _ _ h in
+    let parts = and_parts _ _ h in
     ap₂ Over (same-shape one two parts.0) ((booleans_Decides masked other).0 parts.1)
 same-current x y h = absurd (true≢false (sym h))
 
 same-shapes : (x y : Shapes) → shapes_eq.it x y ≡ true → shapes_of x ≡ shapes_of y
 same-shapes x y h =
-    let outer = both _ _ h in
-    let inner = both _ _ outer.1 in
+    let outer = and_parts _ _ h in
+    let inner = and_parts _ _ outer.1 in
     let one : x.one ≡ y.one = same-current x.one y.one outer.0 in
     let two : x.two ≡ y.two = same-current x.two y.two inner.0 in
     let three : x.three ≡ y.three = same-current x.three y.three inner.1 in
@@ -57,7 +54,7 @@ same-shapes x y h =
 
 pub same-pair : (x y : Pair) → pair_eq.it x y ≡ true → pair_of x ≡ pair_of y
 same-pair x y h =
-    let parts = both _ _ h in
+    let parts = and_parts _ _ h in
     let name : x.name.now ≡ y.name.now = (bytes_eq-Decides x.name.now y.name.now).0 parts.0 in
     let shapes : shapes_of x.shapes ≡ shapes_of y.shapes =
     same-shapes x.shapes y.shapes parts.1 in

@@ -86,11 +86,6 @@ pub members-reached : (target block : Region) (x : List ℤ) → length target.d
 members-reached target block x l k m h = tuples-reached target.dims block.dims x (l ∙ sym k) (m ∙ sym k) h
 
 -- ---- for the code
-pub range_is : (x lo hi : ℤ) → lo ≡ x → hi ≡ x → ◌≡◌ {A = Dim} (Range lo hi (pos 1) lo) (all_from x x)
-range_is x lo hi e f = ap (λ z. Range z hi (pos 1) z) e ∙ ap (λ z. Range x z (pos 1) x) f
-
-pub told_collapsed : (t d : Dim) (x : ℤ) → is_collapsed t ≡ true → d ≡ dim_reached t d x
-told_collapsed t d x e = sym (ap (λ b. if b then d else only d x) e)
 
 pub told_alone : (t d : Dim) (x : ℤ) → HasStep d → is_collapsed t ≡ false → IsCoordinate d x → all_from x x ≡ dim_reached t d x
 told_alone t d x h e is =

@@ -1,9 +1,7 @@
 -- Requests: whole tuples, one behind the other.
-use Rattle.std.proofs.Common.{◌≡◌, ℕ, zero, suc, ◌+◌, ◌*◌, ◌/◌, ◌<◌, ◌≤◌, Bool, ◌&&◌, List, [], ◌∷◌, length, take, drop, get_or, ℤ, pos, refl, sym, ap, ◌∙◌, arith, drop-cons}
+use Rattle.std.proofs.Common.{◌≡◌, ℕ, zero, suc, ◌+◌, ◌*◌, ◌<◌, ◌≤◌, Bool, ◌&&◌, List, [], ◌∷◌, length, take, drop, get_or, ℤ, pos, refl, sym, ap, ◌∙◌, arith, drop-cons}
 use Rattle.std.specs.Prelude.{Some, None, slice_get}
 use Rattle.std.specs.List.{list_all}
-use Rattle.std.proofs.Math.Nat.{div-mul-le_self}
-use Rattle.std.proofs.Math.Nat.{mul-le-mul_right}
 use Rattle.grid_meaning.specs.Remap.{padded, tuples_in}
 use Rattle.row_steps.proofs.WalkLemmas.{drop_at}
 
@@ -29,13 +27,6 @@ pub no_tuple : (count rank i : ℕ) (words : List ℤ) → count ≤ i → slice
 no_tuple zero rank i words few = refl
 no_tuple (suc count) rank zero words few = absurd (omega arith)
 no_tuple (suc count) rank (suc i) words few = no_tuple count rank i (drop rank words) (omega arith)
-
--- a place among whole tuples is within the words
-pub within_words : (long rank i : ℕ) → i < long / rank → i * rank + rank ≤ long
-within_words long rank i few =
-    let most : long / rank * rank ≤ long = div-mul-le_self long rank in
-    let up : (i + 1) * rank ≤ long / rank * rank = mul-le-mul_right rank (omega (arith, few)) in
-    omega (arith, most, up)
 
 -- all pass, of what is left
 pub all_here : {X : Type 0} (test : X → Bool) (xs : List X) (i : ℕ) (x : X) → slice_get xs i ≡ Some x

@@ -36,11 +36,6 @@ length-entries : (kept : List Kept) → length (map entry_of kept) ≡ length ke
 length-entries [] = refl
 length-entries (first ∷ kept) = ap suc (length-entries kept)
 
-pub answer_within : (kept : List Kept) (from : List ℕ) (place : ℕ) → length kept ≤ place → place < length (answering (map entry_of kept) from)
-    → place - length kept < length (taking from)
-answer_within kept from place past within =
-    omega (arith, past, within, length-entries kept, length-stages (λ (entry : ℕ × List ℤ). Sends entry.0) (taking from) (map entry_of kept))
-
 pub answer_taken : (kept : List Kept) (from : List ℕ) (place : ℕ) (stage : Stage) → length kept ≤ place
     → slice_get (taking from) (place - length kept) ≡ Some stage → slice_get (answering (map entry_of kept) from) place ≡ Some stage
 answer_taken kept from place stage past is =

@@ -1,6 +1,6 @@
 -- The row's words and what its turns make of the state, as code makes them.
-use Rattle.std.proofs.Common.{◌≡◌, ℕ, suc, ◌-◌, ◌*◌, ◌/◌, ◌%◌, ◌==◌, Bool, true, false, cond, List, [], ◌∷◌, All, map, length, ℤ, refl, sym, ap, ◌∙◌, subst}
-use Rattle.std.specs.Prelude.{Option, Some, None, flat_map, is_some, nat_le, option_and_then, slice_get, take, unwrap_or}
+use Rattle.std.proofs.Common.{◌≡◌, ℕ, suc, ◌-◌, ◌*◌, ◌/◌, ◌==◌, Bool, true, false, cond, List, [], ◌∷◌, All, map, length, ℤ, refl, sym, ap, ◌∙◌, subst}
+use Rattle.std.specs.Prelude.{Option, Some, None, flat_map, nat_le, option_and_then, slice_get, take, unwrap_or}
 use Rattle.std.specs.List.{list_all}
 use Rattle.std.specs.Option.{IfSome, option_map}
 use Rattle.zpl_region.specs.declared.regions.Region.{Region}
@@ -9,10 +9,9 @@ use Rattle.node_form.specs.declared.arrays.ArrayRow.{ArrayRow}
 use Rattle.node_form.specs.declared.tables.Tables.{Tables}
 use Rattle.node_form.specs.Fits.{storage_of}
 use Rattle.grid_meaning.specs.Collective.{keeping}
-use Rattle.grid_meaning.specs.Gather.{words_from}
 use Rattle.grid_meaning.specs.Local.{Local, processors}
 use Rattle.grid_meaning.specs.Owner.{tuples_of}
-use Rattle.grid_meaning.specs.Place.{values_at, with_values}
+use Rattle.grid_meaning.specs.Place.{with_values}
 use Rattle.grid_meaning.specs.Remap.{home, is_number, tuples_in, wants_at}
 use Rattle.grid_meaning.specs.Remap as meaning
 use Rattle.remap_messages.specs.Asked.{IsAtHome, chosen_of, given, value_for, values_for, want_of, words_of}
@@ -24,9 +23,6 @@ use Rattle.remap_messages.proofs.WantLemmas as want
 
 module _ (code : Tables) (p : ℕ) (row : RemapRow) (read : ArrayRow) (local : Local) (region : Region)
     (there : slice_get local.slots row.slot ≡ Some region) where
-  abbrev pub all_wants : Option (List meaning.Want)
-  all_wants = meaning.wants code p row.array row.slot row.from (given row.parts) read local
-
   pub wants_told : meaning.wants code p row.array row.slot row.from (given row.parts) read local
       ≡ wants_at local (given row.parts) (tuples_of code p region)
   wants_told = ap (λ r. wants_at local (given row.parts) (tuples_of code p r)) (in_slot local row.slot region there)
@@ -43,10 +39,6 @@ module _ (code : Tables) (p : ℕ) (row : RemapRow) (read : ArrayRow) (local : L
         ap (λ b. cond b (option_map (meaning.request code p row.array row.slot row.from (given row.parts) read to) (meaning.wants code p row.array row.slot row.from (given row.parts) read local))
         (meaning.answer code p row.array row.slot row.from (given row.parts) read local to)) asking
 
-    pub request_none : (to : ℕ) → wants_at local (given row.parts) (tuples_of code p region) ≡ None → (remap_row code p row read).words_to local to ≡ None
-    request_none to none =
-        requests_are to ∙ ap (option_map (meaning.request code p row.array row.slot row.from (given row.parts) read to)) (by_wants none)
-
     pub request_some : (to : ℕ) (list : List Want) (words : List ℤ) → wants_at local (given row.parts) (tuples_of code p region) ≡ Some (map want_of list)
         → All (IsAtHome code (storage_of read)) list → words ≡ words_of read.rank (chosen_of to false list) → (remap_row code p row read).words_to local to ≡ Some words
     request_some to list words is homes words_are =
@@ -54,18 +46,6 @@ module _ (code : Tables) (p : ℕ) (row : RemapRow) (read : ArrayRow) (local : L
         ∙ (ap (option_map (meaning.request code p row.array row.slot row.from (given row.parts) read to)) (by_wants is)
         ∙ ap Some (ap (flat_map (λ (w : meaning.Want). take read.rank w.tuple)) (want.chosen_owned code (storage_of read) to list homes)
         ∙ (want.words_told read.rank (chosen_of to false list) ∙ sym words_are)))
-
-    pub request_held : (to : ℕ) → is_some ((remap_row code p row read).words_to local to)
-        ≡ is_some (meaning.wants code p row.array row.slot row.from (given row.parts) read local)
-    request_held to = ap is_some (requests_are to) ∙ mapped (meaning.wants code p row.array row.slot row.from (given row.parts) read local)
-      where
-        mapped : (found : Option (List meaning.Want)) → is_some (option_map (meaning.request code p row.array row.slot row.from (given row.parts) read to) found) ≡ is_some found
-        mapped None = refl
-        mapped (Some all) = refl
-
-    pub request_awaited : (from many : ℕ) → (remap_row code p row read).awaits local from many ≡ (many % read.rank == 0)
-    request_awaited from many =
-        ap (λ b. cond b (many % read.rank == 0) (many == length (answered code p row read local from))) asking
 
     pub request_taken : (from : ℕ) (words : List ℤ) (owned : Bool)
         → list_all (λ x. is_number (home code (storage_of read) x) p) (tuples_in (length words / read.rank) read.rank words) ≡ owned
@@ -80,32 +60,11 @@ module _ (code : Tables) (p : ℕ) (row : RemapRow) (read : ArrayRow) (local : L
         by true = refl
         by false = refl
 
-  module _ (answering : nat_le local.made (2 * (processors code - 1)) ≡ false) where
-    pub answer_is : (to rank : ℕ) (asked : List ℤ) (found : Option (List ℤ)) → asked ≡ words_from local.kept to → rank ≡ read.rank
-        → values_at local.stores row.from (tuples_in (length asked / rank) rank asked) ≡ found → (remap_row code p row read).words_to local to ≡ found
-    answer_is to rank asked found same ranked is =
-        ap (λ b. cond b (option_map (meaning.request code p row.array row.slot row.from (given row.parts) read to) (meaning.wants code p row.array row.slot row.from (given row.parts) read local))
-        (meaning.answer code p row.array row.slot row.from (given row.parts) read local to)) answering
-        ∙ (sym (ap (λ ws. values_at local.stores row.from (tuples_in (length ws / read.rank) read.rank ws)) same)
-        ∙ (sym (ap (λ n. values_at local.stores row.from (tuples_in (length asked / n) n asked)) ranked) ∙ is))
-
-    pub answer_awaited : (from many : ℕ) → (remap_row code p row read).awaits local from many ≡ (many == length (answered code p row read local from))
-    answer_awaited from many =
-        ap (λ b. cond b (many % read.rank == 0) (many == length (answered code p row read local from))) answering
-
-    pub answer_taken : (from : ℕ) (words : List ℤ) → (remap_row code p row read).taken local from words ≡ answer_written code p row read local from words
-    answer_taken from words =
-        ap (λ b. cond b (meaning.request_taken code p row.array row.slot row.from (given row.parts) read local from words
-        (meaning.owns_all code p row.array row.slot row.from (given row.parts) read words)) (answer_written code p row read local from words)) answering
-
   -- ---- what is written
   mapped : (put : Option (List Array)) (held : Bool) (stores : List Array) (next : Local) → put ≡ cond held (Some stores) None
       → next ≡ record local { stores = stores } → option_map (λ all. record local { stores = all }) put ≡ cond held (Some next) None
   mapped put true stores next is after = ap (option_map (λ all. record local { stores = all })) is ∙ ap Some (sym after)
   mapped put false stores next is after = ap (option_map (λ all. record local { stores = all })) is
-
-  pub alone_none : wants_at local (given row.parts) (tuples_of code p region) ≡ None → (remap_row code p row read).alone local ≡ None
-  alone_none none = ap (option_and_then (meaning.remap_own code p row.array row.slot row.from (given row.parts) read local)) (by_wants none)
 
   module _ (list : List Want) (is : wants_at local (given row.parts) (tuples_of code p region) ≡ Some (map want_of list)) (homes : All (IsAtHome code (storage_of read)) list) where
     alone_by : (remap_row code p row read).alone local
@@ -151,13 +110,6 @@ module _ (code : Tables) (p : ℕ) (row : RemapRow) (read : ArrayRow) (local : L
         ∙ (ap (λ ts. option_map (λ all. record local { stores = all }) (with_values row.array ts words local.stores))
         (want.indices_told (chosen_of from false list) ∙ sym tuples_are)
         ∙ mapped (with_values row.array tuples words local.stores) held stores next put after)
-
-  -- where nothing is wanted nothing is written
-  pub answer_none : (from : ℕ) (words : List ℤ) → wants_at local (given row.parts) (tuples_of code p region) ≡ None
-      → answer_written code p row read local from words ≡ Some local
-  answer_none from words none =
-      ap (λ found. meaning.written code p row.array row.slot row.from (given row.parts) read
-      (meaning.some_wants code p row.array row.slot row.from (given row.parts) read found from) words local) (by_wants none)
 
 -- ---- what is found, taken out of its option
 pub told : {X Y : Type 0} (f : X → Y) (all : Option Y) (found : Option X) (x : X) → all ≡ option_map f found → found ≡ Some x → all ≡ Some (f x)

@@ -1,5 +1,5 @@
 -- Tuples, their homes and their places.
-use Rattle.std.proofs.Common.{◌≡◌, ◌↔◌, refl, sym, ◌∙◌, ap, subst, arith, ℕ, zero, suc, ◌+◌, ◌-◌, ◌*◌, ◌/◌, ◌<◌, ◌≤◌, ◌⊎◌, inl, inr, Bool, true, false, Some, None, List, [], ◌∷◌, ◌++◌, length, get_or, drop, take, All, IsTrue, ℤ, pos, ◌-ℤ◌, ◌≤ℤ◌, unsigned_abs}
+use Rattle.std.proofs.Common.{◌≡◌, ◌↔◌, refl, sym, ◌∙◌, ap, subst, arith, ℕ, zero, suc, ◌+◌, ◌-◌, ◌*◌, ◌/◌, ◌<◌, ◌≤◌, ◌⊎◌, inl, inr, Bool, true, false, Some, None, List, [], ◌∷◌, ◌++◌, length, get_or, drop, take, All, IsTrue, ℤ, pos}
 use Rattle.std.specs.Prelude.{if◌then◌else◌}
 use Rattle.std.specs.List.{AllZip}
 use Rattle.std.proofs.Math.Seq.{get_or-append_seam}
@@ -7,16 +7,14 @@ use Rattle.std.proofs.lemmas.Bool.{cases_lt}
 use Rattle.std.proofs.lemmas.List.{get_or_append_left, length-append}
 use Rattle.std.proofs.lemmas.Option.{slice_get_within}
 use Rattle.zpl_region.specs.declared.dims.Dim.{Dim}
-use Rattle.zpl_region.specs.declared.dims.Dim.TheVariants.{Range}
 use Rattle.zpl_region.specs.declared.regions.Region.{Region}
 use Rattle.zpl_region.specs.Dim.{HasStep, IsCoordinate, IsDim}
-use Rattle.zpl_region.specs.Ends.{coordinate_count, first_of}
-use Rattle.zpl_region.specs.Hull.{IsBoxed}
+use Rattle.zpl_region.specs.Ends.{coordinate_count}
 use Rattle.zpl_region.specs.Region.{IsMember, IsRegion, members}
 use Rattle.zpl_region.specs.Tests.{is_member}
 use Rattle.zpl_region.proofs.DimLemmas.{Among-coordinates}
 use Rattle.zpl_region.proofs.EndLemmas.{some_coordinate}
-use Rattle.zpl_region.proofs.HullLemmas.{first-all_from, has_steps}
+use Rattle.zpl_region.proofs.HullLemmas.{has_steps}
 use Rattle.zpl_region.proofs.TestLemmas.{is_member_iff}
 use Rattle.zpl_arrays.specs.Array.{place_along, place_among}
 use Rattle.zpl_arrays.proofs.ArrayLemmas.{place_of_member, place_of_tuple}
@@ -85,13 +83,6 @@ at_home a array p t e = by_test (is_member (storage_of a array) (filled t)) refl
     by_test false m e = absurd (cc)
 
 -- ---- places in a box
-pub along_range : (lo hi step align x : ℤ) (n : ℕ) → IsBoxed (Range lo hi step align) → lo ≤ℤ x → pos n ≡ x -ℤ lo → n ≡ place_along (Range lo hi step align) x
-along_range lo hi step align x n boxed low is =
-    let s : step ≡ pos 1 = boxed.0 in
-    let a : align ≡ lo = boxed.1 in
-    let first : first_of (Range lo hi (pos 1) lo) ≡ lo = first-all_from lo hi in
-    let gap : unsigned_abs (x -ℤ lo) ≡ n = ap unsigned_abs (sym is) in
-    rw (s, a, first, gap) (omega arith)
 
 pub places_told : (dims : List Dim) (t : List ℤ) (e : Dim) (a m b n c : ℕ) → length dims ≡ 3 → length t ≡ 3 → a ≡ place_along (get_or dims 0 e) (get_or t 0 (pos 0)) → m ≡ coordinate_count (get_or dims 1 e)
     → b ≡ place_along (get_or dims 1 e) (get_or t 1 (pos 0)) → n ≡ coordinate_count (get_or dims 2 e) → c ≡ place_along (get_or dims 2 e) (get_or t 2 (pos 0)) → (a * m + b) * n + c ≡ place_among dims t

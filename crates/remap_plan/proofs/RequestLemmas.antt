@@ -3,7 +3,7 @@ use Rattle.std.proofs.Common.{◌≡◌, refl, sym, ◌∙◌, ap, arith, ℕ, s
 use Rattle.std.specs.Prelude.{◌==◌, if◌then◌else◌, is_some}
 use Rattle.std.specs.List.{filter, flat_map}
 use Rattle.std.proofs.lemmas.List.Elements.{filter-append, filter_agree}
-use Rattle.std.proofs.lemmas.List.{map-append}
+use Rattle.std.proofs.lemmas.List.{map-append, append-nil}
 use Rattle.std.proofs.lemmas.List.Concat.{flat_map-append}
 use Rattle.zpl_region.specs.Tests.{is_member}
 use Rattle.grid_layout.specs.Layout.{Arrangement, IsArrayBox, box_at, laid_out, no_box, owner_of}
@@ -41,9 +41,6 @@ asked_once a array wanted arrays below =
     (λ p h. filter_agree (is_home a array p) (λ t. has_home a array t && (owner t == p)) (home_parts a array p) ts ∙ filter_both (has_home a array) (λ t. owner t == p) ts)
 
 -- ---- one tuple more
-no_more : {X : Type 0} (xs : List X) → xs ++ [] ≡ xs
-no_more [] = refl
-no_more (x ∷ xs) = ap (λ l. x ∷ l) (no_more xs)
 
 grouped : (a b c : List ℤ) → (a ++ b) ++ c ≡ a ++ (b ++ c)
 grouped [] b c = refl
@@ -58,7 +55,7 @@ joined_more p k i xs =
     ∙ (flat_map-append (λ u. u) (filter p (first_tuples k i xs)) (filter p (t ∷ [])) ∙ ap (λ l. joined (filter p (first_tuples k i xs)) ++ l) (by_test (p t))))
   where
     by_test : (b : Bool) → joined (cond b (tuple_at k i xs ∷ []) []) ≡ (if b then tuple_at k i xs else [])
-    by_test true = no_more (tuple_at k i xs)
+    by_test true = append-nil (tuple_at k i xs)
     by_test false = refl
 
 pub asked_more : (p : List ℤ → Bool) (k i : ℕ) (xs old items new : List ℤ) → items ≡ old ++ joined (filter p (first_tuples k i xs)) → p (tuple_at k i xs) ≡ true → new ≡ items ++ tuple_at k i xs
@@ -72,7 +69,7 @@ pub asked_same : (p : List ℤ → Bool) (k i : ℕ) (xs old items new : List �
     → new ≡ old ++ joined (filter p (first_tuples k (i + 1) xs))
 asked_same p k i xs old items new so_far fails is =
     is ∙ (so_far
-    ∙ ap (λ l. old ++ l) (sym (joined_more p k i xs ∙ (ap (λ b. joined (filter p (first_tuples k i xs)) ++ (if b then tuple_at k i xs else [])) fails ∙ no_more (joined (filter p (first_tuples k i xs)))))))
+    ∙ ap (λ l. old ++ l) (sym (joined_more p k i xs ∙ (ap (λ b. joined (filter p (first_tuples k i xs)) ++ (if b then tuple_at k i xs else [])) fails ∙ append-nil (joined (filter p (first_tuples k i xs)))))))
 
 pub values_more : (f : List ℤ → ℤ) (k i : ℕ) (xs old items new : List ℤ) (value : ℤ) → items ≡ old ++ map f (first_tuples k i xs) → value ≡ f (tuple_at k i xs) → new ≡ items ++ (value ∷ [])
     → new ≡ old ++ map f (first_tuples k (i + 1) xs)

@@ -36,18 +36,6 @@ read_all array rows out all size k h is =
     let none : size - k ≡ 0 = omega arith in
     sym (append-nil out) ∙ (ap (λ n. out ++ remapped_from array rows size k n) (sym none) ∙ is)
 
-pub placed_more : (storage : Region) (rows : List ℤ) (size k : ℕ) (kept : List Bool) → k < length kept → placed_if (get_or kept k false) storage (target_in rows size k) ≡ true
-    → all_placed_from storage rows size k (drop k kept) ≡ all_placed_from storage rows size (k + 1) (drop (k + 1) kept)
-placed_more storage rows size k kept h e =
-    ap (all_placed_from storage rows size k) (drop-cons kept k false h)
-    ∙ (ap (λ b. b && all_placed_from storage rows size (suc k) (drop (suc k) kept)) e
-    ∙ ap (λ n. all_placed_from storage rows size n (drop n kept)) (sym (add-one k)))
-
-pub placed_not : (storage : Region) (rows : List ℤ) (size k : ℕ) (kept : List Bool) → k < length kept → placed_if (get_or kept k false) storage (target_in rows size k) ≡ false
-    → all_placed_from storage rows size k (drop k kept) ≡ false
-placed_not storage rows size k kept h e =
-    ap (all_placed_from storage rows size k) (drop-cons kept k false h) ∙ ap (λ b. b && all_placed_from storage rows size (suc k) (drop (suc k) kept)) e
-
 -- ---- rows of functions
 
 abbrev rows_of : List (List ℤ → ℤ) → List (List ℤ) → List ℤ

@@ -1,7 +1,6 @@
 -- Texts as programs have them.
-use Rattle.std.proofs.Common.{◌≡◌, ℕ, zero, suc, ◌<◌, List, [], ◌∷◌, map, Option, Some, None, length, get_or, slice_get, refl, sym, ◌∙◌, ap, ap₂, subst, arith}
+use Rattle.std.proofs.Common.{◌≡◌, ℕ, zero, suc, ◌<◌, List, [], ◌∷◌, map, Some, None, length, get_or, slice_get, refl, sym, ◌∙◌, ap, ap₂, subst, arith}
 use Rattle.std.specs.List.{filter_map}
-use Rattle.std.specs.Option.{unwrap_or}
 use Rattle.zpl_tree.specs.View.{syntax_of}
 use Rattle.text_walk.specs.of_zpl_names.Shapes.{Shapes}
 use Rattle.text_walk.specs.of_zpl_names.Declared.{routines_of, routine_named}
@@ -11,13 +10,9 @@ use Rattle.text_walk.specs.of_zpl_names.Reached.{calls_at, calls_of, sites_at, s
 use Rattle.routine_walks.specs.declared.texts.Routine.{Routine}
 use Rattle.routine_walks.specs.declared.texts.Text.{Text}
 use Rattle.routine_walks.specs.Texts.{IsText, names_in, names_of, routine_of, sites_over}
-use Rattle.routine_walks.specs.Numbers.{node_of, number_of, number_or}
+use Rattle.routine_walks.specs.Numbers.{node_of, number_of}
 use Rattle.routine_walks.proofs.NodeLemmas.{at_number, found-at, found-node, number-within, texts_of}
 use Rattle.routine_walks.proofs.NumberLemmas.{texts-are}
-
-pub unwrapped : (o : Option ℕ) (size : ℕ) → unwrap_or o size ≡ number_or size o
-unwrapped None size = refl
-unwrapped (Some number) size = refl
 
 -- the names of a text's procedures
 pub texts-in : (text : Text) → IsText text →

@@ -49,9 +49,6 @@ module _ (count : ℕ) (children : ℕ → List ℕ)
       (λ i d inside. let both = above p below i d inside in steady k _ both.1
       (omega (arith, both.0, enough)))
 
-  pub sum_of : ℕ → ℤ
-  sum_of p = sum_at count p
-
   pub sum_is : (p : ℕ) → p < count → fold (λ v c. join v (sum_at count c)) (own p) (children p)
       ≡ sum_at count p
   sum_is p below = steady count p below (omega arith)

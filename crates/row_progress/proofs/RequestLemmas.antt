@@ -31,17 +31,15 @@ use Rattle.node_local.specs.declared.standings.Kept.{Kept}
 use Rattle.row_turn.specs.declared.answers.Receipt.{Receipt}
 use Rattle.row_turn.specs.declared.answers.Receipt.TheVariants as receipt
 use Rattle.row_turn.specs.Own.{StaysSo, fed_of}
-use Rattle.row_turn.specs.Placed.{IsAtRow}
 use Rattle.row_turn.specs.Together.{IsTogether, OfRow}
 use Rattle.row_turn.proofs.RecordLemmas.{is_row}
 use Rattle.grid_save.specs.Reads.{BeginsIn, BeginsWords, IsFar, IsUnder, MayBegin, MayKeep, MayStand, with_kept}
-use Rattle.row_progress.proofs.KeepLemmas.{IsLoop, IsPlain, asks, begins_next, far_next, keeps_next, outside_too, plain_or_loop, stand_next}
+use Rattle.row_progress.proofs.KeepLemmas.{IsLoop, IsPlain, begins_next, far_next, keeps_next, outside_too, plain_or_loop, stand_next}
 use Rattle.row_progress.specs.Begun.{IsBegun, stands}
 use Rattle.row_progress.specs.Kept.{AreProcessors, EachBelow, is_part}
 use Rattle.row_progress.specs.May.{IsRefused, froms_of, keeping_of}
 use Rattle.row_progress.specs.Next.{IsNext}
-use Rattle.row_progress.proofs.WalkLemmas.{Under-zero, along, along_at}
-use Rattle.row_progress.specs.Walk.{IsAtStart, turned}
+use Rattle.row_progress.specs.Walk.{IsAtStart}
 use Rattle.row_progress.specs.declared.progress.Progress.{Progress}
 use Rattle.row_progress.specs.declared.kinds.Keeping.TheVariants.{Requests}
 
@@ -190,19 +188,8 @@ module _ (code : Tables) (p : ℕ) (w : Workplace) (row : Instr) (start : IsAtSt
   for_it : (P : Collective → Type 0) → P the_row.0 → OfRow code p row P
   for_it P one = subst (λ o. IfSome o P) (sym the_row.1) one
 
-  pub at_row : IsAtRow code p w row
-  at_row =
-      subst (λ v. IsAtRow code p v row) (ap (λ n. turned w n) (sym start.begun.fresh.made))
-      (along_at code p (turned w 0) row (asks row is) (along code p w row start 0 (Under-zero code p w row start)))
-
   abbrev Fed : ℕ → List ℤ → Receipt → Local → Collective → Type 0
   Fed from words answer next c = fed_by c w.local from (record { tag = 2 * w.local.at + 1; words = words }) ≡ fed_of answer next
-
-  pub no_words : (from : ℕ) (words : List ℤ) → words ≡ [] → OfRow code p row (λ c. IsTrue false ↔ IsRequest c w.local (from, words))
-  no_words from words none = for_it (λ c. IsTrue false ↔ IsRequest c w.local (from, words)) (
-    λ no. (let never : false ≡ true = no in cc),
-    λ request. absurd (omega (arith, request.0, ap length none)),
-  )
 
   pub answered : (from : ℕ) (words : List ℤ) (answer : Receipt) (next : Local) (b : Bool) → (b ≡ true → answer ≡ receipt.Accepted)
       → (b ≡ false → IsRefused answer) → 0 < length words → OfRow code p row (Fed from words answer next)
@@ -259,9 +246,6 @@ module _ (code : Tables) (p : ℕ) (w : Workplace) (row : Instr) (start : IsAtSt
   -- ---- one request after another
   abbrev pub Left : List Kept → ℕ → Collective → Type 0
   Left kept i c = All (IsRequest c w.local) (drop i (map entry_of kept)) ↔ All (IsRequest c w.local) (map entry_of kept)
-
-  pub all_left : (kept : List Kept) → OfRow code p row (Left kept 0)
-  all_left kept = for_it (Left kept 0) (λ h. h, λ h. h)
 
   module _ (kept : List Kept) (i : ℕ) (e : Kept) (there : i < length kept) (same : e ≡ get_or kept i e) where
     split : drop i (map entry_of kept) ≡ entry_of e ∷ drop (i + 1) (map entry_of kept)
@@ -442,9 +426,6 @@ found_not kept i e q there same other rest =
     ap (λ xs. is_part xs rest) (split_froms kept i e there same)
     ∙ sym (ap (λ xs. is_part xs (q ∷ rest)) (split_froms kept i e there same)
     ∙ ap (λ b. cond b (is_part (drop (i + 1) (froms_of kept)) rest) (is_part (e.from ∷ drop (i + 1) (froms_of kept)) rest)) (ne_eqb e.from q other))
-
-pub found_all : (kept : List Kept) (i q : ℕ) → i ≡ length kept → (rest : List ℕ) → is_part (drop i (froms_of kept)) rest ≡ is_part (drop i (froms_of kept)) (q ∷ rest)
-found_all kept i q is rest = ap (λ xs. is_part xs rest) (none_over kept i is) ∙ sym (ap (λ xs. is_part xs (q ∷ rest)) (none_over kept i is))
 
 pub another : (list : List ℕ) (first i q : ℕ) (b : Bool) (rest done : List ℕ) → slice_get list i ≡ Some q → i < first → ((ys : List ℕ) → is_part rest ys ≡ is_part done (q ∷ ys))
     → is_part done (drop i (take first list)) ≡ b → is_part rest (drop (i + 1) (take first list)) ≡ b

@@ -1,9 +1,7 @@
 -- Senders in ascending order, turn by turn.
-use Rattle.std.proofs.Common.{◌≡◌, ℕ, zero, suc, ◌+◌, ◌<◌, ◌≤◌, Bool, true, false, cond, nat_lt, List, [], ◌∷◌, ◌++◌, length, take, drop, get_or, refl, sym, ap, ◌∙◌, subst, arith, append_assoc, add-one}
-use Rattle.std.specs.Prelude.{Some, slice_get, insert}
+use Rattle.std.proofs.Common.{◌≡◌, ℕ, zero, suc, ◌+◌, ◌<◌, Bool, true, false, cond, nat_lt, List, [], ◌∷◌, ◌++◌, length, take, get_or, refl, sym, ap, ◌∙◌, subst, arith, append_assoc}
+use Rattle.std.specs.Prelude.{Some, slice_get}
 use Rattle.std.specs.Option.{IfSome}
-use Rattle.std.proofs.Math.Seq.{take-suc, drop-cons}
-use Rattle.std.proofs.lemmas.Bool.{lt-ltb, le-ltb}
 use Rattle.std.proofs.lemmas.List.Sums.{fold-append}
 use Rattle.node_form.specs.declared.instructions.Instr.{Instr}
 use Rattle.node_form.specs.declared.tables.Tables.{Tables}
@@ -19,29 +17,6 @@ use Rattle.row_progress.proofs.StageLemmas.{GoesOn}
 use Rattle.row_progress.proofs.WalkLemmas.{same_here, step}
 use Rattle.row_progress.specs.Kept.{AreProcessors, EachBelow, with_sender}
 use Rattle.row_progress.specs.Walk.{IsAtStart, turned}
-
--- ---- a number in its place
-module _ (numbers : List ℕ) (n : ℕ) where
-  pub place_here : (i d : ℕ) → i < length numbers → n < get_or numbers i d → placed numbers n ≡ take i numbers ++ placed (drop i numbers) n
-      → placed numbers n ≡ insert numbers i n
-  place_here i d there less so =
-      let here = drop-cons numbers i d there in
-      so ∙ ap (λ rest. take i numbers ++ rest)
-      (ap (λ xs. placed xs n) here
-      ∙ (ap (λ b. cond b (n ∷ (get_or numbers i d ∷ drop (suc i) numbers)) (get_or numbers i d ∷ placed (drop (suc i) numbers) n)) (lt-ltb n (get_or numbers i d) less)
-      ∙ ap (λ rest. n ∷ rest) (sym here)))
-
-  pub place_there : (i d : ℕ) → i < length numbers → get_or numbers i d ≤ n → placed numbers n ≡ take i numbers ++ placed (drop i numbers) n
-      → placed numbers n ≡ take (i + 1) numbers ++ placed (drop (i + 1) numbers) n
-  place_there i d there more so =
-      let here = drop-cons numbers i d there in
-      let next : i + 1 ≡ suc i = add-one i in
-      so ∙ (ap (λ rest. take i numbers ++ rest)
-      (ap (λ xs. placed xs n) here
-      ∙ ap (λ b. cond b (n ∷ (get_or numbers i d ∷ drop (suc i) numbers)) (get_or numbers i d ∷ placed (drop (suc i) numbers) n)) (le-ltb n (get_or numbers i d) more))
-      ∙ (sym (append_assoc (take i numbers) (get_or numbers i d ∷ []) (placed (drop (suc i) numbers) n))
-      ∙ (ap (λ xs. xs ++ placed (drop (suc i) numbers) n) (sym (take-suc numbers i d there))
-      ∙ ap (λ k. take k numbers ++ placed (drop k numbers) n) (sym next))))
 
 -- ---- processors
 each_placed : (count : ℕ) (numbers : List ℕ) (n : ℕ) → EachBelow count numbers → n < count → EachBelow count (placed numbers n)
@@ -86,9 +61,6 @@ module _ (code : Tables) (p : ℕ) (w : Workplace) (row : Instr) (start : IsAtSt
   -- the senders of so many turns
   abbrev pub Gathered : ℕ → List ℕ → Type 0
   Gathered k numbers = OfRow code p row (λ c. numbers ≡ ascending (senders (take k (c.stages w.local))))
-
-  pub none_yet : Gathered 0 []
-  none_yet = let r = is_row code p row start.together start.fits in subst (λ o. IfSome o (λ c. [] ≡ ascending (senders (take 0 (c.stages w.local))))) (sym r.is) refl
 
   pub less_under : (k most : ℕ) → k < most → OfRow code p row (λ c. most < length (c.stages w.local)) → OfRow code p row (λ c. k < length (c.stages w.local))
   less_under k most less under =

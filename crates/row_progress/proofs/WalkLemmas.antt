@@ -1,118 +1,29 @@
 -- Steps along a row.
-use Rattle.std.proofs.Common.{◌≡◌, ℕ, ◌+◌, ◌-◌, ◌<◌, List, [], length, map, take, refl, sym, ap, ◌∙◌, subst, arith, true, false}
-use Rattle.std.specs.Prelude.{Option, Some, None, IsSome, IsTrue, All, slice_get, ⊤, ◌↔◌}
+use Rattle.std.proofs.Common.{◌≡◌, ℕ, ◌+◌, ◌-◌, ◌<◌, [], length, refl, sym, ap, ◌∙◌, subst, arith, true, false}
+use Rattle.std.specs.Prelude.{Option, Some, None, IsTrue, slice_get, ◌↔◌}
 use Rattle.std.specs.List.{filter_map}
 use Rattle.std.specs.Option.{IfSome, option_map}
-use Rattle.std.proofs.lemmas.List.Elements.{All-nil}
-use Rattle.node_form.specs.of_zpl_nums.declared.ends.End.{End}
 use Rattle.node_form.specs.declared.instructions.Instr.{Instr}
 use Rattle.node_form.specs.declared.instructions.Instr.TheVariants as instr
 use Rattle.node_form.specs.declared.tables.Tables.{Tables}
-use Rattle.grid_meaning.specs.Collective.{Collective, Stage, TakesFrom, Last, Use, AtOnce, InLast, Asking, others, stage_of}
+use Rattle.grid_meaning.specs.Collective.{Collective, Stage, TakesFrom, Last, stage_of}
 use Rattle.grid_meaning.specs.Exchange.{finished, started}
 use Rattle.grid_meaning.specs.Local.{Local, processors}
 use Rattle.grid_meaning.specs.Remap.{remapped}
-use Rattle.grid_meaning.specs.Rows.{collective}
-use Rattle.grid_meaning.specs.State.{IsAt, IsIn, IsLocal, IsOutside, IsPart, IsRequest, KeepsWords}
 use Rattle.node_local.specs.Workplace.{Workplace}
 use Rattle.node_stages.specs.Stage.{staged}
 use Rattle.node_stages.specs.declared.stages.Stage as told
 use Rattle.node_stages.specs.declared.stages.Stage.TheVariants as stages
 use Rattle.row_turn.proofs.RecordLemmas.{is_row, of_row}
-use Rattle.row_turn.specs.Placed.{IsAtRow}
 use Rattle.row_turn.specs.Together.{IsTogether, OfRow}
-use Rattle.row_progress.proofs.StageLemmas.{EndsOnce, GoesOn, begins as some, goes_on, row_ends}
-use Rattle.row_progress.specs.Walk.{IsAlong, IsAtStart, IsNoKeeper, turned}
+use Rattle.row_progress.proofs.StageLemmas.{GoesOn, goes_on, row_ends}
+use Rattle.row_progress.specs.Walk.{IsAlong, IsAtStart, turned}
 
 -- ---- rows
-abbrev pub IsNotInLast : Use → Type 0
-IsNotInLast AtOnce = ⊤
-IsNotInLast InLast = ⊥
-IsNotInLast Asking = ⊤
 
 found : {X : Type 0} (o : Option X) (row : X → Collective) (holds : Collective → Type 0) → ((x : X) → holds (row x)) → IfSome (option_map row o) holds
 found None row holds all = tt
 found (Some x) row holds all = all x
-
-pub no_keeper : (code : Tables) (p : ℕ) (row : Instr) → IsNoKeeper row → OfRow code p row (λ c. IsNotInLast c.use_of_words)
-no_keeper code p (instr.Start exchange) is =
-    found (slice_get code.exchanges exchange) (started code p exchange) (λ c. IsNotInLast c.use_of_words) (λ items. tt)
-no_keeper code p (instr.Finish exchange) is =
-    found (slice_get code.exchanges exchange) (finished code p exchange) (λ c. IsNotInLast c.use_of_words) (λ items. tt)
-no_keeper code p (instr.Edge kind array slot shift) is = tt
-no_keeper code p (instr.Flood array target from source) is = tt
-no_keeper code p (instr.Part array target f from source) is = tt
-no_keeper code p (instr.Remap array slot from parts) is =
-    found (slice_get code.arrays from) (remapped code p array slot from (filter_map (λ part. part) parts)) (λ c. IsNotInLast c.use_of_words) (λ read. tt)
-no_keeper code p row is = absurd is
-
-pub keeps_none : (code : Tables) (p : ℕ) (kind : Use) (row : Collective) (local : Local) → IsNotInLast kind → local.kept ≡ [] → KeepsWords code p kind row local
-keeps_none code p AtOnce row local is none = none
-keeps_none code p InLast row local is none = absurd is
-keeps_none code p Asking row local is none = (
-  subst (λ kept. IsPart (map (λ entry. entry.0) kept) (take (local.made - processors code) (others code p))) (sym none) tt,
-  subst (All (IsRequest row (record local { made = 0 }))) (sym none) (All-nil (IsRequest row (record local { made = 0 }))),
-)
-
--- where a processor may be in a row, it may be at it
-in_row : (code : Tables) (p : ℕ) (row : Instr) (local : Local) → IsTogether row → IsOutside local → IsIn code p (collective code p row) local
-    → IsAt code p local (Some row)
-in_row code p (instr.Start exchange) local is outside inside = (outside, inside)
-in_row code p (instr.Finish exchange) local is outside inside = (outside, inside)
-in_row code p (instr.Edge kind array slot shift) local is outside inside = (outside, inside)
-in_row code p (instr.Flood array target from source) local is outside inside = (outside, inside)
-in_row code p (instr.Part array target f from source) local is outside inside = (outside, inside)
-in_row code p (instr.Scan array slot f along from mask) local is outside inside = (outside, inside)
-in_row code p (instr.Gather truth array slot) local is outside inside = (outside, inside)
-in_row code p (instr.Remap array slot from parts) local is outside inside = (outside, inside)
-in_row code p (instr.Vote group) local is outside inside = (outside, inside)
-in_row code p (instr.TreeVote group) local is outside inside = (outside, inside)
-in_row code p (instr.Fold scalar f) local is outside inside = (outside, inside)
-in_row code p (instr.TreeFold scalar f) local is outside inside = (outside, inside)
-in_row code p row local is outside inside = absurd is
-
--- ---- a processor that is so many turns along, in a row that keeps no words until its end
-pub along_at : (code : Tables) (p : ℕ) (w : Workplace) (row : Instr) → IsNoKeeper row → IsAlong code p w row → IsAtRow code p w row
-along_at code p w row none along = record {
-  ready = record {
-    state = record {
-      number = state.number;
-      parts = record {
-        scalars = state.parts.scalars;
-        cells = state.parts.cells;
-        slots = state.parts.slots;
-        stores = state.parts.stores;
-        flag = state.parts.flag;
-      };
-      at = state.at;
-      running = λ no. subst (IsAt code p w.local) (sym along.start.here) (in_row code p row w.local along.start.together outside inside);
-      over = λ some. absurd (ended w.local.ended along.start.running some);
-    };
-    room = record { exprs = along.start.begun.ready.room.exprs; groups = along.start.begun.ready.room.groups };
-    quiet = along.start.begun.ready.quiet;
-  };
-  running = along.start.running;
-  here = along.start.here;
-  fits = along.start.fits;
-}
-  where
-    state : IsLocal code p (turned w 0).local
-    state = along.start.begun.ready.state
-
-    outside : IsOutside w.local
-    outside = record { index = along.start.begun.outside.index; member = along.start.begun.outside.member }
-
-    ended : (o : Option End) → o ≡ None → IsSome o → ⊥
-    ended None same is = cc
-    ended (Some end) same is = cc
-
-    inside : IsIn code p (collective code p row) w.local
-    inside =
-        let r = is_row code p row along.start.together along.start.fits in
-        subst (λ o. IsIn code p o w.local) (sym r.is) (
-          of_row code p row (λ c. w.local.made < length (c.stages w.local)) r along.under,
-          keeps_none code p r.together.use_of_words r.together w.local (of_row code p row (λ c. IsNotInLast c.use_of_words) r (no_keeper code p row none)) along.start.begun.fresh.kept,
-        )
 
 -- ---- what a row's turns are doesn't depend on how many were made
 found_same : {X : Type 0} (o : Option X) (row : X → Collective) (one other : Local) → ((x : X) → (row x).stages one ≡ (row x).stages other)
@@ -161,15 +72,6 @@ module _ (code : Tables) (p : ℕ) (w : Workplace) (row : Instr) (start : IsAtSt
         let below = of_row code p row (λ c. k < length (c.stages w.local)) r under in
         subst (λ o. IfSome o (λ c. k < length (c.stages (turned w k).local))) (sym r.is) (subst (λ s. k < length s) (sym same) below);
   }
-
-  pub Under-zero : Under 0
-  Under-zero =
-      let r = is_row code p row start.together start.fits in
-      let once = row_ends code p w.local start.begun.ready.state.number row r.together r.is in
-      subst (λ o. IfSome o (λ c. 0 < length (c.stages w.local))) (sym r.is) (begun_some (r.together.stages w.local) once)
-    where
-      begun_some : (stages : List Stage) → EndsOnce (processors code) stages → 0 < length stages
-      begun_some stages once = some (processors code) stages once.steps
 
   -- what the stage of a turn says of the next one
   pub step : (k : ℕ) (stage : Stage) → OfRow code p row (λ c. stage_of c (turned w k).local ≡ Some stage)

@@ -1,5 +1,5 @@
 -- The words of a row that keeps them until its last turn.
-use Rattle.std.proofs.Common.{◌≡◌, ℕ, ◌<◌, Bool, true, false, List, length, map, take, sym, ◌∙◌, subst, arith, ℤ}
+use Rattle.std.proofs.Common.{◌≡◌, ℕ, Bool, true, false, List, length, map, take, sym, ◌∙◌, subst, ℤ}
 use Rattle.std.specs.Prelude.{Some, IsTrue, is_some, ◌↔◌}
 use Rattle.std.specs.Option.{IfSome}
 use Rattle.std.proofs.lemmas.List.{length-map}
@@ -16,12 +16,12 @@ use Rattle.node_local.specs.declared.standings.Kept.{Kept}
 use Rattle.grid_save.specs.Reads.{IsFar, MayBegin, MayKeep, MayStand}
 use Rattle.row_turn.proofs.RecordLemmas.{is_row}
 use Rattle.row_turn.specs.Together.{IsTogether, OfRow}
-use Rattle.row_progress.proofs.KeepLemmas.{begin_words, keep_words, not_as_many, too_many, under_keeper, words_begin, words_keep}
+use Rattle.row_progress.proofs.KeepLemmas.{begin_words, keep_words, words_begin, words_keep}
 use Rattle.row_progress.specs.Begun.{IsBegun, stands}
 use Rattle.row_progress.specs.Kept.{are_front}
 use Rattle.row_progress.specs.May.{AreWords, keeping_of}
 use Rattle.row_progress.specs.Next.{IsNext}
-use Rattle.row_progress.specs.Walk.{IsAtStart, IsKeeper}
+use Rattle.row_progress.specs.Walk.{IsKeeper}
 use Rattle.row_progress.specs.declared.kinds.Keeping.TheVariants.{Words}
 use Rattle.row_progress.specs.declared.progress.Progress.{Progress}
 
@@ -38,22 +38,10 @@ is_kept (instr.Fold scalar f) is = record { keeper = tt; together = tt }
 is_kept (instr.TreeFold scalar f) is = record { keeper = tt; together = tt }
 is_kept row is = cc
 
-pub keeper_is : (row : Instr) → keeping_of row ≡ Words → IsKeeper row
-keeper_is row is = let both = is_kept row is in both.keeper
-
 module _ (code : Tables) (p : ℕ) (w : Workplace) (far : Progress) (row : Instr) (begun : IsBegun code p w) (next : IsNext code w.local row) (fits : FitsInstr code row)
     (is : keeping_of row ≡ Words) where
-  pub start_of_words : IsAtStart code p w row
-  start_of_words =
-      let both = is_kept row is in record { begun = begun; running = next.running; here = next.here; fits = fits; together = both.together }
-
   known : (c : Collective) × (collective code p row ≡ Some c)
   known = let both = is_kept row is in let r = is_row code p row both.together fits in (r.together, r.is)
-
-  pub under_words : (words : List (ℕ × List ℤ)) → IsFar code p (stands w.local far) words (is_some w.local.ended)
-      → OfRow code p row (λ c. far.made < length (c.stages w.local))
-  under_words words far_is =
-      subst (λ o. IfSome o (λ c. far.made < length (c.stages w.local))) (sym known.1) (under_keeper code p w.local far words row known.0 next is known.1 far_is)
 
   module _ (list : List ℕ) (kept : List Kept)
       (same : OfRow code p row (λ c. list ≡ ascending (senders (take far.made (c.stages w.local))))) where
@@ -72,11 +60,6 @@ module _ (code : Tables) (p : ℕ) (w : Workplace) (far : Progress) (row : Instr
     abbrev Tests : Bool → Bool → Collective → Type 0
     Tests all b c = IsTrue b ↔ AreWords all c w.local far.made entries
 
-    pub begins_too_many : length list < length kept → IsTrue false ↔ MayBegin code p (stands w.local far) entries
-    begins_too_many more =
-        words_begin code p w.local far entries row known.0 false next is known.1
-        (of_known (Tests false false) (too_many code p row w.local far.made list entries together known (omega (arith, more, many)) same))
-
     pub begins_by_front : (b : Bool) → OfRow code p row (λ c. are_front (c.awaits w.local) list entries ≡ b)
         → IsTrue b ↔ MayBegin code p (stands w.local far) entries
     begins_by_front b test =
@@ -84,11 +67,6 @@ module _ (code : Tables) (p : ℕ) (w : Workplace) (far : Progress) (row : Instr
         (of_known (Tests false b) (begin_words code p row w.local far.made list entries together known b same test))
 
     module _ (may : MayStand code (stands w.local far) (is_some w.local.ended)) (far_is : IsFar code p (stands w.local far) entries (is_some w.local.ended)) where
-      pub keeps_not_as_many : (length list ≡ length kept → ⊥) → IsTrue false ↔ MayKeep code p (stands w.local far) entries
-      keeps_not_as_many other =
-          words_keep code p w.local far entries row known.0 false next is known.1 may far_is
-          (of_known (Tests true false) (not_as_many code p row w.local far.made list entries together known (λ e. other (e ∙ many)) same))
-
       pub keeps_by_front : (b : Bool) → length list ≡ length kept → OfRow code p row (λ c. are_front (c.awaits w.local) list entries ≡ b)
           → IsTrue b ↔ MayKeep code p (stands w.local far) entries
       keeps_by_front b as_many test =

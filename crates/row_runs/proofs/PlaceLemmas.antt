@@ -1,19 +1,13 @@
 -- Where rows stand in code.
-use Rattle.std.proofs.Common.{◌≡◌, ℕ, zero, suc, ◌+◌, List, [], ◌∷◌, ◌++◌, length, map, drop, sym}
+use Rattle.std.proofs.Common.{◌≡◌, ℕ, suc, ◌+◌, List, [], ◌∷◌, ◌++◌, length, map, drop, sym}
 use Rattle.std.proofs.Common.{ap, ◌∙◌}
 use Rattle.std.proofs.Common.{refl, subst, arith, append_assoc, length-append}
 use Rattle.std.proofs.Math.Seq.{drop-append_seam}
+use Rattle.std.proofs.lemmas.List.{drop-drop}
 use Rattle.row_runs.specs.Code.{CodeRow, Straight, Jump, Unless}
 use Rattle.row_runs.specs.Structured.{Piece, Rows, Then, When, Choose, While, Repeat, size}
 use Rattle.row_runs.specs.Structured.{flattened}
 use Rattle.row_runs.specs.Structured.{StandsAt}
-
-drop_drop : {A : Type 0} (i k : ℕ) (xs : List A) → drop i (drop k xs) ≡ drop (k + i) xs
-drop_drop i zero xs = let e : i ≡ zero + i = omega arith in ap (λ n. drop n xs) e
-drop_drop zero (suc k) [] = let e : suc k + zero ≡ suc k = omega arith in rw e refl
-drop_drop (suc i) (suc k) [] = let e : suc k + suc i ≡ suc (k + suc i) = omega arith in rw e refl
-drop_drop i (suc k) (x ∷ xs) =
-    let e : suc k + i ≡ suc (k + i) = omega arith in rw e (drop_drop i k xs)
 
 module _ {Row : Type 0} (code : List Row) where
   pub has_front : (k : ℕ) (xs ys : List Row) → StandsAt code k (xs ++ ys) → StandsAt code k xs
@@ -24,7 +18,7 @@ module _ {Row : Type 0} (code : List Row) where
       → drop to code ≡ rest
   past k to xs rest e h =
       subst (λ n. drop n code ≡ rest) e
-      (sym (drop_drop (length xs) k code) ∙ ap (drop (length xs)) h ∙ drop-append_seam xs rest)
+      (sym (drop-drop (length xs) k code) ∙ ap (drop (length xs)) h ∙ drop-append_seam xs rest)
 
   pub has_back : (k to : ℕ) (xs ys : List Row) → k + length xs ≡ to → StandsAt code k (xs ++ ys)
       → StandsAt code to ys

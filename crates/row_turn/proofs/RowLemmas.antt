@@ -1,9 +1,9 @@
 -- What rows' records say, by the regions in their slots and the items of their exchanges.
-use Rattle.std.proofs.Common.{◌≡◌, ◌≢◌, ℕ, zero, suc, ◌+◌, ◌-◌, ◌*◌, ◌<◌, ◌≤◌, ◌==◌, Bool, true, false, cond, List, [], ◌∷◌, get_or, length, map, refl, sym, ap, ◌∙◌, subst, ℤ, arith}
+use Rattle.std.proofs.Common.{◌≡◌, ◌≢◌, ℕ, zero, suc, ◌-◌, ◌*◌, ◌==◌, Bool, true, false, cond, List, [], ◌∷◌, get_or, length, map, refl, sym, ap, ◌∙◌, subst, ℤ, arith}
 use Rattle.std.specs.Prelude.{Option, Some, None, Result, Ok, Err, slice_get, All}
 use Rattle.std.specs.Option.{IfSome, option_map}
 use Rattle.std.specs.Result.{IfOk}
-use Rattle.std.proofs.lemmas.Bool.{eq-eqb, eqb-true, eqb-false, ne_eqb}
+use Rattle.std.proofs.lemmas.Bool.{eqb-true}
 use Rattle.zpl_nums.specs.declared.ends.Border.{Border}
 use Rattle.zpl_region.specs.declared.dims.Dim.{Dim}
 use Rattle.zpl_region.specs.declared.regions.Region.{Region}
@@ -51,21 +51,6 @@ pub gather_left : (code : Tables) (p : ℕ) (truth : Bool) (array slot : ℕ) (o
 gather_left code zero truth array slot old new other same = absurd (other refl)
 gather_left code (suc p) truth array slot old new other same =
     moves_by ((gathered code (suc p) truth array slot).last old.local) old new refl same
-
--- ---- tests that come out alike
-pub same_test : (a b c d : ℕ) → (a ≡ b → c ≡ d) → (c ≡ d → a ≡ b) → (a == b) ≡ (c == d)
-same_test a b c d to from = by (a == b) refl
-  where
-    by : (test : Bool) → (a == b) ≡ test → test ≡ (c == d)
-    by true is = sym (eq-eqb c d (to (eqb-true a b is)))
-    by false is = sym (ne_eqb c d (λ e. eqb-false a b is (from e)))
-
-pub left_of_sum : (left count rest : ℕ) (whole : Bool) → (left == count + rest) ≡ whole → count ≤ left → (left - count == rest) ≡ whole
-left_of_sum left count rest whole is le =
-    same_test (left - count) rest left (count + rest) (λ e. omega arith) (λ e. omega arith) ∙ is
-
-pub less_than_sum : (left count rest : ℕ) (whole : Bool) → (left == count + rest) ≡ whole → left < count → false ≡ whole
-less_than_sum left count rest whole is less = sym (ne_eqb left (count + rest) (λ e. omega arith)) ∙ is
 
 -- ---- how many tuples
 three_dims : (dims : List Dim) (a b c : Dim) → length dims ≡ 3 → dims ≡ get_or dims 0 a ∷ get_or dims 1 b ∷ get_or dims 2 c ∷ []

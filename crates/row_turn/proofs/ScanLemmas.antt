@@ -27,9 +27,6 @@ module _ (code : Tables) (p : ℕ) (row : Instr) (s : ScanRow) (is : row ≡ sca
   pub of_scan : (holds : Collective → Type 0) → holds (scan_row code p s) → OfRow code p row holds
   of_scan holds all = subst (λ r. OfRow code p r holds) (sym is) all
 
-  pub is_scan : (holds : Collective → Type 0) → OfRow code p row holds → holds (scan_row code p s)
-  is_scan holds all = subst (λ r. OfRow code p r holds) is all
-
   module _ (w : Workplace) (at : IsAtRow code p w row) where
     scan_at : IsAtRow code p w (scan_instr s)
     scan_at = subst (IsAtRow code p w) is at

@@ -1,6 +1,6 @@
 -- Stages by the turns that were made.
 use Rattle.std.proofs.Common.{◌≡◌, ℕ, ◌<◌, List, [], ◌∷◌, length, sym, ap, ◌∙◌, subst, ℤ}
-use Rattle.std.specs.Prelude.{Bool, true, false, Option, Some, slice_get, unwrap_or}
+use Rattle.std.specs.Prelude.{Bool, Option, Some, slice_get, unwrap_or}
 use Rattle.std.specs.Option.{IfSome, option_map}
 use Rattle.zpl_nums.specs.declared.ends.Border.{Border}
 use Rattle.zpl_region.specs.declared.regions.Region.{Region}
@@ -13,15 +13,14 @@ use Rattle.grid_meaning.specs.Gather.{gather_stages, gathered}
 use Rattle.grid_meaning.specs.Local.{Local}
 use Rattle.grid_meaning.specs.Owner.{region_in}
 use Rattle.grid_meaning.specs.Stored.{no_places}
-use Rattle.grid_meaning.specs.Collective.{Kin, agreeing_stages, folded, star, tree, voted}
+use Rattle.grid_meaning.specs.Collective.{Kin, folded, star, tree, voted}
 use Rattle.grid_meaning.specs.State.{IsIn}
 use Rattle.node_form.specs.declared.instructions.Instr.TheVariants as instr
 use Rattle.node_local.specs.Workplace.{Workplace}
 use Rattle.edge_messages.specs.of_node_stages.Slots.{at_slots}
-use Rattle.zpl_nums.specs.declared.folds.Fold.{Fold}
 use Rattle.row_turn.proofs.StandLemmas.{stands_at}
 use Rattle.row_turn.specs.Placed.{IsAtRow}
-use Rattle.row_turn.specs.Together.{IsTogether, OfRow, kin_over}
+use Rattle.row_turn.specs.Together.{IsTogether, OfRow}
 
 -- ---- by the list of stages, as code has it
 pub stage_by : (row : Collective) (local : Local) (list : List Stage) (made : ℕ) (stage : Stage) → row.stages local ≡ list
@@ -82,22 +81,6 @@ made_in_edge code p w kind array slot shift at = (stands_at code p w (instr.Edge
 pub made_in_gather : (code : Tables) (p : ℕ) (w : Workplace) (truth : Bool) (array slot : ℕ) → IsAtRow code p w (instr.Gather truth array slot)
     → w.local.made < length ((gathered code p truth array slot).stages w.local)
 made_in_gather code p w truth array slot at = (stands_at code p w (instr.Gather truth array slot) at).1.0
-
-pub made_in_vote : (code : Tables) (p : ℕ) (w : Workplace) (group : ℕ) → IsAtRow code p w (instr.Vote group)
-    → w.local.made < length (agreeing_stages (kin_over code p false))
-made_in_vote code p w group at = (stands_at code p w (instr.Vote group) at).1.0
-
-pub made_in_fold : (code : Tables) (p : ℕ) (w : Workplace) (scalar : ℕ) (f : Fold) → IsAtRow code p w (instr.Fold scalar f)
-    → w.local.made < length (agreeing_stages (kin_over code p false))
-made_in_fold code p w scalar f at = (stands_at code p w (instr.Fold scalar f) at).1.0
-
-pub made_in_tree_vote : (code : Tables) (p : ℕ) (w : Workplace) (group : ℕ) → IsAtRow code p w (instr.TreeVote group)
-    → w.local.made < length (agreeing_stages (kin_over code p true))
-made_in_tree_vote code p w group at = (stands_at code p w (instr.TreeVote group) at).1.0
-
-pub made_in_tree_fold : (code : Tables) (p : ℕ) (w : Workplace) (scalar : ℕ) (f : Fold) → IsAtRow code p w (instr.TreeFold scalar f)
-    → w.local.made < length (agreeing_stages (kin_over code p true))
-made_in_tree_fold code p w scalar f at = (stands_at code p w (instr.TreeFold scalar f) at).1.0
 
 -- ---- what holds of the row of an exchange
 pub of_start : (code : Tables) (p exchange : ℕ) (items : List Item) (holds : Collective → Type 0) → slice_get code.exchanges exchange ≡ Some items

@@ -14,10 +14,6 @@ use Rattle.row_turn.specs.Placed.{IsAtRow}
 pub stands_at : (code : Tables) (p : ℕ) (w : Workplace) (row : Instr) → IsAtRow code p w row → IsAt code p w.local (Some row)
 stands_at code p w row at = subst (IsAt code p w.local) at.here (at.ready.state.running at.running)
 
--- there is a row behind it, or the end of the code
-pub at_within : (code : Tables) (p : ℕ) (w : Workplace) (row : Instr) → IsAtRow code p w row → w.local.at < length code.code
-at_within code p w row at = slice_get_within code.code w.local.at row at.here
-
 -- ---- slots
 pub record IsThere (ranks : List ℕ) (slots : List Region) (slot : ℕ) (region : Region) : Type 0 where
   pub found : slice_get slots slot ≡ Some region

@@ -45,10 +45,6 @@ get_or-now seen [] k d e below = absurd (omega arith)
 get_or-now seen (w ∷ ws) zero d e below = refl
 get_or-now seen (w ∷ ws) (suc k) d e below = get_or-now seen ws k d e (omega arith)
 
-pub none_of : {X : Type 0} (xs : List X) → length xs ≡ 0 → xs ≡ []
-none_of [] h = refl
-none_of (x ∷ xs) h = absurd (omega arith)
-
 pub in_front : {W : Type 0} (seen : W → List ℕ) (words : List W) (front : List (List ℕ)) (back : List (List ℕ)) (w : List ℕ) (at : ℕ) →
     map seen words ≡ front ++ w ∷ back → at ≡ length front → map seen (take at words) ≡ front
 in_front seen words [] back w zero e same = refl

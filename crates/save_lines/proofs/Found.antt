@@ -1,9 +1,9 @@
 -- Words that are read one after another, each found in its own text.
 use Rattle.std.proofs.Common.{◌≡◌, ℕ, ◌+◌, ◌<◌, ◌≤◌, List, [], ◌∷◌, ◌++◌, length, take, get_or, map, ap, ◌∙◌, refl, arith}
 use Rattle.std.specs.Prelude.{All, Option, Some, None}
-use Rattle.std.proofs.lemmas.List.{take_all, length-map}
+use Rattle.std.proofs.lemmas.List.{take_all, length-map, take_more}
 use Rattle.std.proofs.lemmas.List.Elements.{All-get_or}
-use Rattle.listing_lines.proofs.Taken.{same_at, take-step}
+use Rattle.listing_lines.proofs.Taken.{same_at}
 
 -- if the words are those of some things, the first of these were taken
 abbrev pub AreTaken : {W X : Type 0} (Is : X → Type 0) (text_of : X → List ℕ) (seen : W → List ℕ) → List W → List X → ℕ → Type 0
@@ -19,7 +19,7 @@ module _ {W X : Type 0} (Is : X → Type 0) (text_of : X → List ℕ) (seen : W
       let at = same_at seen text_of words all k w x same below in
       let own = finds (get_or all k x) (All-get_or Is all k x at.0 are) at.1 in
       let is : y ≡ get_or all k x = cc in
-      rw (take-step all k x at.0, is, before all are same) refl
+      rw (take_more all k x at.0, is, before all are same) refl
 
   pub taken_none : (words : List W) (k : ℕ) → k < length words → Finds (get_or words k w) None →
       (all : List X) → All Is all → map seen words ≡ map text_of all → ⊥

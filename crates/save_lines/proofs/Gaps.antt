@@ -134,9 +134,6 @@ behind_print (Store dims values) is =
 behind_print (Kept from values) is = also (signed_decimal from) (number_words values) (number_prints from is.0) (numbers_print values is.1)
 behind_print (Msg to tag values) is = named (signed_decimal to) tag (number_words values) (number_prints to is.0) is.1 (numbers_print values is.2)
 
-pub words_print : (line : SavedLine) → IsSavedLine line → All Prints (words_of line)
-words_print line is = also (kind_text (kind_of line)) (words_behind line) (kind_prints (kind_of line)) (behind_print line is)
-
 -- ---- a line, cut at its spaces
 split_from : (word : List ℕ) (words : List (List ℕ)) → Prints word → All Prints words →
     slice_split (λ byte. byte == 32) (word ++ flat_map spaced words) ≡ word ∷ words

@@ -1,5 +1,5 @@
 -- Boxes by their sides.
-use Rattle.std.proofs.Common.{◌≡◌, ◌≢◌, ℕ, zero, suc, ◌+◌, ◌-◌, ◌*◌, ◌<◌, ◌≤◌, Bool, true, false, ◌&&◌, ℤ, pos, ◌≤ℤ◌, ◌<ℤ◌, ◌⊎◌, inl, inr, List, [], ◌∷◌, ◌++◌, length, map, take, drop, get_or, refl, sym, ◌∙◌, ap, subst, arith}
+use Rattle.std.proofs.Common.{◌≡◌, ◌≢◌, ℕ, zero, suc, ◌+◌, ◌-◌, ◌*◌, ◌<◌, ◌≤◌, Bool, true, false, ◌&&◌, ℤ, pos, ◌≤ℤ◌, ◌<ℤ◌, ◌⊎◌, inl, inr, List, [], ◌∷◌, ◌++◌, length, map, take, get_or, refl, sym, ◌∙◌, ap, subst, arith}
 use Rattle.std.specs.Prelude.{All, IsTrue, ◌↔◌, Option, Some, None, replicate}
 use Rattle.std.proofs.lemmas.Int.{ints, clamps}
 use Rattle.std.proofs.lemmas.List.{take-append-drop}
@@ -51,16 +51,9 @@ count_box : (d : Dim) (lo hi step align : ℤ) → d ≡ dim.Range lo hi step al
 count_box d lo hi step align is boxed =
     ap coordinate_count (is ∙ same_box lo hi step align (subst IsBoxed is boxed)) ∙ count-all_from lo hi
 
-pub some_ordered : (d : Dim) (lo hi step align : ℤ) → d ≡ dim.Range lo hi step align → IsBoxed d → lo ≤ℤ hi → 0 < coordinate_count d
-some_ordered d lo hi step align is boxed order =
-    omega (arith, ints, clamps, count_box d lo hi step align is boxed, pos-extent lo hi, order)
-
 pub ordered_some : (d : Dim) (lo hi step align : ℤ) → d ≡ dim.Range lo hi step align → IsBoxed d → 0 < coordinate_count d → lo ≤ℤ hi
 ordered_some d lo hi step align is boxed some =
     omega (arith, ints, clamps, count_box d lo hi step align is boxed, pos-extent lo hi, some)
-
-pub some_flood : (d : Dim) → d ≡ dim.Flood → 0 < coordinate_count d
-some_flood d is = subst (λ e. 0 < coordinate_count e) (sym is) (omega arith)
 
 -- ---- places of a temporary, in one dimension
 pub room_range : (row : ArrayDim) (a b c d low high : ℤ) (side : Dim) (lo hi step align : ℤ) → row ≡ array.Range a b c d → side ≡ dim.Range lo hi step align → IsBoxed side →
@@ -275,15 +268,6 @@ sides_told (suc rank) (side ∷ sides) rest n =
     let first = side_told side in
     let others = sides_told rank sides rest (omega arith) in
     cc
-
-pub box_padded : (rank : ℕ) (sides : List BoxDim) → length sides ≡ rank → rank ≤ 3 → IsPadded rank (box_with rank sides).dims
-box_padded rank sides n few = dropped rank sides n
-  where
-    dropped : (m : ℕ) (xs : List BoxDim) → length xs ≡ m → drop m (map side_of xs ++ replicate (3 - rank) padding) ≡ replicate (3 - rank) padding
-    dropped zero [] e = refl
-    dropped zero (x ∷ xs) e = absurd (omega arith)
-    dropped (suc m) [] e = absurd (omega arith)
-    dropped (suc m) (x ∷ xs) e = dropped m xs (omega arith)
 
 -- ---- one of the processors
 pub there : (code : Tables) (a : Arrangement) (p : ℕ) → a ≡ arrangement_of code → p < processors code → p < layout.processors_of a.grid

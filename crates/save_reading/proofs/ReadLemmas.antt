@@ -6,7 +6,7 @@ use Rattle.std.proofs.lemmas.List.Elements.{All-head, All-tail}
 use Rattle.node_form.specs.declared.tables.Tables.{Tables}
 use Rattle.grid_meaning.specs.Local.{Local}
 use Rattle.save_lines.specs.declared.lines.SavedLine.{SavedLine}
-use Rattle.grid_save.specs.Reads.{begins, Each, Over, More, EachBreaks, Here, Later, First, NoFirst, Run, Ends, GoesOn, RunBreaks, StopsHere, StopsLater, ReadsValues}
+use Rattle.grid_save.specs.Reads.{begins, Each, Over, More, EachBreaks, Here, Later, Run, Ends, GoesOn, RunBreaks, StopsHere, StopsLater, ReadsValues}
 use Rattle.save_reading.specs.declared.faults.StateFault.{StateFault}
 use Rattle.save_reading.specs.declared.faults.StateFault.TheVariants.{BadState, NoMemory}
 use Rattle.save_reading.specs.Fault.{IsNumber, FaultAt}
@@ -18,30 +18,6 @@ line_is P [] (suc at) line rest all split = absurd cc
 line_is P (first ∷ lines) zero line rest all split = let same : first ≡ line = cc in subst P same (All-head P first lines all)
 line_is P (first ∷ lines) (suc at) line rest all split = line_is P lines at line rest (All-tail P first lines all) split
 
--- ---- the first line
-pub first_is : {X : Type 0} (Is : SavedLine → X → Type 0) (lines : List SavedLine) (line : SavedLine) (rest : List SavedLine) (x : X) →
-    lines ≡ line ∷ rest → Is line x → First Is lines x rest
-first_is Is lines line rest x first is = record { line = line; first = first; is = is }
-
-pub first_none : {X : Type 0} (Is : SavedLine → X → Type 0) (lines : List SavedLine) (line : SavedLine) (rest : List SavedLine) →
-    lines ≡ line ∷ rest → ((x : X) → Is line x → ⊥) → NoFirst Is lines lines
-first_none {X} Is lines line rest first none = record {
-  none = λ x behind found.
-      let e = sym first in
-      let f = found.first in
-      let same : found.line ≡ line = cc in
-      none x (subst (λ (l : SavedLine). Is l x) same found.is);
-  here = refl_of lines;
-} where
-  refl_of : (l : List SavedLine) → l ≡ l
-  refl_of l = cc
-
-pub first_lacks : {X : Type 0} (Is : SavedLine → X → Type 0) (lines : List SavedLine) → lines ≡ [] → NoFirst Is lines lines
-first_lacks Is lines none = record {
-  none = λ x behind found. let f = found.first in absurd cc;
-  here = cc;
-}
-
 -- ---- rows, each with its lines: what the rows that are left make of all
 pub record Along {R X : Type 0} (Read : R → List SavedLine → X → List SavedLine → Type 0) (Breaks : R → List SavedLine → List SavedLine → Type 0)
     (rows : List R) (start : List SavedLine) (done : List X) (left : List R) (rest : List SavedLine) : Type 0 where
@@ -49,9 +25,6 @@ pub record Along {R X : Type 0} (Read : R → List SavedLine → X → List Save
   pub stops : (broken : List SavedLine) → EachBreaks Read Breaks left rest broken → EachBreaks Read Breaks rows start broken
 
 module _ {R X : Type 0} (Read : R → List SavedLine → X → List SavedLine → Type 0) (Breaks : R → List SavedLine → List SavedLine → Type 0) where
-  pub along_start : (rows : List R) (start : List SavedLine) → Along Read Breaks rows start [] rows start
-  along_start rows start = record { reads = λ xs behind each. each; stops = λ broken breaks. breaks }
-
   pub along_on : (rows : List R) (start : List SavedLine) (done more : List X) (left next : List R) (rest behind : List SavedLine) (row : R) (x : X) →
       Along Read Breaks rows start done left rest → left ≡ row ∷ next → Read row rest x behind → more ≡ done ++ x ∷ [] → Along Read Breaks rows start more next behind
   along_on rows start done more left next rest behind row x along split is grown =
@@ -80,9 +53,6 @@ pub record Going {X : Type 0} (p : SavedLine → Bool) (Is : List X → SavedLin
   pub stops : (left : List SavedLine) → RunBreaks p Is done rest left → RunBreaks p Is [] start left
 
 module _ {X : Type 0} (p : SavedLine → Bool) (Is : List X → SavedLine → X → Type 0) where
-  pub going_start : (start : List SavedLine) → Going p Is start [] start
-  going_start start = record { reads = λ xs behind run. run; stops = λ left breaks. breaks }
-
   pub going_on : (start : List SavedLine) (done more : List X) (rest : List SavedLine) (line : SavedLine) (next : List SavedLine) (x : X) →
       Going p Is start done rest → rest ≡ line ∷ next → p line ≡ true → Is done line x → more ≡ done ++ x ∷ [] → Going p Is start more next
   going_on start done more rest line next x going split kind is grown =

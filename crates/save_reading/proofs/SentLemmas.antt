@@ -22,9 +22,6 @@ pub record IsLeast (least : ℕ) (done : List (ℕ × Message)) : Type 0 where
   pub behind : (to : ℕ) → least ≤ to → All (IsBefore to) done
   pub from_last : (to : ℕ) → All (IsBefore to) done → least ≤ to
 
-pub least_start : IsLeast 0 []
-least_start = record { behind = λ to from. All-nil (IsBefore to); from_last = λ to all. omega arith }
-
 last_before : (to : ℕ) (done : List (ℕ × Message)) (sent : ℕ × Message) → All (IsBefore to) (done ++ sent ∷ []) → sent.0 ≤ to
 last_before to [] sent all = All-head (IsBefore to) sent [] all
 last_before to (first ∷ done) sent all = last_before to done sent (All-tail (IsBefore to) first (done ++ sent ∷ []) all)
@@ -66,10 +63,6 @@ in_filter p a (suc n) x from below other = elim (cases_eq a x) [
   | inl same ↦ keeps_one a p (filter (λ q. not (q == p)) (range_with_len (a + 1) n)) x same other
   | inr apart ↦ keeps_more a p (filter (λ q. not (q == p)) (range_with_len (a + 1) n)) x (in_filter p (a + 1) n x (omega (arith, apart)) (omega arith) other)
 ]
-
--- each of the others is one of the processors, and isn't p
-IsOther : ℕ → ℕ → ℕ → Type 0
-IsOther count p x = (x < count) × (x ≢ p)
 
 all_range : (a n count : ℕ) → a + n ≤ count → All (λ q. q < count) (range_with_len a n)
 all_range a zero count few = All-nil (λ q. q < count)

@@ -5,7 +5,7 @@ use Rattle.std.specs.List.{AllZip, Any, filter_map, flat_map, range_with_len}
 use Rattle.std.specs.Option.{IsSomeAnd, option_map}
 use Rattle.std.proofs.lemmas.Bool.Decides.{nat_tests}
 use Rattle.std.proofs.lemmas.List.{append_assoc, map-append}
-use Rattle.std.proofs.lemmas.List.Elements.{All-nil, All-cons, All-head, All-tail, All-push}
+use Rattle.std.proofs.lemmas.List.Elements.{All-nil, All-cons, All-head, All-tail, All-push, All-weaker as all_more}
 use Rattle.zpl_nums.specs.declared.ends.End.{End}
 use Rattle.zpl_region.specs.declared.regions.Region.{Region}
 use Rattle.zpl_arrays.specs.Array.{Array}
@@ -41,10 +41,6 @@ use Rattle.save_texts.proofs.Groups.{BeforeSent, InOrder, kept_grouped, sent_lin
 all_front : {X : Type 0} (P : X → Type 0) (xs ys : List X) → All P (xs ++ ys) → All P xs
 all_front P [] ys all = All-nil P
 all_front P (x ∷ xs) ys all = All-cons P x xs (All-head P x (xs ++ ys) all) (all_front P xs ys (All-tail P x (xs ++ ys) all))
-
-all_more : {X : Type 0} (P Q : X → Type 0) → ((x : X) → P x → Q x) → (xs : List X) → All P xs → All Q xs
-all_more P Q more [] all = All-nil Q
-all_more P Q more (x ∷ xs) all = All-cons Q x xs (more x (All-head P x xs all)) (all_more P Q more xs (All-tail P x xs all))
 
 part_front : (xs ys zs : List ℕ) → IsPart (xs ++ ys) zs → IsPart xs zs
 part_front [] ys zs part = tt
@@ -105,12 +101,6 @@ module _ (code : Tables) (p : ℕ) (local : Local) where
 
   -- words that begin what it keeps
   module _ (front : List (ℕ × List ℤ)) (entry : ℕ × List ℤ) (back : List (ℕ × List ℤ)) (whole : local.kept ≡ front ++ entry ∷ back) where
-    abbrev part_kept : List (ℕ × List ℤ)
-    part_kept = front ++ entry ∷ []
-
-    abbrev senders_in : List (ℕ × List ℤ) → List ℕ
-    senders_in kept = map (λ one. one.0) kept
-
     nothing : local.kept ≡ [] → ⊥
     nothing none = not_nothing front entry back (sym none ∙ whole)
 
@@ -369,9 +359,6 @@ among p a (suc n) x from below other = by (order_of a x from) (λ more. among p 
   by (inr less) more = later (more less) (a == p)
 
 module _ (code : Tables) (links : List (List Message)) (p : ℕ) (own : link_of (processors code) links p p ≡ []) where
-  abbrev sent_on : ℕ → List (ℕ × Message)
-  sent_on q = map (λ message. (q, message)) (link_of (processors code) links p q)
-
   pub sents_from : List ℕ → List (ℕ × Message)
   sents_from [] = []
   sents_from (q ∷ qs) = map (λ message. (q, message)) (link_of (processors code) links p q) ++ sents_from qs
@@ -434,9 +421,6 @@ module _ (code : Tables) (links : List (List Message)) (p : ℕ) (own : link_of 
 
 -- ---- all states
 module _ (code : Tables) (grid : Grid) (may : IsSaveable code grid) where
-  abbrev lines_at : ℕ → List SavedLine
-  lines_at p = state_lines code grid.world.links p (slice_get grid.world.locals p)
-
   one_read : (p : ℕ) (local : Local) (rest : List SavedLine) → p < processors code → slice_get grid.world.locals p ≡ Some local → IsEnding local.ended → IsEnd rest →
       (state : State) × ReadsState code p (state_lines code grid.world.links p (slice_get grid.world.locals p) ++ rest) state rest
   one_read p local rest below found ends end =

@@ -1,6 +1,6 @@
 -- Why parts aren't saved, and the grid that they are the saved text of.
 use Rattle.std.proofs.Common.{◌≡◌, ℕ, ◌+◌, ◌<◌, ◌≤◌, List, [], ◌∷◌, ◌++◌, length, map, refl, ap, sym, ◌∙◌, subst, arith, length-append, None}
-use Rattle.std.specs.Prelude.{All, Result, Ok, Err, IfErr, IfOk, drop, min, take}
+use Rattle.std.specs.Prelude.{All, Result, Ok, Err, IfOk, drop, min, take}
 use Rattle.std.proofs.lemmas.List.{append_assoc, length-map}
 use Rattle.std.proofs.lemmas.List.Elements.{All-head, All-tail}
 use Rattle.grid_links.specs.declared.messages.Message.{Message}
@@ -33,7 +33,7 @@ use Rattle.save_reading.specs.declared.faults.StateFault.TheVariants as state_fa
 use Rattle.state_reading.specs.declared.states.ReadState.{ReadState}
 use Rattle.state_reading.specs.Read.{AreReady, state_in}
 use Rattle.grid_save.specs.declared.faults.SaveFault.{SaveFault}
-use Rattle.grid_save.specs.declared.faults.SaveFault.TheVariants.{BadLine, BadTable, BadState, NoMemory}
+use Rattle.grid_save.specs.declared.faults.SaveFault.TheVariants.{BadLine, BadState, NoMemory}
 use Rattle.grid_save.specs.Fault.{Explains, HasForms, HasParts, IsCut, IsNamed, AtListing, AtState, Missing, There}
 use Rattle.grid_save.specs.Reads.{BreaksGrid, ReadsGrid, State}
 use Rattle.grid_save.specs.Saved.{AreCounted, IsSaved}
@@ -113,19 +113,6 @@ formed bytes listing state code_lines lines parts are saved = record {
   state_are = saved.lines_are;
 }
 
-pub fault_of_table : (listing state : List ℕ) (lines : List SavedLine) (number : ℕ) → IsBadListingTable listing number → AreLines state lines → IsFaultOf listing state (BadTable (number + 2))
-fault_of_table listing state lines number bad saved = record {
-  explains = λ bytes parts. record {
-    listing = listing;
-    code_lines = bad.lines;
-    state_lines = lines;
-    forms = formed bytes listing state bad.lines lines parts bad.are saved;
-    in_listing = number;
-    breaks = bad;
-    counted = refl;
-  };
-}
-
 named : (before number : ℕ) (lines left : List SavedLine) → IsTail lines left → number + length left ≡ length lines + 1 → IsNamed before lines left (before + min number (length lines))
 named before number lines [] tail counted =
     let e : before + length lines ≡ before + min number (length lines) = omega (arith, counted) in
@@ -156,11 +143,6 @@ fault_of_state listing state code lines number told listed saved at same = recor
 
 pub no_memory : (listing state : List ℕ) → IsFaultOf listing state NoMemory
 no_memory listing state = record { explains = λ bytes parts. tt }
-
--- what is passed on
-pub explained : {V : Type 0} (bytes listing state : List ℕ) (r : Result V SaveFault) → HasParts bytes listing state → IfErr r (IsFaultOf listing state) → IfErr r (Explains bytes)
-explained bytes listing state (Ok v) parts is = tt
-explained bytes listing state (Err fault) parts is = is.explains bytes parts
 
 -- ---- parts
 pub parts_of : (bytes : List ℕ) (counts : Counts) (listing state : List ℕ) → AreParts bytes counts listing state → HasParts bytes listing state

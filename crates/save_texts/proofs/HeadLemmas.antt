@@ -5,26 +5,15 @@ use Rattle.std.specs.Char.{digit_value}
 use Rattle.std.specs.Fmt.{decimal}
 use Rattle.std.specs.Str.Parse.{AllDigits, digits_value, digits_value_after}
 use Rattle.std.proofs.lemmas.Fmt.{decimal_is_IsNumeral_wide}
-use Rattle.std.proofs.lemmas.List.{append_assoc, take-append-drop}
+use Rattle.std.proofs.lemmas.List.{append_assoc}
 use Rattle.grid_save.specs.Fault.{HasCounts}
 use Rattle.grid_save.specs.Saved.{AreCounted}
-use Rattle.grid_save.specs.Written.{counts_text}
 use Rattle.grid_save.proofs.CutLemmas.{Every, same_number}
 
 -- ---- fronts
 front_of : (xs ys : List ℕ) → take (length xs) (xs ++ ys) ≡ xs
 front_of [] ys = refl
 front_of (x ∷ xs) ys = ap (λ zs. x ∷ zs) (front_of xs ys)
-
-pub same_front : (bytes text rest front : List ℕ) → front ≡ take (length text) bytes → bytes ≡ text ++ rest → front ≡ text
-same_front bytes text rest front is e = is ∙ (ap (take (length text)) e ∙ front_of text rest)
-
-pub too_short : (bytes text rest : List ℕ) → length bytes < length text → bytes ≡ text ++ rest → ⊥
-too_short bytes text rest short e = let long = ap length e ∙ length-append text rest in omega (arith, short, long)
-
-pub behind_front : (bytes text front rest : List ℕ) → front ≡ take (length text) bytes → rest ≡ drop (length text) bytes → front ≡ text → bytes ≡ text ++ rest
-behind_front bytes text front rest is also same =
-    sym (take-append-drop (length text) bytes) ∙ (ap (λ bs. bs ++ drop (length text) bytes) (sym is ∙ same) ∙ ap (λ bs. text ++ bs) (sym also))
 
 -- ---- digits
 pub most_after : (n : ℕ) (ds : List ℕ) → n ≤ digits_value_after 10 n ds
@@ -108,9 +97,6 @@ number_len bytes rest n stop i none below e before within found =
 no_space : digit_value 32 < 10 → ⊥
 no_space h = omega (arith, h)
 
-no_newline : digit_value 10 < 10 → ⊥
-no_newline h = omega (arith, h)
-
 few : (n : ℕ) → n < 2 ^ 62 → n < 10 ^ 64
 few n below = omega (arith, below)
 
@@ -164,13 +150,6 @@ at_words more last rest sends below e at = record {
   written = (same_number 32 no_space sends at.sends last (decimal at.words ++ 10 ∷ rest) (few sends below) (few at.sends at.few_sends) (sym e ∙ at.written)).1;
 }
 
--- the numbers of counts, one after another, and where one is missing
-pub no_text : (bytes rest : List ℕ) → ((more : List ℕ) → bytes ≢ codes "counts " ++ more) → HasCounts bytes rest → ⊥
-no_text bytes rest none has = none _ (has.written)
-
-pub no_turns : (bytes numbers rest : List ℕ) → bytes ≡ codes "counts " ++ numbers → ((n : ℕ) (more : List ℕ) → n < 2 ^ 62 → numbers ≢ decimal n ++ 32 ∷ more) → HasCounts bytes rest → ⊥
-no_turns bytes numbers rest e none has = let at = at_turns bytes numbers rest e has in none at.turns _ at.counted.few_turns at.written
-
 pub no_sends : (bytes numbers more rest : List ℕ) (turns : ℕ) → bytes ≡ codes "counts " ++ numbers → turns < 2 ^ 62 → numbers ≡ decimal turns ++ 32 ∷ more →
     ((n : ℕ) (last : List ℕ) → n < 2 ^ 62 → more ≢ decimal n ++ 32 ∷ last) → HasCounts bytes rest → ⊥
 no_sends bytes numbers more rest turns e below f none has =
@@ -180,12 +159,6 @@ pub no_words : (bytes numbers more last rest : List ℕ) (turns sends : ℕ) →
     sends < 2 ^ 62 → more ≡ decimal sends ++ 32 ∷ last → ((n : ℕ) (behind : List ℕ) → n < 2 ^ 126 → last ≢ decimal n ++ 10 ∷ behind) → HasCounts bytes rest → ⊥
 no_words bytes numbers more last rest turns sends e below f less g none has =
     let at = at_words more last rest sends less g (at_sends numbers more rest turns below f (at_turns bytes numbers rest e has)) in none at.words _ at.few_words at.written
-
-pub counts_are : (bytes numbers more last rest : List ℕ) (turns sends words : ℕ) → bytes ≡ codes "counts " ++ numbers → numbers ≡ decimal turns ++ 32 ∷ more →
-    more ≡ decimal sends ++ 32 ∷ last → last ≡ decimal words ++ 10 ∷ rest → bytes ≡ counts_text turns sends words ++ rest
-counts_are bytes numbers more last rest turns sends words e f g h =
-    e ∙ ap (λ bs. codes "counts " ++ bs) (f ∙ (ap (λ bs. decimal turns ++ 32 ∷ bs) (g ∙ ap (λ bs. decimal sends ++ 32 ∷ bs) h)
-    ∙ sym (regrouped (decimal turns) (decimal sends) (decimal words) rest)))
 
 pub too_many : (bytes rest more : List ℕ) (number n : ℕ) → number < 2 ^ 126 → bytes ≡ decimal number ++ 32 ∷ rest → 2 ^ 62 ≤ number → n < 2 ^ 62 → bytes ≡ decimal n ++ 32 ∷ more → ⊥
 too_many bytes rest more number n below e many less f =

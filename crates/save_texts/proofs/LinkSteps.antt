@@ -1,8 +1,8 @@
 -- What has been put on links so far, and what is left.
-use Rattle.std.proofs.Common.{◌≡◌, ℕ, ◌+◌, ◌<◌, List, [], ◌∷◌, ◌++◌, length, map, refl, ap, sym, ◌∙◌, subst, arith, None}
+use Rattle.std.proofs.Common.{◌≡◌, ℕ, ◌+◌, List, [], ◌∷◌, ◌++◌, length, map, refl, ap, sym, ◌∙◌, subst, arith, None}
 use Rattle.std.specs.Vec.Iter.{into_iter_items, into_iter_len}
 use Rattle.std.specs.declared.vec.IntoIter.{IntoIter}
-use Rattle.std.proofs.lemmas.List.{append_assoc, append-nil}
+use Rattle.std.proofs.lemmas.List.{append_assoc, nil_from_length}
 use Rattle.grid_links.specs.declared.messages.Message.{Message}
 use Rattle.grid_links.specs.Network.{Network, empty_network, sending}
 use Rattle.node_local.specs.Workplace.{Workplace}
@@ -11,13 +11,9 @@ use Rattle.save_reading.specs.Sent.{sent_pair}
 use Rattle.state_reading.specs.declared.states.ReadState.{ReadState}
 use Rattle.save_texts.specs.Links.{AreTo, EachTo, sending_all, sending_each, sent_in, workplace_in}
 
-nothing_left : {X : Type 0} (xs : List X) → length xs ≡ 0 → xs ≡ []
-nothing_left [] e = refl
-nothing_left (x ∷ xs) e = absurd (omega (arith, e))
-
 -- what has no items to come
 pub drained : {X Z : Type 0} (it : IntoIter X Z) → into_iter_len it ≡ 0 → into_iter_items it ≡ []
-drained it none = nothing_left (into_iter_items it) (sym it.rest.ok.0 ∙ none)
+drained it none = nil_from_length (into_iter_items it) (sym it.rest.ok.0 ∙ none)
 
 pub all_keep : (from : ℕ) (sents : List (ℕ × Message)) (network : Network) →
     ((sending_all from sents network).count ≡ network.count) × ((sending_all from sents network).capacity ≡ network.capacity)
@@ -41,12 +37,6 @@ send_first from sents left links same unbounded receivers = record {
   receivers = subst (λ ss. AreTo links.count (map sent_pair ss)) (sym same) receivers;
 }
 
-pub receiver_there : (from count : ℕ) (one : Sent) (left rest : List Sent) (now whole : Network) → left ≡ one ∷ rest → SendsOn from count left now whole → one.to < now.count
-receiver_there from count one left rest now whole is on =
-    let all = subst (λ ss. AreTo count (map sent_pair ss)) is on.receivers in
-    let same = on.counted in
-    omega (arith, all.0, same)
-
 pub send_next : (from count : ℕ) (one : Sent) (left rest : List Sent) (now next whole : Network) → left ≡ one ∷ rest → next ≡ sending now from one.to one.message →
     SendsOn from count left now whole → SendsOn from count rest next whole
 send_next from count one left rest now next whole is sent on = record {
@@ -68,25 +58,6 @@ pub record PlacesOn (from count : ℕ) (left all : List ReadState) (locals : Lis
   pub receivers : EachTo count (map sent_in left)
   pub many : from + length left ≡ count
 
-pub place_first : (count : ℕ) (states left : List ReadState) (locals : List Workplace) (now : Network) → left ≡ states → locals ≡ [] → now ≡ empty_network count None →
-    length states ≡ count → EachTo count (map sent_in states) → PlacesOn 0 count left states locals now
-place_first count states left locals now same none empty many receivers = record {
-  placed = ap (λ ls. ls ++ map workplace_in left) none ∙ ap (map workplace_in) same;
-  comes_to = ap (λ ss. sending_each 0 (map sent_in ss) now) same ∙ ap (sending_each 0 (map sent_in states)) empty;
-  counted = ap (λ (n : Network). n.count) empty;
-  unbounded = ap (λ (n : Network). n.capacity) empty;
-  receivers = subst (λ ss. EachTo count (map sent_in ss)) (sym same) receivers;
-  many = (let long = ap length same in omega (arith, long, many));
-}
-
-pub state_there : (from count : ℕ) (one : ReadState) (left rest all : List ReadState) (locals : List Workplace) (now : Network) → left ≡ one ∷ rest →
-    PlacesOn from count left all locals now → (from < now.count) × AreTo now.count (sent_in one)
-state_there from count one left rest all locals now is on =
-    let long = ap length is in
-    let many = on.many in
-    let counted = on.counted in
-    (omega (arith, long, many, counted), subst (λ n. AreTo n (sent_in one)) (sym counted) (subst (λ ss. EachTo count (map sent_in ss)) is on.receivers).0)
-
 pub place_next : (from count : ℕ) (one : ReadState) (left rest all : List ReadState) (locals after : List Workplace) (now next : Network) → left ≡ one ∷ rest →
     after ≡ locals ++ one.local ∷ [] → next ≡ sending_all from (sent_in one) now → PlacesOn from count left all locals now → PlacesOn (from + 1) count rest all after next
 place_next from count one left rest all locals after now next is pushed sent on = record {
@@ -99,10 +70,3 @@ place_next from count one left rest all locals after now next is pushed sent on 
   receivers = (subst (λ ss. EachTo count (map sent_in ss)) is on.receivers).1;
   many = (let long = ap length is in let many = on.many in omega (arith, long, many));
 }
-
-pub place_over : (from count : ℕ) (left all : List ReadState) (locals : List Workplace) (now : Network) → left ≡ [] → PlacesOn from count left all locals now →
-    (locals ≡ map workplace_in all) × (now ≡ sending_each 0 (map sent_in all) (empty_network count None))
-place_over from count left all locals now none on = (
-  sym (append-nil locals) ∙ (ap (λ ss. locals ++ map workplace_in ss) (sym none) ∙ on.placed),
-  ap (λ ss. sending_each from (map sent_in ss) now) (sym none) ∙ on.comes_to,
-)

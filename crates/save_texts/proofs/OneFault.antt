@@ -91,9 +91,6 @@ module _ (listed_lines : (bytes : List ℕ) (one other : List Line) → AreListe
       (saved_fault : (bytes : List ℕ) (one other : ℕ) → IsBadSavedLine bytes one → IsBadSavedLine bytes other → one ≡ other)
       (table_fault : (bytes : List ℕ) (one other : ℕ) → IsBadListingTable bytes one → IsBadListingTable bytes other → one ≡ other)
       (grids_left : (code : Tables) (lines left other : List SavedLine) → All HasThree code.arrays → BreaksGrid code lines left → BreaksGrid code lines other → left ≡ other) where
-    no_version : (bytes rest : List ℕ) → ((rest' : List ℕ) → bytes ≡ version_text ++ rest' → ⊥) → bytes ≡ version_text ++ rest → ⊥
-    no_version bytes rest none e = none rest e
-
     no_counts : (bytes behind listing state : List ℕ) → bytes ≡ version_text ++ behind → ((rest : List ℕ) → HasCounts behind rest → ⊥) → HasParts bytes listing state → ⊥
     no_counts bytes behind listing state e none parts =
         let same = version_once parts.head.behind behind (sym parts.head.version ∙ e) in

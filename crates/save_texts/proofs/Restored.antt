@@ -4,6 +4,7 @@ use Rattle.std.specs.Prelude.{◌≢◌, All, slice_get}
 use Rattle.std.specs.List.{flat_map, range_with_len}
 use Rattle.std.proofs.lemmas.List.{append_assoc, append-nil, length-map}
 use Rattle.std.proofs.lemmas.List.Elements.{All-nil, All-cons}
+use Rattle.std.proofs.lemmas.Option.{slice_get_within}
 use Rattle.grid_links.specs.declared.messages.Message.{Message}
 use Rattle.grid_links.specs.Links.{link_of}
 use Rattle.grid_links.specs.Network.{empty_network}
@@ -51,11 +52,6 @@ get_or-map : {X Y : Type 0} (f : X → Y) (xs : List X) (k : ℕ) (x : X) (d : Y
 get_or-map f [] k x d e = absurd cc
 get_or-map f (y ∷ ys) zero x d e = let same : y ≡ x = cc in ap f same
 get_or-map f (y ∷ ys) (suc k) x d e = get_or-map f ys k x d e
-
-within : {X : Type 0} (xs : List X) (k : ℕ) (x : X) → slice_get xs k ≡ Some x → k < length xs
-within [] k x e = absurd cc
-within (y ∷ ys) zero x e = omega arith
-within (y ∷ ys) (suc k) x e = let below = within ys k x e in omega (arith, below)
 
 there : {X : Type 0} (xs : List X) (k : ℕ) → k < length xs → (x : X) × (slice_get xs k ≡ Some x)
 there [] k below = absurd (omega (arith, below))
@@ -149,7 +145,7 @@ module _ (code : Tables) (states : List State) (links : List (List Message)) (ma
 
   sent_lines : At (λ p state. message_lines code links p ≡ map sent_line state.sent) states
   sent_lines p state e =
-      let inside = within states p state e in
+      let inside = slice_get_within states p state e in
       let sents = get_or-map sent_of states p state [] e in
       let is = read p state e in
       flat_same (λ q. map (message_line q) (link_of (processors code) links p q)) (λ q. map (message_line q) (sent_to q state.sent)) (processor_numbers code)

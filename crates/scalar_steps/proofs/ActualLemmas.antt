@@ -2,25 +2,22 @@
 use Rattle.std.specs.Prelude.{min}
 use Rattle.std.proofs.Common.{◌≡◌, ℕ, zero, suc, ◌+◌, ◌-◌, ◌<◌, ◌≤◌, ℤ, Bool, true, false, List, [], ◌∷◌, ◌++◌, map, length, drop, get_or, All, Option, Some, None, ◌⊎◌, inl, inr, refl, sym, ap, ap₂, ◌∙◌, subst, arith}
 use Rattle.std.specs.List.{AllByRecursion}
-use Rattle.std.proofs.lemmas.List.{drop-drop, length-drop}
+use Rattle.std.proofs.lemmas.List.{drop-drop, length-drop, drop_more, append-nil}
 use Rattle.std.proofs.lemmas.List.Elements.{All-from_recursion, recursion_from_All}
-use Rattle.std.specs.Option.{option_map}
 use Rattle.std.specs.Prelude.{slice_get}
 use Rattle.zpl_tree.specs.Syntax as plain
 use Rattle.zpl_tree.specs.Syntax.{Exprs, NoExpr, ThenExpr}
-use Rattle.zpl_tree.specs.View.{base_type_of, expr_of, exprs_of}
+use Rattle.zpl_tree.specs.View.{expr_of, exprs_of}
 use Rattle.zpl_tree.specs.declared.expressions.Expr.{Expr}
 use Rattle.zpl_names.specs.Kinds as kind
 use Rattle.zpl_names.specs.Kinds.{ScalarFormal, ArrayFormal}
 use Rattle.name_kinds.specs.declared.kinds.Formal.{Formal}
-use Rattle.name_kinds.specs.declared.shapes.Shape.{Shape}
-use Rattle.name_kinds.specs.Seen.{formal_of, formal_shape}
-use Rattle.zpl_meaning.specs.Calls.{Handed, Copied, actual_thing, copied_array, handed_on, referred}
+use Rattle.name_kinds.specs.Seen.{formal_of}
+use Rattle.zpl_meaning.specs.Calls.{Handed, handed_on}
 use Rattle.zpl_meaning.specs.Calls.{value_exprs}
 use Rattle.zpl_meaning.specs.Context.{Place}
-use Rattle.zpl_meaning.specs.Settled.{Placed}
 use Rattle.zpl_meaning.specs.Store.{Environment, Store}
-use Rattle.array_frames.proofs.LoopLemmas.{append-assoc, append-nothing, left-from}
+use Rattle.array_frames.proofs.LoopLemmas.{append-assoc}
 use Rattle.scalar_steps.specs.Actuals.{first_handed, value_count}
 
 -- ---- what is left of the actuals
@@ -28,43 +25,9 @@ use Rattle.scalar_steps.specs.Actuals.{first_handed, value_count}
 pub exprs-left : (actuals : List Expr) (i : ℕ) (d : Expr) → i < length actuals →
     exprs_of (drop i actuals)
     ≡ ThenExpr (expr_of (get_or actuals i d)) (exprs_of (drop (i + 1) actuals))
-exprs-left actuals i d below = ap exprs_of (left-from actuals i d below)
+exprs-left actuals i d below = ap exprs_of (drop_more actuals i d below)
 
 -- ---- values
-
-values-more : (place : Place) (formal : kind.Formal) (formals : List kind.Formal)
-    (actual : plain.Expr) (rest : Exprs) →
-    value_exprs place (formal ∷ formals) (ThenExpr actual rest)
-    ≡ value_exprs place (formal ∷ []) (ThenExpr actual NoExpr) ++ value_exprs place formals rest
-values-more place (ScalarFormal false base) formals actual rest = refl
-values-more place (ScalarFormal true base) formals actual rest = refl
-values-more place (ArrayFormal by_ref base shape) formals actual rest = refl
-
-pub values-next : (place : Place) (formals : List Formal) (actuals : List Expr) (i : ℕ)
-    (d : Formal) (e : Expr) (done new whole : List Placed) → i < length formals →
-    i < length actuals →
-    new ≡ done ++ value_exprs place (formal_of (get_or formals i d) ∷ [])
-    (ThenExpr (expr_of (get_or actuals i e)) NoExpr) →
-    done ++ value_exprs place (map formal_of (drop i formals)) (exprs_of (drop i actuals))
-    ≡ whole →
-    new ++ value_exprs place (map formal_of (drop (i + 1) formals))
-    (exprs_of (drop (i + 1) actuals)) ≡ whole
-values-next place formals actuals i d e done new whole here there is rest =
-    ap (λ l. l ++ left) is ∙
-    append-assoc done own left ∙
-    ap (λ l. done ++ l) (sym (values-more place (formal_of (get_or formals i d))
-    (map formal_of (drop (i + 1) formals)) (expr_of (get_or actuals i e))
-    (exprs_of (drop (i + 1) actuals)))) ∙
-    sym (ap₂ (λ l a. done ++ value_exprs place (map formal_of l) a)
-    (left-from formals i d here) (exprs-left actuals i e there)) ∙ rest
-  where
-    left : List Placed
-    left = value_exprs place (map formal_of (drop (i + 1) formals)) (exprs_of (drop (i + 1) actuals))
-
-    own : List Placed
-    own =
-        value_exprs place (formal_of (get_or formals i d) ∷ [])
-        (ThenExpr (expr_of (get_or actuals i e)) NoExpr)
 
 no-more-actuals : (place : Place) (formals : List kind.Formal) →
     value_exprs place formals NoExpr ≡ []
@@ -126,7 +89,7 @@ handed-next environment store formals actuals values i taken count d e handed do
     (map formal_of (drop (i + 1) formals)) (expr_of (get_or actuals i e))
     (exprs_of (drop (i + 1) actuals)) (drop taken values))) ∙
     sym (ap₂ (λ l a. done ++ handed_on environment store (map formal_of l) a (drop taken values))
-    (left-from formals i d here) (exprs-left actuals i e there)) ∙ rest
+    (drop_more formals i d here) (exprs-left actuals i e there)) ∙ rest
   where
     left : List ℤ → List Handed
     left vs =
@@ -142,7 +105,7 @@ pub handed-stops : (environment : Environment) (store : Store) (formals : List F
     done ++ handed_on environment store (map formal_of (drop i formals))
     (exprs_of (drop i actuals)) values ≡ whole → done ≡ whole
 handed-stops environment store formals actuals values i d e done whole here there none rest =
-    sym (append-nothing done) ∙
+    sym (append-nil done) ∙
     ap (λ o. done ++ handed_then environment store (map formal_of (drop (i + 1) formals))
     (exprs_of (drop (i + 1) actuals))
     (drop (value_count (formal_of (get_or formals i d))) values) o) none ∙
@@ -150,7 +113,7 @@ handed-stops environment store formals actuals values i d e done whole here ther
     (map formal_of (drop (i + 1) formals)) (expr_of (get_or actuals i e))
     (exprs_of (drop (i + 1) actuals)) values)) ∙
     sym (ap₂ (λ l a. done ++ handed_on environment store (map formal_of l) a values)
-    (left-from formals i d here) (exprs-left actuals i e there)) ∙ rest
+    (drop_more formals i d here) (exprs-left actuals i e there)) ∙ rest
 
 no-more-handed : (environment : Environment) (store : Store) (formals : List kind.Formal)
     (values : List ℤ) → handed_on environment store formals NoExpr values ≡ []
@@ -203,67 +166,6 @@ mapped-push f xs ys x is = ap (map f) is ∙ by xs
     by : (xs : List _) → map f (xs ++ x ∷ []) ≡ map f xs ++ f x ∷ []
     by [] = refl
     by (y ∷ ys) = ap (λ l. f y ∷ l) (by ys)
-
--- ---- what one parameter takes
-
-pub counted-ref : (formal : Formal) → formal.by_ref ≡ true → value_count (formal_of formal) ≡ 0
-counted-ref formal is =
-    ap (λ b. value_count (formal_shape b (base_type_of formal.base) formal.shape)) is ∙
-    by formal.shape
-  where
-    by : (shape : Option (Option Shape)) →
-        value_count (formal_shape true (base_type_of formal.base) shape) ≡ 0
-    by None = refl
-    by (Some shape) = refl
-
-pub counted-value : (formal : Formal) → formal.by_ref ≡ false → formal.shape ≡ None →
-    value_count (formal_of formal) ≡ 1
-counted-value formal is none =
-    ap₂ (λ b s. value_count (formal_shape b (base_type_of formal.base) s)) is none
-
-pub counted-array : (formal : Formal) (shape : Option Shape) → formal.by_ref ≡ false →
-    formal.shape ≡ Some shape → value_count (formal_of formal) ≡ 0
-counted-array formal shape is some =
-    ap₂ (λ b s. value_count (formal_shape b (base_type_of formal.base) s)) is some
-
-pub handed-ref : (environment : Environment) (store : Store) (formal : Formal)
-    (actual : plain.Expr) (values : List ℤ) → formal.by_ref ≡ true →
-    Some (referred (actual_thing environment actual))
-    ≡ first_handed environment store (formal_of formal) actual values
-handed-ref environment store formal actual values is =
-    sym (ap (λ b. first_handed environment store
-    (formal_shape b (base_type_of formal.base) formal.shape) actual values) is ∙ by formal.shape)
-  where
-    by : (shape : Option (Option Shape)) →
-        first_handed environment store (formal_shape true (base_type_of formal.base) shape) actual
-        values ≡ Some (referred (actual_thing environment actual))
-    by None = refl
-    by (Some shape) = refl
-
-pub handed-value : (environment : Environment) (store : Store) (formal : Formal)
-    (actual : plain.Expr) (values : List ℤ) (value : Option ℤ) → formal.by_ref ≡ false →
-    formal.shape ≡ None → value ≡ slice_get values 0 →
-    option_map Copied value
-    ≡ first_handed environment store (formal_of formal) actual values
-handed-value environment store formal actual values value is none given =
-    ap (option_map Copied) given ∙ by values ∙
-    sym (ap₂ (λ b s. first_handed environment store (formal_shape b (base_type_of formal.base) s)
-    actual values) is none)
-  where
-    by : (values : List ℤ) → option_map Copied (slice_get values 0)
-        ≡ first_handed environment store (ScalarFormal false (base_type_of formal.base)) actual
-        values
-    by [] = refl
-    by (first ∷ rest) = refl
-
-pub handed-array : (environment : Environment) (store : Store) (formal : Formal)
-    (actual : plain.Expr) (values : List ℤ) (shape : Option Shape) → formal.by_ref ≡ false →
-    formal.shape ≡ Some shape →
-    Some (copied_array store (actual_thing environment actual))
-    ≡ first_handed environment store (formal_of formal) actual values
-handed-array environment store formal actual values shape is some =
-    sym (ap₂ (λ b s. first_handed environment store (formal_shape b (base_type_of formal.base) s)
-    actual values) is some)
 
 -- ---- fit expressions
 

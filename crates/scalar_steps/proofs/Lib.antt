@@ -1,4 +1,3 @@
-pub mod ScalarLemmas
 pub mod ActualLemmas
 pub use Rattle.array_frames.proofs as of_array_frames
 pub use Rattle.array_frames.proofs.of_array_regions as of_array_regions

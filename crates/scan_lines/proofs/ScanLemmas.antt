@@ -27,9 +27,6 @@ all_rise (d ∷ dims) = (Rises-coordinates d, all_rise dims)
 
 -- ---- how many tuples the last dimensions have
 
-first_step : (d : Dim) (dims : List Dim) → All HasStep (d ∷ dims) → HasStep d
-first_step d dims h = h 0 d (omega arith)
-
 more_steps : (d : Dim) (dims : List Dim) → All HasStep (d ∷ dims) → All HasStep dims
 more_steps d dims h i e l = h (suc i) e (omega arith)
 

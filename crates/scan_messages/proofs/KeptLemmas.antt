@@ -4,7 +4,7 @@ use Rattle.std.specs.Prelude.{All, filter}
 use Rattle.std.specs.List.{fold, range_with_len}
 use Rattle.std.proofs.lemmas.List.Elements.{All-cons, All-head, All-nil, All-tail}
 use Rattle.node_form.specs.declared.tables.Tables.{Tables}
-use Rattle.grid_meaning.specs.Collective.{Stage, Sends, InLast, others, others_where}
+use Rattle.grid_meaning.specs.Collective.{Sends, InLast, others, others_where}
 use Rattle.grid_meaning.specs.Local.{Local, processors}
 use Rattle.grid_meaning.specs.Owner.{region_in}
 use Rattle.grid_meaning.specs.State.{IsPart, KeepsWords, ascending, placed, senders}
@@ -35,9 +35,6 @@ part_take (suc n) (x ∷ xs) (y ∷ ys) (inl here) = inl (here.0, part_take n xs
 part_take (suc n) (x ∷ xs) (y ∷ ys) (inr part) = inr (part_take (suc n) (x ∷ xs) ys part)
 
 -- ---- from whom messages were taken, in so many turns
-no_senders : (to : List ℕ) (rest : List Stage) → senders (map Sends to ++ rest) ≡ senders rest
-no_senders [] rest = refl
-no_senders (q ∷ to) rest = no_senders to rest
 
 record IsSome_of (from : List ℕ) (found : List ℕ) : Type 0 where
   many : ℕ

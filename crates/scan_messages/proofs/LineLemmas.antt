@@ -189,11 +189,6 @@ pub head_member : (k : ℕ) (r : Region) (h : List ℤ) → k < length r.dims �
 head_member k r h l steps m =
     among_member r h steps (among_filtered (is_first k (first_of (get_or r.dims k Flood))) (members r) h (subst (λ ts. Among ts h) (heads_are_first k r l steps) m)).0
 
-pub head_first : (k : ℕ) (r : Region) (h : List ℤ) → k < length r.dims → All HasStep r.dims → Among (members (heads k r)) h
-    → is_first k (first_of (get_or r.dims k Flood)) h ≡ true
-head_first k r h l steps m =
-    (among_filtered (is_first k (first_of (get_or r.dims k Flood))) (members r) h (subst (λ ts. Among ts h) (heads_are_first k r l steps) m)).1
-
 pub head_there : (k : ℕ) (r : Region) (t : List ℤ) → k < length r.dims → All HasStep r.dims → Among (members r) t
     → Among (members (heads k r)) (head_of k r.dims t)
 head_there k r t l steps m =

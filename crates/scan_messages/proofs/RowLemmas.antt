@@ -124,9 +124,6 @@ module _ (code : Tables) (p : ℕ) (region : Region) (slot : IsSlot region.rank 
 
     -- ---- totals
     module _ (f : Fold) (from : ℕ) (mask : Option ℕ) (local : Local) where
-      total_at : List ℤ → Option ℤ
-      total_at h = meaning.line_total code p f along from mask local region h
-
       module _ (vs : List (Option ℤ)) (read : meaning.scan_values local from mask (members part) ≡ Some vs) where
         value_told : (t : List ℤ) → Among (members part) t → meaning.scan_value local from mask t ≡ Some (value_at part vs t)
         value_told t m = value.value_there local from mask part vs t part_steps read (line.among_member part t part_steps m)

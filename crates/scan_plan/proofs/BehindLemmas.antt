@@ -1,6 +1,6 @@
 -- Lemmas on the own line behind another line.
 use Rattle.std.proofs.Common.{◌≡◌, ℕ, zero, suc, ◌-◌, ◌<◌, ◌≤◌, inl, inr, Bool, true, false, cond, ◌&&◌, ◌||◌, Option, Some, None, List, [], ◌∷◌, All, map, set, length, get_or, slice_get, ℤ, pos, ◌≤ℤ◌, ◌<ℤ◌, IsTrue, refl, sym, ◌∙◌, ap, arith}
-use Rattle.std.specs.Prelude.{◌==◌, if◌then◌else◌, option_map}
+use Rattle.std.specs.Prelude.{◌==◌, if◌then◌else◌}
 use Rattle.std.specs.List.{find}
 use Rattle.std.specs.Int.RustNames.{int_lt}
 use Rattle.std.specs.Ordering.{int_eq}
@@ -86,8 +86,6 @@ none_among own t is e = by_test (is_member own t) refl
     by_test false f = refl
 
 -- ---- what the call answers
-pub behind_next : (along : ℕ) (own : Region) (h : List ℤ) (o : Option ℕ) → along ≡ 0 → o ≡ option_map (place_among own.dims) (find (is_before h) (members own)) → o ≡ line_behind along own h
-behind_next along own h o e f = f ∙ sym (ap (λ a. line_behind a own h) e)
 
 abbrev answer : Region → List ℤ → List ℤ → Option ℕ
 answer own h next = if is_member own next && is_before h next then Some (place_among own.dims next) else None

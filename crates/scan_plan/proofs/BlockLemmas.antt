@@ -48,25 +48,6 @@ in_part axis n c lo hi step align y h = by_test (int_le (int_max lo f) (int_min 
         record { low = omega (arith, ints, clamps, low); high = omega (arith, ints, clamps, high); whole = (omega (arith, ints, clamps, low), omega (arith, ints, clamps, high), k.2) }
     by_test false k = let low : pos 1 ≤ℤ y = k.0 in let high : y ≤ℤ pos 0 = k.1 in absurd (omega (arith, ints, low, high))
 
-part_has : (axis : Axis) (n c : ℕ) (lo hi step align y : ℤ) → IsIn axis n c lo hi step align y → IsCoordinate (part (block_first axis n c) (block_last axis n c) (Range lo hi step align)) y
-part_has axis n c lo hi step align y w = by_test (int_le (int_max lo f) (int_min hi l)) refl
-  where
-    f : ℤ
-    f = block_first axis n c
-
-    l : ℤ
-    l = block_last axis n c
-
-    low : int_max lo f ≤ℤ y
-    low = let a : lo ≤ℤ y = w.whole.0 in omega (arith, ints, clamps, a, w.low)
-
-    high : y ≤ℤ int_min hi l
-    high = let a : y ≤ℤ hi = w.whole.1 in omega (arith, ints, clamps, a, w.high)
-
-    by_test : (b : Bool) → int_le (int_max lo f) (int_min hi l) ≡ b → IsCoordinate (if b then Range (int_max lo f) (int_min hi l) step align else nothing) y
-    by_test true e = (low, high, w.whole.2)
-    by_test false e = absurd (let wrong : int_min hi l <ℤ int_max lo f = grind (arith, ints) in omega (arith, ints, wrong, low, high))
-
 pub owned_step : (axis : Axis) (n c k : ℕ) (d : Dim) → HasStep d → HasStep (owned_dim axis n c k d)
 owned_step axis n c k (Range lo hi step align) h = by_test (int_le (int_max lo (block_first axis n c)) (int_min hi (block_last axis n c)))
   where

@@ -34,8 +34,6 @@ all_owned (a ∷ axes) (n ∷ ns) (c ∷ cs) (k ∷ ks) (d ∷ dims) h =
     All-cons IsDim (owned_dim a n c k d) (each_owned axes ns cs ks dims) (owned_is_dim a n c k d (All-head IsDim d dims h)) (all_owned axes ns cs ks dims (All-tail IsDim d dims h))
 
 -- ---- past the rank there is one block
-whole_padding : (axis : Axis) (k : ℕ) → owned_dim axis 1 0 k padding ≡ padding
-whole_padding axis k = refl
 
 empty_same : {X Y : Type 0} (n : ℕ) (x : X) (y : Y) → [] ≡ replicate n x → [] ≡ replicate n y
 empty_same zero x y e = refl

@@ -1,6 +1,6 @@
 -- Lemmas on the scan of a block, value by value.
 use Rattle.std.proofs.Common.{◌≡◌, ℕ, ◌+◌, ◌*◌, ◌/◌, ◌<◌, ◌≤◌, drop, replicate, Option, Some, None, List, [], ◌∷◌, ◌++◌, map, take, length, get_or, ℤ, pos, refl, sym, ◌∙◌, ap, subst, arith, add-one}
-use Rattle.std.specs.Prelude.{nat_eq, Bool, true, false}
+use Rattle.std.specs.Prelude.{nat_eq, Bool, false}
 use Rattle.std.proofs.lemmas.Bool.Decides.{nat_tests}
 use Rattle.std.specs.List.{filter}
 use Rattle.std.proofs.lemmas.List.{length-map, map-append}
@@ -16,7 +16,7 @@ use Rattle.scan_plan.specs.Line.{head_of, heads, line_dim, line_number, line_tot
 use Rattle.scan_plan.specs.Scan.{LineTotal, before, lines_of, parts_of, precedes, scan_at}
 use Rattle.scan_plan.proofs.GoneLemmas.{get_or-map, nothing_behind, set_long}
 use Rattle.scan_plan.proofs.LineLemmas.{HasLines, along_of, has_lines, inner_of, line_dim_below}
-use Rattle.scan_plan.proofs.StepLemmas.{IsPlace, folds_begin, folds_end, folds_step, is_place, line_fold, no_heads, no_members, scan_here, stepped, take_more, take_past}
+use Rattle.scan_plan.proofs.StepLemmas.{IsPlace, folds_begin, folds_end, folds_step, is_place, line_fold, no_heads, scan_here, stepped, take_more}
 
 -- what stands before the lines of processor p's part
 abbrev pub lines_for : ℕ → Blocks → ℕ → Region → List (List ℤ) → List LineTotal
@@ -76,12 +76,6 @@ scanned_one op along blocks p region all values so_far more scanned longer i is 
         ∙ (ap (λ n. line_fold op k (value_at r values) (b (head_of k r.dims v.tuple)) (take n (members r)) (head_of k r.dims v.tuple)) (add-one i)
         ∙ scan_here op k r (value_at r values) b (λ h. map (λ (line : LineTotal). line.1) (filter (λ (line : LineTotal). precedes along h line.0) (lines_for along blocks p region all))) i v.tuple l v.at (λ h. refl)))
 
-pub scanned_all : (op : Fold) (along : ℕ) (blocks : Blocks) (p : ℕ) (region : Region) (all : List (List ℤ)) (values : List (Option ℤ)) (so_far scanned : List ℤ) (i : ℕ) → length (members (owned_part blocks p p region)) ≤ i
-    → IsScanned op along blocks p region all values so_far scanned i
-    → scanned ≡ map (scan_at op along (owned_part blocks p p region) (lines_for along blocks p region all) (value_at (owned_part blocks p p region) values)) (members (owned_part blocks p p region))
-scanned_all op along blocks p region all values so_far scanned i past w =
-    w.scanned_is ∙ ap (map (scan_at op along (owned_part blocks p p region) (lines_for along blocks p region all) (value_at (owned_part blocks p p region) values))) (take_past (members (owned_part blocks p p region)) i past)
-
 -- ---- totals, value by value
 pub record AreFolds (op : Fold) (along : ℕ) (r : Region) (values : List (Option ℤ)) (folds : List ℤ) (i : ℕ) : Type 0 where
   pub folds_are : folds ≡ map (λ h. line_fold op (line_dim r.rank along) (value_at r values) (unit_of op) (take i (members r)) h) (members (heads (line_dim r.rank along) r))
@@ -114,9 +108,6 @@ length-so_far op along blocks p region all values so_far scanned i w =
 -- no value: no lines
 pub no_totals : (op : Fold) (along : ℕ) (r : Region) (value : List ℤ → Option ℤ) (old : List ℤ) → IsRegion r → length (members r) ≡ 0 → old ≡ old ++ totals_of op (line_dim r.rank along) r value
 no_totals op along r value old is e = nothing_behind old ∙ ap (λ hs. old ++ map (line_total op (line_dim r.rank along) r value) hs) (sym (no_heads (line_dim r.rank along) r is e))
-
-pub no_scan : (f : List ℤ → ℤ) (r : Region) (old : List ℤ) → length (members r) ≡ 0 → old ≡ old ++ map f (members r)
-no_scan f r old e = nothing_behind old ∙ ap (λ ts. old ++ map f ts) (sym (no_members r e))
 
 -- ---- for the code: how a block lies on lines
 pub record LinesTold (r : Region) (along n m : ℕ) : Type 0 where
@@ -156,9 +147,6 @@ number_told r along n m i j w e = e ∙ (ap (λ a. line_number a m i) w.along_is
 
 pub some_from_test : (b : Bool) (n : ℕ) → b ≡ nat_eq n 0 → b ≡ false → 0 < n
 some_from_test b n e f = let other : nat_eq n 0 ≡ false = sym e ∙ f in grind (arith, nat_tests)
-
-pub none_from_test : (b : Bool) (n : ℕ) → b ≡ nat_eq n 0 → b ≡ true → n ≡ 0
-none_from_test b n e f = let same : nat_eq n 0 ≡ true = sym e ∙ f in grind (arith, nat_tests)
 
 pub length-stepped : (op : Fold) (j : ℕ) (o : Option ℤ) (folds : List ℤ) → length (stepped op j o folds) ≡ length folds
 length-stepped op j None folds = refl

@@ -7,7 +7,7 @@ use Rattle.std.specs.Ordering.{int_eq}
 use Rattle.std.proofs.lemmas.Bool.{false≢true}
 use Rattle.std.proofs.lemmas.Bool.Decides.{Decides-int_eq, nat_tests}
 use Rattle.std.proofs.lemmas.Int.{ints}
-use Rattle.std.proofs.lemmas.List.{map-append}
+use Rattle.std.proofs.lemmas.List.{map-append, append-nil, nil_from_length}
 use Rattle.std.proofs.lemmas.List.Elements.{filter-append}
 use Rattle.std.proofs.lemmas.Option.{slice_get_within}
 use Rattle.zpl_nums.specs.declared.folds.Fold.{Fold}
@@ -43,10 +43,6 @@ at_index [] i h = absurd (omega (arith, h))
 at_index (x ∷ xs) zero h = (x, refl)
 at_index (x ∷ xs) (suc i) h = at_index xs i (omega (arith, h))
 
-nothing_more : {X : Type 0} (xs : List X) → xs ++ [] ≡ xs
-nothing_more [] = refl
-nothing_more (x ∷ xs) = ap (λ l. x ∷ l) (nothing_more xs)
-
 -- the fold, from a on, of the values at the tuples of h's line
 abbrev pub line_fold : Fold → ℕ → (List ℤ → Option ℤ) → ℤ → List (List ℤ) → List ℤ → ℤ
 line_fold op k value a ts h = fold (joined op) a (kept_values (map value (filter (is_along k h) ts)))
@@ -72,7 +68,7 @@ line_fold_more op k value a ts t h =
         ap (λ l. fold (joined op) a (kept_values l)) (map-append value (filter (is_along k h) ts) (t ∷ []))
         ∙ (ap (fold (joined op) a) (kept-append (map value (filter (is_along k h) ts)) (value t ∷ []))
         ∙ fold-append_one op a (kept_values (map value (filter (is_along k h) ts))) (value t))
-    by_test false = ap (λ l. fold (joined op) a (kept_values (map value l))) (nothing_more (filter (is_along k h) ts))
+    by_test false = ap (λ l. fold (joined op) a (kept_values (map value l))) (append-nil (filter (is_along k h) ts))
 
 -- ---- the line of the tuple at a place
 pub record IsPlace (k : ℕ) (r : Region) (i : ℕ) : Type 0 where
@@ -330,14 +326,10 @@ no_heads_of (suc k) (d ∷ dims) e = elim (zero_product (coordinate_count d) (tu
   | inr f ↦ ap (λ n. coordinate_count d * n) (no_heads_of k dims f) ∙ omega arith
 ]
 
-empty_list : {X : Type 0} (xs : List X) → length xs ≡ 0 → xs ≡ []
-empty_list [] e = refl
-empty_list (x ∷ xs) e = absurd (omega (arith, e))
-
 pub no_heads : (k : ℕ) (r : Region) → IsRegion r → length (members r) ≡ 0 → members (heads k r) ≡ []
 no_heads k r is e =
     let steps = has_steps r.dims is.dims in
-    empty_list (members (heads k r)) (length-tuple_count (changed_at k first_alone r.dims) (head_steps k r.dims steps) ∙ no_heads_of k r.dims (sym (length-tuple_count r.dims steps) ∙ e))
+    nil_from_length (members (heads k r)) (length-tuple_count (changed_at k first_alone r.dims) (head_steps k r.dims steps) ∙ no_heads_of k r.dims (sym (length-tuple_count r.dims steps) ∙ e))
 
 pub no_members : (r : Region) → length (members r) ≡ 0 → members r ≡ []
-no_members r e = empty_list (members r) e
+no_members r e = nil_from_length (members r) e

@@ -1,14 +1,8 @@
 -- Lemmas on lists in place: one element changed, and running joins.
-use Rattle.std.proofs.Common.{◌≡◌, ℕ, zero, suc, ◌+◌, ◌<◌, List, [], ◌∷◌, ◌++◌, map, set, length, get_or, take, drop, ℤ, refl, sym, ◌∙◌, ap, add-one, arith}
+use Rattle.std.proofs.Common.{◌≡◌, ℕ, zero, suc, ◌+◌, ◌<◌, List, [], ◌∷◌, ◌++◌, set, length, get_or, take, drop, ℤ, refl, sym, ◌∙◌, ap, add-one, arith}
 use Rattle.zpl_nums.specs.declared.folds.Fold.{Fold}
 use Rattle.zpl_nums.specs.Fold.{joined}
 use Rattle.scan_plan.specs.Scan.{sums}
-
-pub map-set : {X Y : Type 0} (f : X → Y) (xs : List X) (i : ℕ) (x : X) → map f (set xs i x) ≡ set (map f xs) i (f x)
-map-set f [] zero x = refl
-map-set f [] (suc i) x = refl
-map-set f (y ∷ ys) zero x = refl
-map-set f (y ∷ ys) (suc i) x = ap (λ l. f y ∷ l) (map-set f ys i x)
 
 -- ---- running joins
 sums_on : (op : Fold) (xs : List ℤ) (i : ℕ) (d so_far : ℤ) → i < length xs

@@ -2,7 +2,7 @@
 use Rattle.std.proofs.Common.{◌≡◌, ℕ, zero, suc, ◌+◌, ◌<◌, ◌≤◌, inl, inr, Bool, true, false, cond, not, ◌&&◌, ◌||◌, Some, None, List, [], ◌∷◌, ◌++◌, All, map, length, ℤ, IsPermutation, refl, sym, ◌∙◌, ap, subst, arith}
 use Rattle.std.specs.Prelude.{if◌then◌else◌}
 use Rattle.std.specs.List.{count_by, filter, flat_map, zip}
-use Rattle.std.proofs.lemmas.Bool.{false≢true}
+use Rattle.std.proofs.lemmas.Bool.{false≢true, false_from_ne_true}
 use Rattle.std.proofs.lemmas.List.{map-append}
 use Rattle.std.proofs.lemmas.List.Elements.{filter-append}
 use Rattle.std.proofs.lemmas.List.Sums.{sum_by-cons}
@@ -56,20 +56,16 @@ none_passes p [] h = refl
 none_passes p (x ∷ hs) h =
     sum_by-cons (λ y. cond (p y) 1 0) x hs ∙ (ap (λ b. cond b 1 0 + count_by p hs) (h x (inl refl)) ∙ omega (arith, none_passes p hs (λ y m. h y (inr m))))
 
-not_true : (b : Bool) → (b ≡ true → ⊥) → b ≡ false
-not_true true k = absurd (k refl)
-not_true false k = refl
-
 one_passes : (p : List ℤ → Bool) (hs : List (List ℤ)) (g : List ℤ) → Rises IsBefore hs → Among hs g → ((h : List ℤ) → Among hs h → p h ≡ true → h ≡ g) → p g ≡ true → count_by p hs ≡ 1
 one_passes p [] g rise m only t = absurd m
 one_passes p (h ∷ hs) g rise (inl e) only t =
     let first : p h ≡ true = ap p e ∙ t in
-    let rest : count_by p hs ≡ 0 = none_passes p hs (λ y k. not_true (p y) (λ s.
+    let rest : count_by p hs ≡ 0 = none_passes p hs (λ y k. false_from_ne_true (p y) (λ s.
     let same : y ≡ h = only y (inr k) s ∙ sym e in
     false≢true (sym (not_before_itself h) ∙ subst (λ z. is_before h z ≡ true) same (rise.0 y k)))) in
     sum_by-cons (λ y. cond (p y) 1 0) h hs ∙ (ap (λ b. cond b 1 0 + count_by p hs) first ∙ omega (arith, rest))
 one_passes p (h ∷ hs) g rise (inr m) only t =
-    let first : p h ≡ false = not_true (p h) (λ s. false≢true (sym (not_before_itself h) ∙ subst (λ z. is_before h z ≡ true) (sym (only h (inl refl) s)) (rise.0 g m))) in
+    let first : p h ≡ false = false_from_ne_true (p h) (λ s. false≢true (sym (not_before_itself h) ∙ subst (λ z. is_before h z ≡ true) (sym (only h (inl refl) s)) (rise.0 g m))) in
     let rest : count_by p hs ≡ 1 = one_passes p hs g rise.1 m (λ y k s. only y (inr k) s) t in
     sum_by-cons (λ y. cond (p y) 1 0) h hs ∙ (ap (λ b. cond b 1 0 + count_by p hs) first ∙ omega (arith, rest))
 

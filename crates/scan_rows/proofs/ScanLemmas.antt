@@ -2,7 +2,7 @@
 use Rattle.std.proofs.Common.{IsTrue, ◌<ℤ◌, ◌≡◌, ℕ, zero, suc, ◌+◌, ◌<◌, ◌≤◌, Bool, true, false, not, ◌&&◌, ◌||◌, ◌⊎◌, inl, inr, All, Contains, List, [], ◌∷◌, length, map, get_or, set, ℤ, pos, refl, sym, ◌∙◌, ap, subst, arith, add-one}
 use Rattle.std.specs.Prelude.{filter, fold, int_lt}
 use Rattle.std.specs.Ordering.{int_eq}
-use Rattle.std.proofs.lemmas.Bool.{and_parts, false≢true, or_cases}
+use Rattle.std.proofs.lemmas.Bool.{and_parts, false≢true, or_cases, and_right}
 use Rattle.std.proofs.lemmas.Bool.Decides.{Decides-int_eq}
 use Rattle.std.proofs.lemmas.Int.{ints}
 use Rattle.zpl_nums.specs.declared.folds.Fold.{Fold}
@@ -130,10 +130,6 @@ through_itself x = ap not (not_before_itself x)
 abbrev up_to : (List ℤ → Bool) → List ℤ → List ℤ → Bool
 up_to is_in x t = is_in t && is_through x t
 
-and_false : (a b : Bool) → b ≡ false → (a && b) ≡ false
-and_false true b h = h
-and_false false b h = refl
-
 and_true : (a b : Bool) → b ≡ true → (a && b) ≡ a
 and_true true b h = h
 and_true false b h = refl
@@ -141,7 +137,7 @@ and_true false b h = refl
 none_later : (is_in : List ℤ → Bool) (x : List ℤ) (ts : List (List ℤ)) → ((t : List ℤ) → Among ts t → IsBefore x t) → filter (up_to is_in x) ts ≡ []
 none_later is_in x [] h = refl
 none_later is_in x (t ∷ ts) h =
-    rw (and_false (is_in t) (is_through x t) (through_later x t (h t (inl refl)))) (none_later is_in x ts (λ u m. h u (inr m)))
+    rw (and_right (is_in t) (is_through x t) (through_later x t (h t (inl refl)))) (none_later is_in x ts (λ u m. h u (inr m)))
 
 -- one more value in front of a fold
 one_more : (operator : Fold) (so_far : ℤ) (p : List ℤ → Bool) (e : List ℤ → ℤ) (t : List ℤ) (ts : List (List ℤ))

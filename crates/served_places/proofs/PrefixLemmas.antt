@@ -2,6 +2,7 @@
 use Rattle.std.proofs.Common.{◌≡◌, refl, sym, ◌∙◌, ap, subst, ℕ, zero, suc, Bool, false}
 use Rattle.std.proofs.Common.{[], length, Option, Some, None}
 use Rattle.std.specs.Prelude.{is_some, slice_get}
+use Rattle.std.proofs.lemmas.Option.{same_Some}
 use Rattle.zpl_tree.specs.Syntax.{Base, Mask as MaskText, Prefix}
 use Rattle.zpl_names.specs.Kinds.{Rank, Shape}
 use Rattle.zpl_names.specs.Scope.{kind_of}
@@ -24,9 +25,6 @@ use Rattle.served_places.specs.Told.{AreSlotsTold, IsMaskTold, IsTold, place_of,
 use Rattle.served_places.specs.Given.{KnowsGiven}
 use Rattle.served_places.proofs.ToldLemmas.{reads_as}
 use Rattle.served_places.proofs.BracketLemmas.{IsCurrentTold, slot_current, opened_told}
-
-some_same : {A : Type 0} (x y : A) → Some x ≡ Some y → x ≡ y
-some_same x y e = cc
 
 -- ---- what is told, with another slot
 
@@ -154,7 +152,7 @@ module _ (w : Where) (environment : Environment) (answer : ℕ) (currents : Curr
       within_is)
 
   long : length shape ≡ k
-  long = some_same (length shape) k (count ∙ rank_is)
+  long = same_Some (length shape) k (count ∙ rank_is)
 
   many : length slotted.flood ≡ k
   many = ap (λ (bs : Shape). length bs) flood_is ∙ long

@@ -3,6 +3,7 @@ use Rattle.std.proofs.Common.{◌≡◌, ◌⊎◌, inl, inr, refl, sym, ◌∙�
 use Rattle.std.proofs.Common.{◌-◌, ◌<◌, ◌≤◌, Bool, true, false, not, ◌&&◌, ◌||◌, List, [], ◌∷◌, ◌++◌}
 use Rattle.std.proofs.Common.{length, map, Option, Some, None, option_map, ℤ}
 use Rattle.std.specs.Prelude.{IsSome, slice_get}
+use Rattle.std.proofs.lemmas.Bool.{or_parts}
 use Rattle.zpl_nums.specs.declared.operators.Op.{Op}
 use Rattle.zpl_region.specs.declared.regions.Region.{Region}
 use Rattle.zpl_tree.specs.Syntax.{Name, Expr, Number, Truth, Coord, Named, Shifted, Around, Remap, Call, Paren, Neg, Not, Abs, Pair, Reduce, Scan, Flood, Prefix, Assign, Base}
@@ -27,10 +28,6 @@ use Rattle.prefix_runs.specs.of_array_runs.Reads.{IsShift}
 use Rattle.prefix_runs.specs.of_array_runs.Floods.{three_floods, CoversFlood, CoverFloods, slot_floods, IsReadableAs, IsElementAs, IsElementwiseAs, IsReadableMaskAs, IsWritableAs, IsArrayServed}
 use Rattle.served_places.specs.Told.{IsSlotTold, IsMaskTold, IsStoredOf, IsTold, place_of, IsSeenFrom, reach_told, AreFree, IsPlainExpr}
 
-pub or_false : (a b : Bool) → a || b ≡ false → (a ≡ false) × (b ≡ false)
-or_false true b h = absurd (let no : ⊥ = cc in no)
-or_false false b h = (refl, h)
-
 -- ---- shapes
 
 floods_cover : (shape own : Shape) (m : ℕ) → length shape ≡ length own
@@ -40,7 +37,7 @@ floods_cover [] [] (suc m) l e = (tt, floods_cover [] [] m refl refl)
 floods_cover [] (b ∷ own) (suc m) l e = absurd (omega (arith, l))
 floods_cover (b ∷ shape) [] (suc m) l e = absurd (omega (arith, l))
 floods_cover (flood ∷ shape) (b ∷ own) (suc m) l e =
-    let parts = or_false (flood && not b) (reaches_beyond shape own) e in
+    let parts = or_parts (flood && not b) (reaches_beyond shape own) e in
     (by flood b parts.0, floods_cover shape own m (omega (arith, l)) parts.1)
   where
     by : (flood b : Bool) → flood && not b ≡ false → CoversFlood b flood
@@ -55,8 +52,8 @@ same_floods [] [] l e f = refl
 same_floods [] (b ∷ own) l e f = absurd (omega (arith, l))
 same_floods (b ∷ shape) [] l e f = absurd (omega (arith, l))
 same_floods (flood ∷ shape) (b ∷ own) l e f =
-    let one = or_false (flood && not b) (reaches_beyond shape own) e in
-    let other = or_false (b && not flood) (reaches_beyond own shape) f in
+    let one = or_parts (flood && not b) (reaches_beyond shape own) e in
+    let other = or_parts (b && not flood) (reaches_beyond own shape) f in
     ap (λ c. c ∷ shape) (by flood b one.0 other.0)
     ∙ ap (λ cs. b ∷ cs) (same_floods shape own (omega (arith, l)) one.1 other.1)
   where
@@ -254,7 +251,7 @@ module _ (spots : List Spot) (w : Where) (environment : Environment) (answer : �
     writable found (Some stored) ranked free h =
         let shape = has_shape found (Some stored) h in
         let same : length shape.shape ≡ k = length_is (sym shape.ranked ∙ ranked) in
-        let parts = or_false
+        let parts = or_parts
         (both_known reaches_beyond (shape_at reach (array_rank found)) (array_shape found))
         (both_known reaches_beyond (array_shape found) (shape_at reach (array_rank found))) free in
         let current : shape_at reach (array_rank found) ≡ Some slotted.flood =

@@ -1,8 +1,10 @@
 -- Cells are kept before they are read: in tables without cells, and where arrays become cells.
-use Rattle.std.proofs.Common.{◌≡◌, ◌⊎◌, refl, sym, ◌∙◌, ap, ap₂, subst, inl, inr, arith, ℕ, zero, suc, ◌+◌, ◌==◌, Bool, true, false, ◌||◌, not, List, [], ◌∷◌, ◌++◌, length, map, Option, Some, None, eq-eqb, eqb-true, true≢false}
+use Rattle.std.proofs.Common.{◌≡◌, ◌⊎◌, refl, sym, ◌∙◌, ap, ap₂, subst, inl, inr, arith, ℕ, zero, suc, ◌+◌, ◌==◌, Bool, true, false, not, List, [], ◌∷◌, ◌++◌, length, map, Option, Some, None, eq-eqb, eqb-true, true≢false}
 use Rattle.std.specs.Prelude.{flat_map, if◌then◌else◌, slice_get}
 use Rattle.std.specs.List.{AllByRecursion, list_any}
 use Rattle.std.proofs.lemmas.List.Elements.{recursion_from_All}
+use Rattle.std.proofs.lemmas.Bool.{and_parts, not-true, or_left, or_right, and_from}
+use Rattle.std.proofs.lemmas.List.{map-append}
 use Rattle.zpl_region.proofs.ListLemmas.{Among, Among-append_left, Among-append_right, all_from_among, among_appended}
 use Rattle.node_form.specs.declared.words.ExprOp.{ExprOp}
 use Rattle.node_form.specs.declared.words.ExprOp.TheVariants as word
@@ -20,33 +22,16 @@ use Rattle.zpl_compile.specs.of_fuse_contract.Contracting.{fits_a_cell, here_or_
 use Rattle.zpl_compile.specs.of_fuse_contract.Contracting.{is_shifted_in, member_contracted, naming_group}
 use Rattle.zpl_compile.specs.of_fuse_contract.Contracting.{put_or_cell, word_contracted}
 use Rattle.zpl_compile.proofs.of_fuse_contract.CellFitLemmas.{every_mapped}
-use Rattle.pass_promises.proofs.StayLemmas.{not_true, same_exprs}
-use Rattle.needs_runs.proofs.HoldsLemmas.{both_parts, both_true}
+use Rattle.pass_promises.proofs.StayLemmas.{same_exprs}
 use Rattle.sharable_tables.proofs.UnitLemmas.{same_depth}
 
 -- ---- lists
-or_parts : (a b : Bool) → (a || b) ≡ true → (a ≡ true) ⊎ (b ≡ true)
-or_parts true b e = inl refl
-or_parts false b e = inr e
-
-or_left : (a b : Bool) → a ≡ true → (a || b) ≡ true
-or_left true b e = refl
-or_left false b e = cc
-
-or_right : (a b : Bool) → b ≡ true → (a || b) ≡ true
-or_right true b e = refl
-or_right false b e = e
 
 any_right : {X : Type 0} (test : X → Bool) (xs ys : List X) → list_any test ys ≡ true
     → list_any test (xs ++ ys) ≡ true
 any_right test [] ys e = e
 any_right test (x ∷ xs) ys e =
     or_right (test x) (list_any test (xs ++ ys)) (any_right test xs ys e)
-
-mapped_append : {X Y : Type 0} (f : X → Y) (xs ys : List X)
-    → map f (xs ++ ys) ≡ map f xs ++ map f ys
-mapped_append f [] ys = refl
-mapped_append f (x ∷ xs) ys = ap (λ zs. f x ∷ zs) (mapped_append f xs ys)
 
 -- ---- tables without cells
 abbrev AreWithout : List ExprOp → Type 0
@@ -98,7 +83,7 @@ module _ (tables : Tables) (fits : Fits tables) (none : tables.cells ≡ 0) wher
       → keeps_from tables depth kept group ≡ true
   nothing_read [] depth kept = refl
   nothing_read (one ∷ group) depth kept =
-      both_true (are_among kept (flat_map cells_in (member_words tables one)))
+      and_from (are_among kept (flat_map cells_in (member_words tables one)))
       (keeps_from tables (depth_behind depth one) (kept_behind depth kept one) group)
       (ap (are_among kept) (no_cells (member_words tables one) (all_without (exprs_of one))))
       (nothing_read group (depth_behind depth one) (kept_behind depth kept one))
@@ -131,7 +116,7 @@ module _ (tables : Tables) (fits : Fits tables) (none : tables.cells ≡ 0) wher
   all_words_are [] = refl
   all_words_are (expr ∷ exprs) =
       ap₂ (λ a b. a ++ b) (words_are tables.exprs expr) (all_words_are exprs)
-      ∙ sym (mapped_append (word_contracted cell_of) (words_of tables expr)
+      ∙ sym (map-append (word_contracted cell_of) (words_of tables expr)
       (flat_map (words_of tables) exprs))
 
   member_words_are : (one : Member) → member_words new (member_contracted cell_of one)
@@ -157,7 +142,7 @@ module _ (tables : Tables) (fits : Fits tables) (none : tables.cells ≡ 0) wher
             ++ flat_map cells_in (map (word_contracted cell_of) words)) ≡ true
         by None is rest = rest
         by (Some cell) is rest =
-            both_true (is_kept cell kept)
+            and_from (is_kept cell kept)
             (are_among kept (flat_map cells_in (map (word_contracted cell_of) words)))
             (each array cell (or_left (array == array) (is_among array (flat_map arrays_in words))
             (eq-eqb array array refl)) is) rest
@@ -186,14 +171,14 @@ module _ (tables : Tables) (fits : Fits tables) (none : tables.cells ≡ 0) wher
       → IsBegunBy array depth one
   begun_by array (suc depth) one e = cc
   begun_by array zero (member.Put other expr None line) e =
-      let both = both_parts (other == array)
+      let both = and_parts (other == array)
       (not (is_among array (flat_map arrays_in (words_of tables expr)))) e in
       record {
         expr = expr;
         line = line;
         outermost = refl;
         is = ap (λ a. member.Put a expr None line) (eqb-true other array both.0);
-        free = not_true (is_among array (flat_map arrays_in (words_of tables expr))) both.1;
+        free = not-true (is_among array (flat_map arrays_in (words_of tables expr))) both.1;
       }
   begun_by array zero (member.Put other expr (Some mask) line) e = cc
   begun_by array zero (member.Cell cell expr mask line) e = cc
@@ -258,7 +243,7 @@ module _ (tables : Tables) (fits : Fits tables) (none : tables.cells ≡ 0) wher
       → keeps_from new depth kept (map (member_contracted cell_of) group) ≡ true
   keeps_all [] depth kept begins = refl
   keeps_all (one ∷ group) depth kept begins =
-      both_true (are_among kept (flat_map cells_in (member_words new (member_contracted cell_of one))))
+      and_from (are_among kept (flat_map cells_in (member_words new (member_contracted cell_of one))))
       (keeps_from new (depth_behind depth (member_contracted cell_of one))
       (kept_behind depth kept (member_contracted cell_of one))
       (map (member_contracted cell_of) group))
@@ -382,7 +367,7 @@ module _ (tables : Tables) (fits : Fits tables) (none : tables.cells ≡ 0) wher
   begun_alone array [] e group among = absurd among
   begun_alone array (only ∷ []) e group (inl same) =
       ap (is_begun tables array 0) (sym same)
-      ∙ (both_parts (not (is_shifted_in tables array only)) (is_begun tables array 0 only) e).1
+      ∙ (and_parts (not (is_shifted_in tables array only)) (is_begun tables array 0 only) e).1
   begun_alone array (only ∷ []) e group (inr none) = absurd none
   begun_alone array (one ∷ two ∷ groups) e group among = cc
 
@@ -390,7 +375,7 @@ module _ (tables : Tables) (fits : Fits tables) (none : tables.cells ≡ 0) wher
   begins_all group among array cell is =
       inr (λ named.
       begun_alone array (flat_map (naming_group tables array) tables.groups)
-      (both_parts (not (is_among array (flat_map arrays_of_row tables.code)))
+      (and_parts (not (is_among array (flat_map arrays_of_row tables.code)))
       (fits_a_cell tables array (flat_map (naming_group tables array) tables.groups))
       (becomes 0 (length tables.arrays) array
       (found_cell tables.cells (contracted_arrays tables) array cell is))).1

@@ -3,6 +3,7 @@ use Rattle.std.proofs.Common.{◌≡◌, refl, ◌∙◌, ap, ℕ, ◌+◌, true
 use Rattle.std.specs.Prelude.{slice_get}
 use Rattle.std.specs.List.{AllByRecursion, list_all}
 use Rattle.std.proofs.lemmas.List.Elements.{All-append, All-from_recursion, All-weaker}
+use Rattle.std.proofs.lemmas.Bool.{and_parts, and_from}
 use Rattle.node_form.specs.declared.words.ExprOp.{ExprOp}
 use Rattle.node_form.specs.declared.words.ExprOp.TheVariants as word
 use Rattle.node_form.specs.declared.arrays.ArrayRow.{ArrayRow}
@@ -15,7 +16,6 @@ use Rattle.zpl_compile.specs.of_fuse_contract.Contracting.{cell_among, contracte
 use Rattle.zpl_compile.specs.of_fuse_contract.Contracting.{word_contracted}
 use Rattle.zpl_compile.specs.of_fuse_contract.Fusing.{fused}
 use Rattle.zpl_compile.proofs.of_fuse_contract.CellFitLemmas.{every_mapped}
-use Rattle.needs_runs.proofs.HoldsLemmas.{both_parts, both_true}
 
 -- the words of an expression changed, in tables with other arrays
 module _ (old new : Tables) (change : ExprOp → ExprOp) (keeps : (one : ExprOp)
@@ -24,8 +24,8 @@ module _ (old new : Tables) (change : ExprOp → ExprOp) (keeps : (one : ExprOp)
       → list_all (word_has_fringe new) (map change words) ≡ true
   words_within [] all = refl
   words_within (one ∷ words) all =
-      let parts = both_parts (word_has_fringe old one) (list_all (word_has_fringe old) words) all in
-      both_true (word_has_fringe new (change one))
+      let parts = and_parts (word_has_fringe old one) (list_all (word_has_fringe old) words) all in
+      and_from (word_has_fringe new (change one))
       (list_all (word_has_fringe new) (map change words)) (keeps one parts.0)
       (words_within words parts.1)
 
@@ -69,8 +69,8 @@ module _ (tables : Tables) where
   words_before [] all = refl
   words_before (one ∷ words) all =
       let parts =
-      both_parts (word_has_fringe tables one) (list_all (word_has_fringe tables) words) all in
-      both_true (word_has_fringe (normalised tables) one)
+      and_parts (word_has_fringe tables one) (list_all (word_has_fringe tables) words) all in
+      and_from (word_has_fringe (normalised tables) one)
       (list_all (word_has_fringe (normalised tables)) words) (word_before one parts.0)
       (words_before words parts.1)
 
@@ -136,8 +136,8 @@ words_same : (old new : Tables) → new.arrays ≡ old.arrays → (words : List 
     → list_all (word_has_fringe old) words ≡ true → list_all (word_has_fringe new) words ≡ true
 words_same old new same [] all = refl
 words_same old new same (one ∷ words) all =
-    let parts = both_parts (word_has_fringe old one) (list_all (word_has_fringe old) words) all in
-    both_true (word_has_fringe new one) (list_all (word_has_fringe new) words)
+    let parts = and_parts (word_has_fringe old one) (list_all (word_has_fringe old) words) all in
+    and_from (word_has_fringe new one) (list_all (word_has_fringe new) words)
     (same_word old new same one parts.0) (words_same old new same words parts.1)
 
 pub checked_fringes : (tables : Tables) → HasFringes tables → HasFringes (checked tables)

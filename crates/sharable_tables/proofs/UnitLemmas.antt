@@ -2,6 +2,7 @@
 use Rattle.std.proofs.Common.{◌≡◌, refl, ◌∙◌, ap, ap₂, ℕ, zero, suc, true, false, not, nat_le, List, [], ◌∷◌, ◌++◌, length, map, Option, Some, None}
 use Rattle.std.specs.Prelude.{◌||◌}
 use Rattle.std.specs.List.{list_any}
+use Rattle.std.proofs.lemmas.Bool.{not-true}
 use Rattle.node_form.specs.declared.members.Member.{Member}
 use Rattle.node_form.specs.declared.members.Member.TheVariants as member
 use Rattle.node_form.specs.declared.tables.Tables.{Tables}
@@ -14,7 +15,7 @@ use Rattle.zpl_compile.specs.of_fuse_contract.Contracting.{cell_among, contracte
 use Rattle.zpl_compile.specs.of_fuse_contract.Contracting.{member_contracted, put_or_cell}
 use Rattle.zpl_compile.specs.of_fuse_contract.Fusing.{fused}
 use Rattle.zpl_compile.proofs.of_fuse_contract.CellFitLemmas.{every_mapped}
-use Rattle.pass_promises.proofs.StayLemmas.{any_both, fused_hold, normalised_hold, not_true, parts}
+use Rattle.pass_promises.proofs.StayLemmas.{any_both, fused_hold, normalised_hold, parts}
 use Rattle.pass_promises.proofs.StayLemmas.{same_turning}
 
 -- without such members nothing is asked
@@ -37,8 +38,8 @@ module _ (tables : Tables) where
       (λ group other one two join.
       let found = parts tables group other join in
       none_turns (group ++ other)
-      (any_both is_turning group other (not_true (list_any is_turning group) found.first)
-      (not_true (list_any is_turning other) found.second)))
+      (any_both is_turning group other (not-true (list_any is_turning group) found.first)
+      (not-true (list_any is_turning other) found.second)))
 
   -- ---- arrays that become cells
   abbrev cell_of : ℕ → Option ℕ

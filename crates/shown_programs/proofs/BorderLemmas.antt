@@ -4,6 +4,7 @@ use Rattle.std.proofs.Common.{Option, Some, None, refl, subst}
 use Rattle.std.specs.Prelude.{slice_get, IsSome}
 use Rattle.std.specs.Option.{option_map}
 use Rattle.std.specs.List.{list_any}
+use Rattle.std.proofs.lemmas.Bool.{or_parts}
 use Rattle.zpl_nums.specs.declared.ends.Border.{Border as BorderKind}
 use Rattle.zpl_tree.specs.Syntax.{Name, Prefix, Stmt, Form, Assign, Invoke, Block, If, While, Repeat, For, Border, Write, Return, Program}
 use Rattle.zpl_tree.specs.Grammar.{IsProgram, HasAny}
@@ -25,7 +26,7 @@ use Rattle.meaning_ranks.specs.Ranked.{AreArraysOf, IsRankedStmt}
 use Rattle.zpl_lowering.specs.Where.{Where, slotted_at}
 use Rattle.served_places.specs.of_lowering_runs.Seen.{Spot, seen_thing}
 use Rattle.served_places.specs.Told.{place_of}
-use Rattle.served_places.proofs.ToldLemmas.{has_slot, or_false, writable}
+use Rattle.served_places.proofs.ToldLemmas.{has_slot, writable}
 use Rattle.operator_runs.specs.of_border_runs.Bordered.{IsBordered, AreBordered, IsSomeBordered, IsBorder, IsBorderServed, BorderLeaf}
 use Rattle.shown_programs.specs.Text.{IsBorderForm}
 use Rattle.shown_programs.proofs.BoundedLemmas.{IsEdgeAt}
@@ -85,7 +86,7 @@ module _ (program : Program) (settings : List Setting) (laws : Laws program)
           → AreBordered w (slotted_at w.currents (Some k)) names
       names_suit k has [] arrays flat r = tt
       names_suit k has (name ∷ names) arrays flat r =
-          let parts = or_false (is_flood_written reach name)
+          let parts = or_parts (is_flood_written reach name)
           (list_any (is_flood_written reach) names) flat in (
             name_suits k has name arrays.0 parts.0 (r.0, tt),
             names_suit k has names arrays.1 parts.1 r.1,
@@ -98,7 +99,7 @@ module _ (program : Program) (settings : List Setting) (laws : Laws program)
           prefixes (Border kind all) spots w environment answer currents edge shapes h in
           let r = placed_ranked program settings laws grammar clean own_text proper ranked at
           prefixes (Border kind all) spots w environment answer currents edge shapes h in
-          let flat = (or_false (has_flood (shape_at reach w.prefix))
+          let flat = (or_parts (has_flood (shape_at reach w.prefix))
           (list_any (is_flood_written reach) all)
           (no_place (has_flood (shape_at reach w.prefix)
           || list_any (is_flood_written reach) all) at i.0.clean.under.floods)).1 in

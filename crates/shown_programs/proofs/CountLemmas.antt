@@ -8,6 +8,7 @@ use Rattle.std.specs.Prelude.{Contains, find}
 use Rattle.std.specs.Option.{option_map, option_to_list}
 use Rattle.std.specs.List.{flat_map}
 use Rattle.std.specs.Str.{bytes_eq}
+use Rattle.std.proofs.lemmas.List.Elements.{Contains-append_left, Contains-append_right}
 use Rattle.zpl_nums.specs.declared.operators.Op.{Op}
 use Rattle.zpl_region.specs.declared.regions.Region.{Region}
 use Rattle.zpl_tree.specs.Grammar.{IsBody}
@@ -83,8 +84,7 @@ use Rattle.zpl_lowering.specs.Program.{locals_code}
 use Rattle.zpl_lowering.specs.Program.{body_code, reads_round, call_code}
 use Rattle.lowered_flat.specs.of_lowering_fits.Standing.{calling_of}
 use Rattle.lowered_flat.specs.of_lowering_fits.Whole.{given_frames, local_frame, name_frames, local_frames}
-use Rattle.lowered_flat.proofs.of_lowering_fits.PartLemmas.{AreRight, contains_first, contains_later, contains_left}
-use Rattle.lowered_flat.proofs.of_lowering_fits.PartLemmas.{contains_right}
+use Rattle.lowered_flat.proofs.of_lowering_fits.PartLemmas.{AreRight, contains_first, contains_later}
 use Rattle.lowered_flat.proofs.of_lowering_fits.TallyLemmas.{round, tally, rounds_append, reads_are, IsSilent}
 use Rattle.lowered_flat.proofs.of_lowering_fits.TallyLemmas.{no_sites, silent_both, region_silent, IsTameDim}
 use Rattle.lowered_flat.proofs.of_lowering_fits.TallyLemmas.{AreTameDims, IsTameInner}
@@ -817,11 +817,11 @@ module _ (own : Setup) (right : AreRight own) (call : Calling → Next → Lower
         (λ tests. arms_counted place w seen next at reach within arms otherwise
         (λ after. lowered_otherwise (at_place w) after otherwise)
         (λ part in_it. held part
-        (contains_left (arms_parts arms) (else_parts otherwise) part in_it)) tests
+        (Contains-append_left (arms_parts arms) (else_parts otherwise) part in_it)) tests
         (each_left HasNoFault xs ys good)
         (λ after. otherwise_counted place w seen after within otherwise
         (λ part in_it. held part
-        (contains_right (arms_parts arms) (else_parts otherwise) part in_it))
+        (Contains-append_right (arms_parts arms) (else_parts otherwise) part in_it))
         (each_right HasNoFault xs ys good)))
     form_counted place w seen next at reach (While test body) start whole prefixes visited under
         proper ranked good =
@@ -922,10 +922,10 @@ module _ (own : Setup) (right : AreRight own) (call : Calling → Next → Lower
         (nothing_behind reach within rest otherwise)
         (test_counted place w seen next reach test at tests.0 (each_left HasNoFault xs ys first))
         (λ after. all_counted place w seen after within body
-        (λ part in_it. visited part (contains_left (list_of body) (arms_parts rest) part in_it))
+        (λ part in_it. visited part (Contains-append_left (list_of body) (arms_parts rest) part in_it))
         (each_right HasNoFault xs ys first))
         (λ after. arms_counted place w seen after (arms_at rest) reach within rest otherwise last
-        (λ part in_it. visited part (contains_right (list_of body) (arms_parts rest) part in_it))
+        (λ part in_it. visited part (Contains-append_right (list_of body) (arms_parts rest) part in_it))
         tests.1 (each_right HasNoFault (xs ++ ys) zs good) lasts)
 
     otherwise_counted : (place : Place) (w : Where) → IsSeenAt place w → (next : Next)

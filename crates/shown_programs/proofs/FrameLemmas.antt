@@ -1,10 +1,10 @@
 -- Parameters and local variables, arrays among them: the frame that a procedure has is what is seen
 -- of the state, and its arrays stand in the tables at numbers of their own.
-use Rattle.std.proofs.Common.{◌≡◌, ℕ, zero, suc, ◌≤◌, ◌<◌, ℤ, List, []}
-use Rattle.std.proofs.Common.{◌∷◌, ◌++◌, map, length, take, Some, refl, sym, ap, ◌∙◌, subst}
+use Rattle.std.proofs.Common.{◌≡◌, ℕ, suc, ◌≤◌, ℤ, List, []}
+use Rattle.std.proofs.Common.{◌∷◌, ◌++◌, map, length, take, refl, sym, ap, ◌∙◌, subst}
 use Rattle.std.proofs.Common.{arith, append_assoc, length-append}
 use Rattle.std.proofs.lemmas.List.{length-map}
-use Rattle.std.specs.Prelude.{slice_get}
+use Rattle.std.proofs.lemmas.Option.{slice_get_within}
 use Rattle.zpl_region.specs.declared.regions.Region.{Region}
 use Rattle.zpl_arrays.specs.Array.{Array}
 use Rattle.zpl_tree.specs.Syntax.{Name}
@@ -49,18 +49,13 @@ arrays_more scalars arrays more [] le h = tt
 arrays_more scalars arrays more (entry ∷ names) le h =
     (array_more scalars arrays more entry.1 le h.0, arrays_more scalars arrays more names le h.1)
 
-pub inside : {X : Type 0} (xs : List X) (k : ℕ) (x : X) → slice_get xs k ≡ Some x → k < length xs
-inside [] k x e = cc
-inside (y ∷ xs) zero x e = omega arith
-inside (y ∷ xs) (suc k) x e = let l = inside xs k x e in omega (arith, l)
-
 -- stored arrays are among those of the tables
 pub apart_in : (tables : Tables) (from : ℕ) (arrays : List Stored) (to : ℕ)
     → from ≤ length tables.arrays → Rises from (array_numbers arrays) to → AreStored tables arrays
     → Rises from (array_numbers arrays) (length tables.arrays)
 apart_in tables from [] to le h s = le
 apart_in tables from (one ∷ arrays) to le h s =
-    let l = inside tables.arrays one.array s.0.row s.0.found in
+    let l = slice_get_within tables.arrays one.array s.0.row s.0.found in
     (h.0, apart_in tables (suc one.array) arrays to (omega (arith, l)) h.1 s.1)
 
 -- ---- the store without what has come behind

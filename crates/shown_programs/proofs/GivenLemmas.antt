@@ -3,6 +3,7 @@
 use Rattle.std.proofs.Common.{◌≡◌, ℕ, zero, suc, ◌+◌, ◌≤◌, ◌<◌, Bool, true, false, List, [], ◌∷◌}
 use Rattle.std.proofs.Common.{◌++◌, length, map, pos, Some, refl, sym, ap, ◌∙◌, subst, arith, length-append}
 use Rattle.std.specs.Prelude.{slice_get, slice_index_or}
+use Rattle.std.proofs.lemmas.Option.{slice_get_within}
 use Rattle.zpl_arrays.specs.Array.{Array}
 use Rattle.zpl_names.specs.Expansion.{FormalName}
 use Rattle.zpl_meaning.specs.Store.{Store}
@@ -35,7 +36,7 @@ use Rattle.lowered_flat.proofs.of_lowering_fits.ArrayLemmas.{row_storage, row_th
 use Rattle.operator_runs.specs.of_call_runs.Copied.{copy_at}
 use Rattle.operator_runs.specs.of_call_runs.Taken.{AllGiven}
 use Rattle.operator_runs.proofs.of_call_runs.CopyLemmas.{copied}
-use Rattle.shown_programs.proofs.FrameLemmas.{Framing, array_frame, array_more, framing_array, framing_on, framing_scalar, inside, longer_spots, thing_frame}
+use Rattle.shown_programs.proofs.FrameLemmas.{Framing, array_frame, array_more, framing_array, framing_on, framing_scalar, longer_spots, thing_frame}
 use Rattle.shown_programs.proofs.KnownLemmas.{kept_at}
 use Rattle.shown_programs.proofs.LocalLemmas.{AreFresh, AreFreshArrays, GoesOn, below_same}
 
@@ -231,7 +232,7 @@ module _ (tables : Tables) (n : ℕ) (setup : Setup) (entry : Entry) (base : Lis
       } in
       let c = copied tables n entry.line next stored now sound
       (among_stored tables arrays g.0.0 stored stored_all g.0.1) is
-      (inside tables.slots next.slots stored.storage.rank room.slots.0) in
+      (slice_get_within tables.slots next.slots stored.storage.rank room.slots.0) in
       let after = c.after in
       let same : map (seen_spot after) spots ≡ map (seen_spot now) spots =
       same_spots now after 0 spots from f.frame.rises

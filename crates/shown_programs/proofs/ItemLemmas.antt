@@ -1,6 +1,7 @@
 -- Printed values in accepted programs, with operators over regions, suit the places where they stand.
 use Rattle.std.proofs.Common.{◌≡◌, refl, subst, ℕ, zero, suc, false, List, [], ◌∷◌, Option, Some, None}
 use Rattle.std.specs.List.{flat_map, list_any}
+use Rattle.std.proofs.lemmas.Bool.{or_parts}
 use Rattle.zpl_tree.specs.Syntax.{Base, Expr, Item, Str, Value, Program}
 use Rattle.zpl_names.specs.Kinds.{Rank, Shape}
 use Rattle.zpl_names.specs.Faults.{has_flood, item_rank, shape_at}
@@ -17,7 +18,6 @@ use Rattle.zpl_lowering.specs.Where.{Where}
 use Rattle.served_places.specs.of_lowering_runs.Seen.{Spot}
 use Rattle.operator_runs.specs.Served.{ArePrintedOperated, IsPrintedOperated}
 use Rattle.served_places.specs.Told.{place_of}
-use Rattle.served_places.proofs.ToldLemmas.{or_false}
 use Rattle.shown_programs.specs.Operators.{IsOperatedExpr}
 use Rattle.shown_programs.specs.Text.{AreOperatedTexts, IsOperatedText}
 use Rattle.shown_programs.proofs.OperandLemmas.{IsReached, serves_alone, serves_under, slot_at}
@@ -68,13 +68,13 @@ module _ (program : Program) (text : List ℕ) (around : Shapes) (source : Proce
   items_suit [] t g p r flat sites = tt
   items_suit (Str bytes ∷ items) t g p r flat sites =
       items_suit items t g p r
-      (or_false (has_flood (shape_at reach (Some 0)))
+      (or_parts (has_flood (shape_at reach (Some 0)))
       (list_any (λ item. has_flood (shape_at reach (item_rank reach item))) items) flat).1 sites
   items_suit (Value expr ∷ items) t g p r flat sites =
       let rest = flat_map (item_sites reach) items in
       let whole = whole_rank reach Printed expr in
       let first = each_left Here (item_sites reach (Value expr)) rest sites in
-      let parts = or_false (has_flood (shape_at reach whole))
+      let parts = or_parts (has_flood (shape_at reach whole))
       (list_any (λ item. has_flood (shape_at reach (item_rank reach item))) items) flat in (
         item_suits expr (operated expr t.0 g.0) (rank_in place Printed expr) p.0.0 (r.0, p.0.1)
             parts.0 (clean_of program text around (expr_sites reach whole expr) first.1),

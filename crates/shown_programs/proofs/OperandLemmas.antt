@@ -5,6 +5,7 @@ use Rattle.std.proofs.Common.{List, [], ◌∷◌, Option, Some, None}
 use Rattle.std.specs.Prelude.{length, slice_get, unsigned_abs, ℤ, ◌≤◌}
 use Rattle.std.specs.Option.{option_map}
 use Rattle.std.specs.List.{list_any}
+use Rattle.std.proofs.lemmas.Bool.{or_parts, or_left, or_right}
 use Rattle.zpl_nums.specs.declared.folds.Fold.{Fold}
 use Rattle.zpl_nums.specs.declared.operators.Op.{Op}
 use Rattle.zpl_region.specs.declared.regions.Region.{Region}
@@ -23,7 +24,7 @@ use Rattle.zpl_meaning.specs.Regions as mean
 use Rattle.zpl_meaning.specs.Regions.{vector_in}
 use Rattle.zpl_meaning.specs.Scalars.{IsScalarName}
 use Rattle.zpl_meaning.proofs.DepthLemmas.{Each, each_left, each_right}
-use Rattle.zpl_meaning.proofs.ProperLemmas.{IsClean, or_left, or_right}
+use Rattle.zpl_meaning.proofs.ProperLemmas.{IsClean}
 use Rattle.meaning_ranks.specs.Ranked.{AreOfRank, GoesAlong, IsInnerOf, IsOfRank}
 use Rattle.meaning_ranks.proofs.CurrentLemmas.{region_first, region_told}
 use Rattle.zpl_lowering.specs.Where.{Slotted, Stored, Where, slotted_at}
@@ -39,7 +40,7 @@ use Rattle.served_places.specs.Told.{AreFree, IsPlainExpr, IsSeenFrom, IsStoredO
 use Rattle.served_places.specs.Given.{IsSound, KnowsGiven}
 use Rattle.served_places.proofs.GivenLemmas.{opens}
 use Rattle.served_places.proofs.SourceLemmas.{source_current, source_flood, source_seen, source_slotted, source_told}
-use Rattle.served_places.proofs.ToldLemmas.{HasSlotOf, elementwise, has_shape, has_slot, or_false}
+use Rattle.served_places.proofs.ToldLemmas.{HasSlotOf, elementwise, has_shape, has_slot}
 use Rattle.shown_programs.specs.Operators.{AreOperatedExprs, IsOperatedExpr}
 use Rattle.shown_programs.proofs.KnownLemmas.{kept_at}
 use Rattle.shown_programs.proofs.ShapeLemmas.{IsShapeOf, are_told, currents_of, shape_of}
@@ -358,7 +359,7 @@ module _ (spots : List Spot) (environment : Environment) (answer : ℕ) (edge : 
   remap_serves at name indices a w currents shapes r sited k o has t own sites = (
     remapped w currents shapes r k has name (exprs_count indices) own.0.0
         (subst (λ (x : Rank). has_flood (shape_at (reach w shapes) x) ≡ false) (o refl)
-        (or_false (has_flood (array_shape (kind_of w.scope name)))
+        (or_parts (has_flood (array_shape (kind_of w.scope name)))
         (has_flood (shape_at (reach w shapes) sited)) (no_place _ at sites.0.under.floods)).1)
         (thing_of w.environment name.text) refl
         (subst (λ (x : Option Thing). IsArray x) (r.seen.names name.text) own.1.0.0),

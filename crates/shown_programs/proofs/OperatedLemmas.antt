@@ -5,6 +5,7 @@ use Rattle.std.proofs.Common.{List, [], Option, Some, None}
 use Rattle.std.specs.Prelude.{IsSome, slice_get}
 use Rattle.std.specs.Option.{option_map}
 use Rattle.std.specs.List.{list_any}
+use Rattle.std.proofs.lemmas.Bool.{or_parts}
 use Rattle.zpl_nums.specs.declared.operators.Op.{Op}
 use Rattle.zpl_region.specs.declared.regions.Region.{Region}
 use Rattle.zpl_tree.specs.Syntax.{Name, Base, Expr, Number, Truth, Coord, Named, Shifted, Around, Remap, Call, Paren, Neg, Not, Abs, Pair, Reduce, Scan, Flood, Item, Prefix, Stmt, Form, Assign, Invoke, Block, If, While, Repeat, For, Border, Write, Return, Program}
@@ -36,7 +37,7 @@ use Rattle.point_runs.specs.of_array_runs.Floods.{IsArrayServed}
 use Rattle.operator_runs.specs.Operated.{IsOperated}
 use Rattle.operator_runs.specs.Served.{ArePrintedOperated, IsArrayOperated, IsScalarOperated, OperatedLeaf}
 use Rattle.served_places.specs.Told.{place_of, reach_told}
-use Rattle.served_places.proofs.ToldLemmas.{array_served, elementwise, has_shape, or_false}
+use Rattle.served_places.proofs.ToldLemmas.{array_served, elementwise, has_shape}
 use Rattle.shown_programs.specs.Operators.{IsOperatedExpr}
 use Rattle.shown_programs.specs.Text.{IsOperatedText, IsOperatedForm}
 use Rattle.shown_programs.proofs.CallLemmas.{setup, text_of}
@@ -139,7 +140,7 @@ module _ (spots : List Spot) (environment : Environment) (answer : ℕ) (edge : 
     own_free : both_known reaches_beyond (shape_at reach (array_rank found)) (array_shape found)
         ≡ false
     own_free =
-        (or_false (both_known reaches_beyond (shape_at reach (array_rank found)) (array_shape found))
+        (or_parts (both_known reaches_beyond (shape_at reach (array_rank found)) (array_shape found))
         (both_known reaches_beyond (array_shape found) (shape_at reach (array_rank found)))
         (no_place _ at free)).0
 

@@ -1,6 +1,6 @@
 -- What is told of calls.
 use Rattle.std.proofs.Common.{◌≡◌, ◌⊎◌, inl, inr, ℕ, ◌+◌, ◌<◌, ◌≤◌, length, get_or, drop, map, ap₂, arith, Bool, true, false, not, ◌&&◌, cond, List, [], ◌∷◌, Some, None, refl, sym, ◌∙◌, ap}
-use Rattle.std.proofs.lemmas.List.{drop_all}
+use Rattle.std.proofs.lemmas.List.{drop_all, drop_more}
 use Rattle.zpl_tree.specs.Syntax.{Name, Exprs, NoExpr, ThenExpr}
 use Rattle.zpl_tree.specs.View.{expr_of, exprs_of, form_of}
 use Rattle.zpl_tree.specs.declared.expressions.Expr.{Expr as CodeExpr}
@@ -10,7 +10,7 @@ use Rattle.zpl_tree.specs.declared.names.Name.{Name as CodeName}
 use Rattle.name_kinds.specs.of_zpl_names.Kinds as kinds
 use Rattle.name_kinds.specs.Seen.{formal_of}
 use Rattle.name_kinds.specs.declared.kinds.Formal.{Formal}
-use Rattle.site_faults.proofs.FindingLemmas.{drop-next, tells-append, tells-none}
+use Rattle.site_faults.proofs.FindingLemmas.{tells-append, tells-none}
 use Rattle.name_kinds.specs.of_zpl_names.Accepted as kind
 use Rattle.name_kinds.specs.of_zpl_names.Scope.{is_procedure, is_value}
 use Rattle.name_kinds.specs.of_zpl_names.Faults.{all_fit, at_if, call_places, fits, fixed_actual, fixed_actuals, formals_in, kind_at}
@@ -89,22 +89,6 @@ all_fit-lengths reach (formal ∷ formals) (actual ∷ actuals) differ =
     and-false true = refl
     and-false false = refl
 
-pub all_fit-next : (reach : Reach) (formals : List Formal) (actuals : List CodeExpr) (k : ℕ)
-    (f : Formal) (a : CodeExpr) → k < length formals → k < length actuals →
-    all_fit reach (map formal_of (drop k formals)) (exprs_of (drop k actuals)) ≡
-    fits reach (formal_of (get_or formals k f)) (expr_of (get_or actuals k a)) &&
-    all_fit reach (map formal_of (drop (k + 1) formals)) (exprs_of (drop (k + 1) actuals))
-all_fit-next reach formals actuals k f a one two =
-    ap₂ (λ formals actuals. all_fit reach (map formal_of formals) (exprs_of actuals))
-    (drop-next formals k f one) (drop-next actuals k a two)
-
-pub all_fit-end : (reach : Reach) (formals : List Formal) (actuals : List CodeExpr) (k : ℕ) →
-    length formals ≤ k → length actuals ≤ k →
-    all_fit reach (map formal_of (drop k formals)) (exprs_of (drop k actuals)) ≡ true
-all_fit-end reach formals actuals k one two =
-    ap₂ (λ formals actuals. all_fit reach (map formal_of formals) (exprs_of actuals))
-    (drop_all k formals one) (drop_all k actuals two)
-
 pub fixed-next : (reach : Reach) (formals : List Formal) (actuals : List CodeExpr) (k : ℕ)
     (f : Formal) (a : CodeExpr) (old new whole : State) → k < length formals → k < length actuals →
     new ≡ tells kind.NotAssignable
@@ -126,7 +110,7 @@ fixed-next reach formals actuals k f a old new whole one two told invariant =
     old) ∙
     ap (λ places. tells kind.NotAssignable places old)
     (ap₂ (λ formals actuals. fixed_actuals reach (map formal_of formals) (exprs_of actuals))
-    (sym (drop-next formals k f one)) (sym (drop-next actuals k a two))) ∙
+    (sym (drop_more formals k f one)) (sym (drop_more actuals k a two))) ∙
     invariant
 
 fixed-no_formals : (reach : Reach) (actuals : Exprs) → fixed_actuals reach [] actuals ≡ []

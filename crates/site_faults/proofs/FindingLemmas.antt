@@ -1,6 +1,6 @@
 -- What is told, one after another.
-use Rattle.std.proofs.Common.{◌≡◌, ℕ, ◌+◌, ◌<◌, ◌≤◌, length, get_or, drop, drop-cons, add-one, Bool, true, false, ◌&&◌, cond, List, [], ◌∷◌, ◌++◌, refl, sym, ◌∙◌, ap, ap₂}
-use Rattle.std.proofs.lemmas.List.{drop_all}
+use Rattle.std.proofs.Common.{◌≡◌, ℕ, ◌+◌, ◌<◌, ◌≤◌, length, get_or, drop, Bool, true, false, ◌&&◌, cond, List, [], ◌∷◌, ◌++◌, refl, sym, ◌∙◌, ap, ap₂}
+use Rattle.std.proofs.lemmas.List.{drop_all, drop_more}
 use Rattle.std.proofs.lemmas.List.Sums.{fold-append}
 use Rattle.zpl_tree.specs.Syntax.{at_of}
 use Rattle.zpl_tree.specs.View.{expr_of}
@@ -37,12 +37,6 @@ tells-same kind test other at place mid state tests places states =
     ap₂ (λ test at. tells kind (at_if test at) mid) tests places ∙
     ap (tells kind (at_if other place)) states
 
--- the next element of what is left
-pub drop-next : {A : Type 0} (xs : List A) (k : ℕ) (d : A) → k < length xs →
-    drop k xs ≡ get_or xs k d ∷ drop (k + 1) xs
-drop-next xs k d less =
-    drop-cons xs k d less ∙ ap (λ n. get_or xs k d ∷ drop n xs) (sym (add-one k))
-
 -- ---- a loop that tells one place after the other
 
 -- the places of a list are those of its first element and of the rest
@@ -61,7 +55,7 @@ loop-step kind places test at step xs k d found place old new whole less tests a
     (tells-append kind (at_if (test (get_or xs k d)) (at (get_or xs k d)))
     (places (drop (k + 1) xs)) old) ∙
     ap (λ all. tells kind all old)
-    (sym (step (get_or xs k d) (drop (k + 1) xs)) ∙ ap places (sym (drop-next xs k d less))) ∙
+    (sym (step (get_or xs k d) (drop (k + 1) xs)) ∙ ap places (sym (drop_more xs k d less))) ∙
     invariant
 
 pub loop-end : {X : Type 0} (kind : FaultKind) (places : List X → List ℕ) (xs : List X) (k : ℕ)

@@ -1,7 +1,7 @@
 -- What is told of the forms of statement.
 use Rattle.std.proofs.Common.{◌≡◌, ℕ, ◌+◌, ◌-◌, ◌<◌, ◌≤◌, ◌==◌, length, get_or, drop, slice_get, option_map, true≢false, arith, eqb-true, Bool, true, false, not, ◌&&◌, ◌||◌, cond, Option, Some, None, List, [], ◌∷◌, ◌++◌, is_none, is_some, map, append-nil, append_assoc, refl, sym, ◌∙◌, ap, ap₂}
 use Rattle.std.specs.List.{flat_map, list_any}
-use Rattle.std.proofs.lemmas.List.{drop_all}
+use Rattle.std.proofs.lemmas.List.{drop_all, drop_more}
 use Rattle.name_kinds.specs.of_zpl_nums.declared.ends.Border.{Border as BorderKind}
 use Rattle.name_kinds.specs.of_zpl_nums.declared.operators.Op.{Op}
 use Rattle.zpl_tree.specs.Syntax.{Name, Expr, Exprs, ForHead, Prefix, Stmts, Arms, Item, Otherwise, Assign, Invoke, Block, If, While, Repeat, For, Border, Write, Return, at_of}
@@ -23,7 +23,7 @@ use Rattle.name_kinds.proofs.PartLemmas.{part-elementwise}
 use Rattle.site_faults.specs.Findings.{State, after, region_told, tells, text_told, where_reached}
 use Rattle.site_faults.specs.Flood.{is_flood_written}
 use Rattle.site_faults.specs.Whole.{is_integer_operand}
-use Rattle.site_faults.proofs.FindingLemmas.{at_of-expr, drop-next, tells-append, tells-none}
+use Rattle.site_faults.proofs.FindingLemmas.{at_of-expr, tells-append, tells-none}
 use Rattle.site_faults.proofs.WholeLemmas.{boolean-seen}
 
 -- the first places of a statement in a shattered one
@@ -317,7 +317,7 @@ pub any-step : {X : Type 0} (test : X → Bool) (xs : List X) (k : ℕ) (d : X) 
 any-step test xs k d old now found whole less here next invariant =
     ap (λ now. now || list_any test (drop (k + 1) xs)) (next ∙ ap (λ b. old || b) here) ∙
     or-assoc old (test (get_or xs k d)) (list_any test (drop (k + 1) xs)) ∙
-    ap (λ rest. old || list_any test rest) (sym (drop-next xs k d less)) ∙ invariant
+    ap (λ rest. old || list_any test rest) (sym (drop_more xs k d less)) ∙ invariant
   where
     or-assoc : (a b c : Bool) → (a || b) || c ≡ a || (b || c)
     or-assoc true b c = refl

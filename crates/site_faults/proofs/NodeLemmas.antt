@@ -1,6 +1,6 @@
 -- What is told of the nodes of expressions.
 use Rattle.std.proofs.Common.{◌≡◌, ℕ, ℤ, ◌+◌, ◌<◌, ◌≤◌, length, get_or, drop, Bool, true, false, not, ◌&&◌, ◌||◌, cond, List, [], ◌++◌, Option, Some, refl, sym, ◌∙◌, ap, ap₂}
-use Rattle.std.proofs.lemmas.List.{drop_all}
+use Rattle.std.proofs.lemmas.List.{drop_all, drop_more}
 use Rattle.name_kinds.specs.of_zpl_nums.declared.operators.Op.{Op}
 use Rattle.name_kinds.specs.of_zpl_nums.declared.folds.Fold.{Fold}
 use Rattle.name_kinds.specs.of_zpl_nums.declared.folds.Fold.TheVariants as fold
@@ -21,7 +21,7 @@ use Rattle.name_kinds.proofs.RegionLemmas.{exprs_count-slice}
 use Rattle.site_faults.specs.Findings.{State, after, region_told, tells, text_told, where_reached}
 use Rattle.site_faults.specs.Flood.{is_flood_read}
 use Rattle.site_faults.specs.Whole.{fold_takes_booleans}
-use Rattle.site_faults.proofs.FindingLemmas.{at_if-both, at_of-expr, drop-next, tells-append, tells-none, tells-same}
+use Rattle.site_faults.proofs.FindingLemmas.{at_if-both, at_of-expr, tells-append, tells-none, tells-same}
 use Rattle.site_faults.proofs.WholeLemmas.{part-integer}
 
 pub coord_told : (state : State) (reach : Reach) (rank : Rank) (at dimension : ℕ) →
@@ -254,7 +254,7 @@ index-step reach before now own clash xs k d old new whole less part clashes tol
     (index_clashes reach (both_ranks before (own_rank_in reach e)) (exprs_of (drop (k + 1) xs)))
     old) ∙
     ap (λ rest. tells kind.RankClash (index_clashes reach before (exprs_of rest)) old)
-    (sym (drop-next xs k d less)) ∙ invariant
+    (sym (drop_more xs k d less)) ∙ invariant
 
 pub index-end : (reach : Reach) (before : Rank) (xs : List CodeExpr) (k : ℕ) (old whole : State) →
     length xs ≤ k →

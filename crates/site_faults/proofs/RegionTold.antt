@@ -1,7 +1,7 @@
 -- What is told of directions, regions and masks.
 use Rattle.std.proofs.Common.{◌≡◌, ℕ, ◌+◌, ◌<◌, ◌≤◌, length, get_or, drop, map, Bool, true, false, not, ◌&&◌, ◌||◌, cond, Some, List, [], ◌∷◌, ◌++◌, refl, sym, ◌∙◌, ap, ap₂, arith}
 use Rattle.std.specs.List.{flat_map}
-use Rattle.std.proofs.lemmas.List.{drop_all}
+use Rattle.std.proofs.lemmas.List.{drop_all, drop_more}
 use Rattle.zpl_tree.specs.View.{dim_of, dims_of, exprs_of, name_of, pre_of}
 use Rattle.zpl_tree.specs.declared.expressions.Expr.{Expr as CodeExpr}
 use Rattle.zpl_tree.specs.declared.regions.DimText.{DimText as CodeDim}
@@ -15,7 +15,7 @@ use Rattle.name_kinds.specs.of_zpl_names.Shapes.{inner_shape, prefix_rank}
 use Rattle.name_kinds.specs.of_zpl_names.Faults.{at_if, base_at, blanks, both_known, dim_at, fourth_dim, fourth_part, is_mask, kind_at, lacks_region, post_clashes, pre_clashes, reaches_beyond, region_rank_in, unknown_base, unless_taken}
 use Rattle.name_kinds.specs.of_zpl_names.Sites.{AtDir, AtMask, AtPosts, AtRegion, Reach}
 use Rattle.site_faults.specs.Regions.{clashes_behind, is_blank, is_ditto}
-use Rattle.site_faults.proofs.FindingLemmas.{at_of-expr, drop-next, tells-append, tells-same}
+use Rattle.site_faults.proofs.FindingLemmas.{at_of-expr, tells-append, tells-same}
 use Rattle.site_faults.specs.Findings.{State, after, region_told, tells, text_told, where_reached}
 
 pub named_dir_told : (state : State) (reach : Reach) (name : Name) →
@@ -200,7 +200,7 @@ pre-step reach before now rank base clash xs k d old new whole less clashes told
     (clashes_behind reach after rank (map pre_of (drop (k + 1) xs)) base) old) ∙
     ap
     (λ rest. tells kind.RankClash (clashes_behind reach before rank (map pre_of rest) base) old)
-    (sym (drop-next xs k d less)) ∙ invariant
+    (sym (drop_more xs k d less)) ∙ invariant
 
 pub pre-end : (reach : Reach) (before rank : Rank) (base : ℕ) (clash : Bool) (xs : List CodePre)
     (k : ℕ) (old new whole : State) → length xs ≤ k →

@@ -1,6 +1,6 @@
 -- What is told of statements.
 use Rattle.std.proofs.Common.{◌≡◌, ℕ, zero, suc, ◌+◌, ◌<◌, ◌≤◌, length, get_or, drop, map, Bool, true, false, not, ◌&&◌, ◌==◌, cond, Some, None, List, [], ◌∷◌, ◌++◌, refl, sym, ◌∙◌, ap, arith, eqb-true}
-use Rattle.std.proofs.lemmas.List.{drop_all}
+use Rattle.std.proofs.lemmas.List.{drop_all, drop_more}
 use Rattle.zpl_tree.specs.Syntax as plain
 use Rattle.zpl_tree.specs.View.{arms_of, expr_of, prefix_of}
 use Rattle.zpl_tree.specs.declared.statements.Arm.{Arm, out-Arm}
@@ -12,7 +12,7 @@ use Rattle.name_kinds.specs.of_zpl_names.Ranks.{first_rank}
 use Rattle.name_kinds.specs.of_zpl_names.Faults.{at_if, broken_arms, broken_test, has_prefix}
 use Rattle.name_kinds.specs.of_zpl_names.Sites.{Reach, arms_rank, test_rank}
 use Rattle.site_faults.specs.Findings.{State, tells}
-use Rattle.site_faults.proofs.FindingLemmas.{drop-next, tells-append, tells-none}
+use Rattle.site_faults.proofs.FindingLemmas.{tells-append, tells-none}
 
 first-assoc : (one two three : Rank) →
     first_rank (first_rank one two) three ≡ first_rank one (first_rank two three)
@@ -45,7 +45,7 @@ arms-step reach rank now test xs k d whole less tested next invariant =
     (arms_rank reach (arms_of rest)) ∙
     ap (first_rank rank)
     (sym (arms-cons reach (get_or xs k d) rest) ∙
-    ap (λ xs. arms_rank reach (arms_of xs)) (sym (drop-next xs k d less))) ∙
+    ap (λ xs. arms_rank reach (arms_of xs)) (sym (drop_more xs k d less))) ∙
     invariant
 
 pub arms-end : (reach : Reach) (rank whole : Rank) (xs : List Arm) (k : ℕ) → length xs ≤ k →
@@ -76,7 +76,7 @@ broken-step reach rank xs k d old new whole less told invariant =
     (broken_arms reach rank (arms_of rest)) old) ∙
     ap (λ places. tells kind.ShatterBody places old)
     (sym (broken-cons reach rank (get_or xs k d) rest) ∙
-    ap (λ xs. broken_arms reach rank (arms_of xs)) (sym (drop-next xs k d less))) ∙
+    ap (λ xs. broken_arms reach rank (arms_of xs)) (sym (drop_more xs k d less))) ∙
     invariant
 
 pub broken-end : (reach : Reach) (rank : Rank) (xs : List Arm) (k : ℕ) (old whole : State) →

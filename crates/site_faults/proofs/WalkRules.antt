@@ -2,6 +2,7 @@
 use Rattle.std.proofs.Common.{◌≡◌, ℕ, ℤ, ◌+◌, ◌<◌, length, get_or, drop, Result, Ok, Err, OnOk, ap₂, Bool, List, [], ◌++◌, None, append-nil, refl, sym, ◌∙◌, ap}
 use Rattle.std.specs.List.{fold}
 use Rattle.std.proofs.lemmas.List.Sums.{fold-append}
+use Rattle.std.proofs.lemmas.List.{drop_more}
 use Rattle.zpl_tree.specs.Syntax.{Expr, Exprs, NoExpr, ThenExpr, Number, Truth, Coord, Named, Shifted, Around, Remap, Call, Paren, Neg, Not, Abs, Pair, Reduce, Scan, Flood}
 use Rattle.zpl_tree.specs.Syntax.{Inner}
 use Rattle.zpl_tree.specs.View.{expr_of, exprs_of, form_of}
@@ -14,7 +15,6 @@ use Rattle.name_kinds.specs.of_zpl_names.Ranks.{inner_rank, own_rank}
 use Rattle.name_kinds.specs.of_zpl_names.Sites.{Reach, Site, Actual, AtExpr, actuals_sites, call_of, expr_sites, over_source, region_sites, whole_sites}
 use Rattle.name_kinds.proofs.RegionLemmas.{few-dims}
 use Rattle.site_faults.specs.Findings.{State, after, region_told, tells, text_told}
-use Rattle.site_faults.proofs.FindingLemmas.{drop-next}
 use Rattle.site_faults.proofs.OrderLemmas.{late}
 
 pub number_told : (state : State) (reach : Reach) (rank : Rank) (at : ℕ) (value : ℤ) →
@@ -157,7 +157,7 @@ actuals-step reach xs k d old new goal less walked invariant =
     sym (fold-append after old (actuals_sites reach (ThenExpr first NoExpr)) rest) ∙
     ap (fold after old)
     (sym (actuals-cons reach first (exprs_of (drop (k + 1) xs))) ∙
-    ap (λ xs. actuals_sites reach (exprs_of xs)) (sym (drop-next xs k d less))) ∙
+    ap (λ xs. actuals_sites reach (exprs_of xs)) (sym (drop_more xs k d less))) ∙
     invariant
 
 -- an operator over a region

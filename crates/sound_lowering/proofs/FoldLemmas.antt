@@ -1,6 +1,7 @@
 -- In the rows of each program the fold of what a loop accumulates stands right behind it.
 use Rattle.std.proofs.Common.{◌≡◌, ℕ, suc, ◌+◌, Bool, true, false, List, [], ◌∷◌, ◌++◌, map, refl, sym, ap, ap₂, ◌∙◌, subst, append_assoc}
 use Rattle.std.specs.Prelude.{Option, Some, None}
+use Rattle.std.proofs.lemmas.List.{map-append}
 use Rattle.zpl_lowering.specs.of_zpl_tree.Syntax.{Form, Program}
 use Rattle.zpl_lowering.specs.of_zpl_names.Kinds.{Rank}
 use Rattle.zpl_lowering.specs.of_zpl_names.Sites.{tests_rank}
@@ -23,7 +24,7 @@ use Rattle.zpl_lowering.specs.Program.{lowered_program}
 use Rattle.zpl_lowering.specs.Tables.{rows_of}
 use Rattle.lowering_checks.specs.Walked.{laid}
 use Rattle.lowering_checks.specs.Totals.{has_total}
-use Rattle.lowering_checks.proofs.WalkLemmas.{map_both, laid_rows, laid_then}
+use Rattle.lowering_checks.proofs.WalkLemmas.{laid_rows, laid_then}
 use Rattle.lowering_checks.proofs.SlateLemmas.{AllQuiet, needs_quiet}
 use Rattle.lowering_checks.proofs.EachLemmas.{GoesAlong, phases_each, program_each, shattered_each}
 use Rattle.lowering_checks.proofs.TotalLemmas.{form_none, masked_none}
@@ -89,7 +90,7 @@ along = record {
       let jump = flat_row (Jump (at + size one + size other + 2)) ∷ laid start other in (
         tt,
         subst AreFolded
-            (sym (map_both flat_row (flattened (at + 1) one)
+            (sym (map-append flat_row (flattened (at + 1) one)
             (Jump (at + size one + size other + 2) ∷ flattened start other)))
             (both_folded (laid (at + 1) one) jump (first (at + 1)) (tt, second start)),
       );
@@ -98,11 +99,11 @@ along = record {
       let start = at + size head + 1 in
       let back = Jump at ∷ [] in
       subst AreFolded
-      (sym (map_both flat_row (flattened at head) (Unless test end ∷ (flattened start body ++ back))))
+      (sym (map-append flat_row (flattened at head) (Unless test end ∷ (flattened start body ++ back))))
       (both_folded (laid at head)
       (map flat_row (Unless test end ∷ (flattened start body ++ back))) (before at) (
         tt,
-        subst AreFolded (sym (map_both flat_row (flattened start body) back))
+        subst AreFolded (sym (map-append flat_row (flattened start body) back))
             (both_folded (laid start body) (map flat_row back) (inside start) (tt, tt)),
       ));
   repeat = λ body head test inside before at.
@@ -110,10 +111,10 @@ along = record {
       let back = Unless test (at + 1) ∷ [] in (
         tt,
         subst AreFolded
-            (sym (map_both flat_row (flattened (at + 1) body) (flattened later head ++ back)))
+            (sym (map-append flat_row (flattened (at + 1) body) (flattened later head ++ back)))
             (both_folded (laid (at + 1) body) (map flat_row (flattened later head ++ back))
             (inside (at + 1))
-            (subst AreFolded (sym (map_both flat_row (flattened later head) back))
+            (subst AreFolded (sym (map-append flat_row (flattened later head) back))
             (both_folded (laid later head) (map flat_row back) (before later) (tt, tt)))),
       );
   fold = λ numbers line scalar operator over operand.

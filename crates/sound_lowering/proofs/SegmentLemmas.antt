@@ -2,6 +2,7 @@
 use Rattle.std.proofs.Common.{◌≡◌, ◌⊎◌, inl, inr, ℕ, zero, suc, ◌+◌, ◌<◌, ◌≤◌, Bool, true, false, refl, sym, ap, ◌∙◌, subst, arith, true≢false, length-append}
 use Rattle.std.proofs.Common.{List, [], ◌∷◌, ◌++◌, length, map}
 use Rattle.std.specs.Prelude.{Option, Some, None, filter, not}
+use Rattle.std.proofs.lemmas.List.{map-append}
 use Rattle.code_parts.specs.of_zpl_nums.declared.ends.TrapKind.{TrapKind}
 use Rattle.zpl_lowering.specs.of_node_form.declared.instructions.Instr.{Instr}
 use Rattle.zpl_lowering.specs.of_node_form.declared.instructions.Instr.TheVariants as instr
@@ -17,7 +18,7 @@ use Rattle.node_check.specs.declared.facts.Fact.{Fact}
 use Rattle.node_check.specs.declared.facts.Fact.TheVariants.{Agree, Border, Held, Made, Stands, Uniform}
 use Rattle.node_check.specs.Learn.{learnt, loses, made}
 use Rattle.lowering_checks.specs.Walked.{laid}
-use Rattle.lowering_checks.proofs.WalkLemmas.{map_both, laid_rows, laid_then}
+use Rattle.lowering_checks.proofs.WalkLemmas.{laid_rows, laid_then}
 use Rattle.sound_lowering.specs.Goes.{AreIn, MeetsRow, behind_row, behind_rows, row_nexts, IsStraight, AreMet, Goes, RowsGo, ThenGoes, WhenGoes, TrapGoes, ChooseGoes, WhileGoes, RepeatGoes, Forgets}
 
 -- ---- sets of facts along rows from a number on
@@ -242,7 +243,7 @@ laid_long at (piece.When test body) = omega (arith, laid_long (at + 1) body)
 laid_long at (piece.Choose test one other) =
     let start : ℕ = at + size one + 2 in
     let jump = Jump (at + size one + size other + 2) ∷ flattened start other in
-    let rows = map_both flat_row (flattened (at + 1) one) jump in
+    let rows = map-append flat_row (flattened (at + 1) one) jump in
     let both = long_both (laid (at + 1) one) (map flat_row jump) in
     omega (arith, ap length rows, both, laid_long (at + 1) one, laid_long start other)
 laid_long at (piece.While head test body) =
@@ -250,9 +251,9 @@ laid_long at (piece.While head test body) =
     let start : ℕ = at + size head + 1 in
     let back = Jump at ∷ [] in
     let rest = Unless test end ∷ (flattened start body ++ back) in
-    let rows = map_both flat_row (flattened at head) rest in
+    let rows = map-append flat_row (flattened at head) rest in
     let both = long_both (laid at head) (map flat_row rest) in
-    let rows' = map_both flat_row (flattened start body) back in
+    let rows' = map-append flat_row (flattened start body) back in
     let both' = long_both (laid start body) (map flat_row back) in
     omega (
       arith,
@@ -267,9 +268,9 @@ laid_long at (piece.Repeat body head test) =
     let later : ℕ = at + size body + 1 in
     let back = Unless test (at + 1) ∷ [] in
     let rest = flattened later head ++ back in
-    let rows = map_both flat_row (flattened (at + 1) body) rest in
+    let rows = map-append flat_row (flattened (at + 1) body) rest in
     let both = long_both (laid (at + 1) body) (map flat_row rest) in
-    let rows' = map_both flat_row (flattened later head) back in
+    let rows' = map-append flat_row (flattened later head) back in
     let both' = long_both (laid later head) (map flat_row back) in
     omega (
       arith,
@@ -402,7 +403,7 @@ module _ (code : Tables) where
           let last : at + (1 + size one) ≡ suc at + size one = omega arith in
           let behind : start ≡ suc (suc at + size one) = omega arith in
           let long : length (laid (at + 1) one) ≡ size one = laid_long (at + 1) one in
-          let rows = map_both flat_row (flattened (at + 1) one)
+          let rows = map-append flat_row (flattened (at + 1) one)
           (Jump leave ∷ flattened start other) in
           let jump : IsRight code all (suc at + size one) (flat_row (Jump leave)) =
           subst (λ n. IsRight code all n (flat_row (Jump leave))) last
@@ -447,9 +448,9 @@ module _ (code : Tables) where
           let last : ((at + size head) + 1) + size body ≡ suc (at + size head) + size body =
           omega arith in
           let back = Jump at ∷ [] in
-          let rows = map_both flat_row (flattened at head)
+          let rows = map-append flat_row (flattened at head)
           (Unless test end ∷ (flattened start body ++ back)) in
-          let rows' = map_both flat_row (flattened start body) back in
+          let rows' = map-append flat_row (flattened start body) back in
           let jump : IsRight code all (suc (at + size head) + size body) (flat_row (Jump at)) =
           subst (λ n. IsRight code all n (flat_row (Jump at))) last
           (jump_right code all (((at + size head) + 1) + size body) at (below _ _ _ jumps enters)) in
@@ -495,8 +496,8 @@ module _ (code : Tables) where
           let end : at + (1 + (size body + (size head + 1))) ≡ tested + 1 = omega arith in
           let last : tested ≡ (suc at + size body) + size head = omega arith in
           let back = Unless test (at + 1) ∷ [] in
-          let rows = map_both flat_row (flattened (at + 1) body) (flattened later head ++ back) in
-          let rows' = map_both flat_row (flattened later head) back in
+          let rows = map-append flat_row (flattened (at + 1) body) (flattened later head ++ back) in
+          let rows' = map-append flat_row (flattened later head) back in
           let test_is : IsRight code all ((suc at + size body) + size head)
           (flat_row (Unless test (at + 1))) =
           subst (λ n. IsRight code all n (flat_row (Unless test (at + 1)))) last

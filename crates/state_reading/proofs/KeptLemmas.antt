@@ -42,18 +42,6 @@ told_none (Store dims values ∷ lines) stop = refl
 told_none (Kept from words ∷ lines) stop = absurd cc
 told_none (Msg to tag words ∷ lines) stop = refl
 
-pub told_more : (line : SavedLine) (lines : List SavedLine) → is_kept line ≡ true → length (told_kept (line ∷ lines)) ≡ 1 + length (told_kept lines)
-told_more (Proc row) lines kind = absurd cc
-told_more (Scalars values) lines kind = absurd cc
-told_more (Slot dims) lines kind = absurd cc
-told_more (Cells values) lines kind = absurd cc
-told_more (Store dims values) lines kind = absurd cc
-told_more (Kept from words) lines kind = omega arith
-told_more (Msg to tag words) lines kind = absurd cc
-
-pub told_over : (lines : List SavedLine) → begins is_kept lines ≡ false → length (told_kept lines) ≡ 0
-told_over lines stop = ap length (told_none lines stop)
-
 told_line : (line : SavedLine) (lines : List SavedLine) (entry : ℕ × List ℤ) → line ≡ kept_line entry → told_kept (line ∷ lines) ≡ entry ∷ told_kept lines
 told_line line lines entry written = subst (λ (l : SavedLine). told_kept (l ∷ lines) ≡ entry ∷ told_kept lines) (sym written) refl
 

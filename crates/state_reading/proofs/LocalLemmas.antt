@@ -3,7 +3,6 @@ use Rattle.std.proofs.Common.{◌≡◌, ℕ, ◌<◌, Bool, true, false, ℤ, L
 use Rattle.std.specs.Prelude.{All, Option, Some, None, is_some, slice_get}
 use Rattle.std.specs.List.{AllZip}
 use Rattle.zpl_nums.specs.declared.ends.End.{End}
-use Rattle.grid_links.specs.declared.messages.Message.{Message}
 use Rattle.zpl_region.specs.declared.regions.Region.{Region}
 use Rattle.node_form.specs.of_zpl_arrays.Array.{Array}
 use Rattle.node_form.specs.declared.instructions.Instr.{Instr}
@@ -12,7 +11,7 @@ use Rattle.node_form.specs.declared.tables.Tables.{Tables}
 use Rattle.grid_meaning.specs.Local.{Local, processors}
 use Rattle.grid_meaning.specs.State.{HasParts, IsFresh, IsLocal, IsOutside, IsSlot, IsStore}
 use Rattle.save_lines.specs.declared.lines.SavedLine.{SavedLine}
-use Rattle.save_reading.specs.of_grid_save.Reads.{AtKept, AtMessage, BreaksState, Each, Over, More, IsFar, IsKeptLine, IsMessageLine, LacksKept, MayKeep, MayKeepAs, MayStand, MayStandAt, ReadsState, ReadsValues, Run, RunBreaks, TooFar, is_kept, is_message, told_kept, with_kept}
+use Rattle.save_reading.specs.of_grid_save.Reads.{AtKept, AtMessage, BreaksState, Each, Over, More, IsFar, IsKeptLine, IsMessageLine, LacksKept, MayKeep, MayKeepAs, MayStand, MayStandAt, ReadsValues, Run, RunBreaks, TooFar, is_kept, is_message, told_kept, with_kept}
 use Rattle.save_reading.specs.Three.{HasThree}
 use Rattle.save_reading.proofs.OneReading.{values_one}
 use Rattle.row_progress.specs.Begun.{AreTold}
@@ -95,23 +94,6 @@ pub at_message : (code : Tables) (p : ℕ) (start : List SavedLine) (local : Loc
 at_message code p start local one left reads breaks =
     let are = reads.kept_are in
     AtMessage are.values reads.kept are.behind_values one left are.values_are are.far are.kept_is are.may_keep breaks
-
-pub state_read : (code : Tables) (p : ℕ) (start : List SavedLine) (local other : Local) (one : List SavedLine) (sent : List (ℕ × Message)) (rest : List SavedLine) → ReadsLocal code p start local one →
-    other ≡ local → Run is_message (IsMessageLine code p) [] one sent rest → ReadsState code p start (record { local = other; sent = sent }) rest
-state_read code p start local other one sent rest reads e run =
-    let are = reads.kept_are in
-    record {
-      values = are.values;
-      behind_values = are.behind_values;
-      values_are = are.values_are;
-      far = are.far;
-      kept = reads.kept;
-      behind_kept = one;
-      kept_is = are.kept_is;
-      may_keep = are.may_keep;
-      local_is = e ∙ reads.local_is;
-      sent_is = run;
-    }
 
 -- ---- of values that were read, as a state that is the same
 module _ (code : Tables) (p : ℕ) (start behind : List SavedLine) (values same : Local) (e : same ≡ values) (reads : ReadsValues code p start values behind) where

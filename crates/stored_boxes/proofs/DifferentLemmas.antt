@@ -5,16 +5,13 @@ use Rattle.std.specs.Prelude.{Contains, ◌==◌}
 use Rattle.std.specs.Str.{bytes_eq}
 use Rattle.std.proofs.lemmas.Bool.Decides.{Decides-eqb}
 use Rattle.std.proofs.lemmas.Slice.Eq.{bytes_eq-Decides}
+use Rattle.std.proofs.lemmas.Bool.{and_right}
 use Rattle.zpl_names.proofs.ListLemmas.{Among, among_from_Contains, Contains-from_among}
 use Rattle.zpl_names.specs.Expansion.{ExpandedArray, is_same_array}
 use Rattle.lowered_flat.specs.Apart.{AreApart}
 use Rattle.stored_boxes.specs.Different.{AreDifferent, DiffersFrom}
 
 -- ---- two arrays
-
-and_false : (a b : Bool) → b ≡ false → a && b ≡ false
-and_false true b is = is
-and_false false b is = refl
 
 not_same : (one other : ExpandedArray) → ¬ (one.path ≡ other.path) →
     is_same_array one other ≡ false
@@ -36,7 +33,7 @@ apart_numbers a b differ = by (a == b) (Decides-eqb a b)
 not_same_variable : (one other : ExpandedArray) → ¬ (one.variable ≡ other.variable) →
     is_same_array one other ≡ false
 not_same_variable one other differ =
-    and_false (bytes_eq one.path other.path) (one.variable == other.variable)
+    and_right (bytes_eq one.path other.path) (one.variable == other.variable)
     (apart_numbers one.variable other.variable differ)
 
 -- ---- lists of arrays

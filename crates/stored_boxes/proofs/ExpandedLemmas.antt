@@ -1,11 +1,12 @@
 -- The arrays of the expanded program, call by call: no two are the same.
-use Rattle.std.proofs.Common.{◌≡◌, ℕ, zero, suc, ◌+◌, Bool, true, false, not, ◌||◌, cond, inl, inr, List, [], ◌∷◌, ◌++◌, map, Option, Some, None, option_map, refl, sym, ap, ◌∙◌, subst, Decides, append_assoc}
+use Rattle.std.proofs.Common.{◌≡◌, ℕ, zero, suc, ◌+◌, Bool, true, false, not, cond, inl, inr, List, [], ◌∷◌, ◌++◌, map, Option, Some, None, option_map, refl, sym, ap, ◌∙◌, subst, Decides, append_assoc}
 use Rattle.std.specs.Prelude.{Contains, flat_map, filter_map, find}
 use Rattle.std.specs.List.{cons_option}
 use Rattle.std.specs.Str.{bytes_eq}
 use Rattle.std.proofs.lemmas.Slice.Eq.{bytes_eq-Decides}
 use Rattle.std.proofs.lemmas.List.{map-append}
 use Rattle.std.proofs.lemmas.Grind.{flat_map-append}
+use Rattle.std.proofs.lemmas.Bool.{or_parts}
 use Rattle.zpl_tree.specs.Syntax.{Name, Expr, Number, Truth, Coord, Named, Shifted, Around, Remap, Call, Paren, Neg, Not, Abs, Pair, Reduce, Scan, Flood, Exprs, NoExpr, ThenExpr, Bracket, NoBracket, Bracketed, Param, VarDef, Program}
 use Rattle.zpl_names.specs.Accepted.{IsFaultless}
 use Rattle.zpl_names.specs.Declared.{Routine, entry_of, globals_of, own_names, routine_named, routines_of}
@@ -100,10 +101,6 @@ itself (x ∷ front) rest one are =
         (front ++ one ∷ rest)) ≡ Some one
     by true differs later = cc
     by false differs later = later
-
-or_parts : (a b : Bool) → a || b ≡ false → (a ≡ false) × (b ≡ false)
-or_parts true b is = cc
-or_parts false b is = (refl, is)
 
 module _ (program : Program) (caller : Instance) where
   binding_named : (formal : FormalName) (actual : Expr) (binding : Binding) →

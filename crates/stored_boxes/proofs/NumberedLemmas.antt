@@ -1,16 +1,16 @@
 -- Arrays of which no two are the same are told apart by their numbers, and so are the shifts that are
 -- noted of them.
-use Rattle.std.proofs.Common.{◌≡◌, ℕ, zero, suc, ◌+◌, ◌<◌, Bool, Decides, true, false, ◌&&◌, cond, List, [], ◌∷◌, map, Some, refl, sym, ap, ◌∙◌, subst, arith, true≢false}
+use Rattle.std.proofs.Common.{◌≡◌, ℕ, zero, suc, ◌+◌, ◌<◌, Bool, Decides, true, false, cond, List, [], ◌∷◌, map, Some, refl, sym, ap, ◌∙◌, subst, arith, true≢false}
 use Rattle.std.specs.Prelude.{ℤ, filter, flat_map, slice_get, sum_by, ◌==◌}
 use Rattle.std.specs.Str.{bytes_eq}
 use Rattle.std.proofs.lemmas.Bool.Decides.{Decides-eqb}
 use Rattle.std.proofs.lemmas.Slice.Eq.{bytes_eq-Decides}
 use Rattle.std.proofs.lemmas.List.Sums.{sum_by-append, sum_by-cons}
+use Rattle.std.proofs.lemmas.Bool.{and_parts, and_from}
 use Rattle.zpl_region.specs.declared.regions.Region.{Region}
 use Rattle.zpl_arrays.specs.Around.{copy_shift, copy_storage}
 use Rattle.zpl_tree.specs.Syntax.{Dir, Program}
 use Rattle.zpl_names.specs.Expansion.{ExpandedArray, ShiftedRead, is_same_array}
-use Rattle.zpl_names.proofs.ListLemmas.{and_parts}
 use Rattle.zpl_binding.specs.Copies.{copy_of}
 use Rattle.zpl_binding.specs.Outcome.{Outcome, Gives, Fails, RegionLimit, and_then, value_or}
 use Rattle.zpl_binding.specs.Regions.{Known, limited, no_region}
@@ -27,10 +27,6 @@ use Rattle.stored_boxes.specs.Reads as told
 
 -- ---- arrays
 
-both_true : (a b : Bool) → a ≡ true → b ≡ true → a && b ≡ true
-both_true true b first rest = rest
-both_true false b first rest = absurd (true≢false (sym first))
-
 -- two arrays are the same where their paths and their offsets are
 same_parts : (one other : ExpandedArray) → is_same_array one other ≡ true →
     (one.path ≡ other.path) × (one.variable ≡ other.variable)
@@ -43,7 +39,7 @@ same_parts one other is =
 pub parts_same : (one other : ExpandedArray) → one.path ≡ other.path →
     one.variable ≡ other.variable → is_same_array one other ≡ true
 parts_same one other path variable =
-    both_true (bytes_eq one.path other.path) (one.variable == other.variable)
+    and_from (bytes_eq one.path other.path) (one.variable == other.variable)
     ((bytes_eq-Decides one.path other.path).1 path)
     ((Decides-eqb one.variable other.variable).1 variable)
 

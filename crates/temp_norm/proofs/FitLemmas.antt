@@ -10,6 +10,8 @@ use Rattle.std.specs.Cmp.Lexicographic.{pointwise}
 use Rattle.std.proofs.lemmas.List.Elements.{All-append, All-cons, All-from_recursion, All-head}
 use Rattle.std.proofs.lemmas.List.Elements.{All-nil}
 use Rattle.std.proofs.lemmas.List.Elements.{recursion_from_All}
+use Rattle.std.proofs.lemmas.Bool.{or_left}
+use Rattle.std.proofs.lemmas.List.Folds.{list_any-append}
 use Rattle.flat_passes.specs.of_node_form.declared.words.ExprOp.{ExprOp}
 use Rattle.flat_passes.specs.of_node_form.declared.words.ExprOp.TheVariants as word
 use Rattle.flat_passes.specs.of_node_form.declared.arrays.ArrayDim.{ArrayDim}
@@ -42,7 +44,7 @@ use Rattle.flat_passes.proofs.of_node_form.GrowthLemmas.{Keeps-append, Keeps-sam
 use Rattle.flat_passes.specs.of_code_parts.Uses.{members_of, rows_or_none}
 use Rattle.flat_passes.proofs.StretchLemmas.{every_append}
 use Rattle.temp_norm.specs.declared.reads.Put.{Put}
-use Rattle.temp_norm.proofs.PieceLemmas.{any_both, by_steps, one_for_one, temporaries_are}
+use Rattle.temp_norm.proofs.PieceLemmas.{by_steps, one_for_one, temporaries_are}
 use Rattle.temp_norm.proofs.PieceLemmas.{with_all}
 
 -- ---- a temporary is as a row may have it
@@ -114,10 +116,6 @@ kinds_with_one rows row all fits = by (list_any (is_like row) rows)
     by true = all
     by false = every_append IsKind rows (temporary_like row ∷ []) all (temporary_fits row fits, tt)
 
-or_left : (a b : Bool) → a ≡ true → (a || b) ≡ true
-or_left true b e = refl
-or_left false b e = absurd (true≢false (sym e))
-
 kept_with_one : (test : ArrayRow → Bool) (rows : List ArrayRow) (row : ArrayRow)
     → list_any test rows ≡ true → list_any test (with_one_like rows row) ≡ true
 kept_with_one test rows row e = by (list_any (is_like row) rows)
@@ -126,7 +124,7 @@ kept_with_one test rows row e = by (list_any (is_like row) rows)
         → list_any test (if b then rows else rows ++ temporary_like row ∷ []) ≡ true
     by true = e
     by false =
-        any_both test rows (temporary_like row ∷ [])
+        list_any-append test rows (temporary_like row ∷ [])
         ∙ or_left (list_any test rows) (list_any test (temporary_like row ∷ [])) e
 
 there_with_one : (rows : List ArrayRow) (row : ArrayRow)
@@ -142,7 +140,7 @@ there_with_one rows row = by (list_any (is_like row) rows) refl
         → list_any (is_like row) (if b then rows else rows ++ temporary_like row ∷ []) ≡ true
     by true e = e
     by false e =
-        any_both (is_like row) rows (temporary_like row ∷ [])
+        list_any-append (is_like row) rows (temporary_like row ∷ [])
         ∙ last (list_any (is_like row) rows) (is_like row (temporary_like row)) (like_own row)
 
 -- ---- the one that is found

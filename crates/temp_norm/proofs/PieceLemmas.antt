@@ -8,6 +8,7 @@ use Rattle.std.specs.List.{list_any, position_or_len, prefix_len}
 use Rattle.std.proofs.lemmas.Grind.{flat_map-append}
 use Rattle.std.proofs.lemmas.List.{drop_all}
 use Rattle.std.proofs.lemmas.List.Sums.{fold-append}
+use Rattle.std.proofs.lemmas.List.Folds.{list_any-append}
 use Rattle.flat_passes.specs.of_row_runs.Cut.{as_list as found_list}
 use Rattle.flat_passes.specs.of_node_form.declared.words.ExprOp.{ExprOp}
 use Rattle.flat_passes.specs.of_node_form.declared.words.ExprOp.TheVariants as word
@@ -41,16 +42,6 @@ any_words array (word.Shifted other shift ∷ words) =
     ap (λ b. (array == other) || b) (any_words array words)
 any_words array (one ∷ words) = any_words array words
 
-pub any_both : {X : Type 0} (test : X → Bool) (xs ys : List X)
-    → list_any test (xs ++ ys) ≡ (list_any test xs || list_any test ys)
-any_both test [] ys = refl
-any_both test (x ∷ xs) ys = by (test x) (any_both test xs ys)
-  where
-    by : (b : Bool) → list_any test (xs ++ ys) ≡ (list_any test xs || list_any test ys)
-        → (b || list_any test (xs ++ ys)) ≡ ((b || list_any test xs) || list_any test ys)
-    by true e = refl
-    by false e = e
-
 or_false : (b : Bool) → (b || false) ≡ b
 or_false true = refl
 or_false false = refl
@@ -77,7 +68,7 @@ module _ (tables : Tables) where
       ∙ (ap (list_any (λ other. array == other))
       (flat_map-append shifted_in (words_of tables expr)
       (flat_map (words_of tables) (as_list mask)))
-      ∙ (any_both (λ other. array == other) (flat_map shifted_in (words_of tables expr))
+      ∙ (list_any-append (λ other. array == other) (flat_map shifted_in (words_of tables expr))
       (flat_map shifted_in (flat_map (words_of tables) (as_list mask)))
       ∙ (ap (λ b. b || list_any (λ other. array == other)
       (flat_map shifted_in (flat_map (words_of tables) (as_list mask))))

@@ -1,12 +1,10 @@
 -- From the parts of the compilers to code of a text.
-use Rattle.std.proofs.Common.{◌≡◌, ◌↔◌, ℕ, Bool, true, false, IsTrue, ◌≤◌, List, length, Option, Result, Ok, Err}
+use Rattle.std.proofs.Common.{◌≡◌, ◌↔◌, ℕ, Bool, true, false, IsTrue, List, length, Option, Result, Ok, Err}
 use Rattle.std.proofs.Common.{IfErr, IsErrAnd, sym, ap, ◌∙◌, subst, inl, inr, arith}
 use Rattle.std.proofs.lemmas.Bool.{cases_lt}
 use Rattle.zpl_text.specs.declared.tokens.Token.{Token}
 use Rattle.zpl_text.specs.Tokens.{IsTokens}
-use Rattle.zpl_tree.specs.Grammar.{IsProgram}
 use Rattle.zpl_tree.specs.Syntax.{Program}
-use Rattle.zpl_text.specs.declared.TheConstants.{MOST_SOURCE}
 use Rattle.zpl_grammar.specs.Texts.{IsShallowTree}
 use Rattle.node_form.specs.declared.tables.Tables.{Tables}
 use Rattle.zpl_claims.specs.Build.{Build}
@@ -232,15 +230,6 @@ one_accepted text tokens tree one_way of_text only program other a b =
     (subst (λ ts. IsShallowTree text ts p) (one_way text is.tokens tokens is.of_text of_text)
     is.tree) in
     sym (here program a) ∙ here other b
-
--- which is a program of the grammar, over a text that is no longer
-pub is_program : (text : List ℕ) (program : Program) → IsAccepted text program → IsProgram program
-is_program text program accepted = accepted.tree.tree.spelled.spells.1
-
-pub is_short : (text : List ℕ) (program : Program) → IsAccepted text program
-    → length text ≤ MOST_SOURCE → length program.source ≤ MOST_SOURCE
-is_short text program accepted short =
-    subst (λ t. length t ≤ MOST_SOURCE) (sym accepted.tree.tree.source) short
 
 -- ---- tests
 pub tested : (r : Bool) (there here : List ℕ) (Is : List ℕ → Type 0) → there ≡ here

@@ -1,10 +1,6 @@
 -- Why a text has no code.
-use Rattle.std.proofs.Common.{◌≡◌, ◌≢◌, ℕ, ◌≤◌, List, [], map, Result, Ok, Err, IfErr, refl, subst, sym, arith}
-use Rattle.node_form.specs.declared.arrays.ArrayRow.{ArrayRow}
+use Rattle.std.proofs.Common.{◌≢◌, ℕ, List, [], Result, Ok, Err, IfErr, refl, arith}
 use Rattle.node_form.specs.declared.tables.Tables.{Tables}
-use Rattle.grid_layout.specs.Words.{words_of}
-use Rattle.grid_meaning.specs.Stored.{box_of, stored}
-use Rattle.code_layout.specs.Room.{HasRoom}
 use Rattle.zpl_claims.specs.Build.{Build}
 use Rattle.list_claims.specs.Cause.{TextFault}
 use Rattle.list_claims.specs.Cause.TextFault.{refused, unbound}
@@ -20,13 +16,6 @@ use Rattle.bound_texts.specs.of_call_answers.declared.answers.Answer.TheVariants
 use Rattle.bound_texts.specs.of_call_answers.declared.refusals.BuildFault.TheVariants as unbuilt
 use Rattle.bound_texts.specs.of_call_answers.declared.refusals.Refusal.TheVariants.{Lex, Parse, Judge, Bind}
 use Rattle.bound_texts.specs.of_call_answers.declared.refusals.Refusal.TheVariants.{NoMemory}
-
--- code without arrays has room
-pub no_arrays_have_room : (code : Tables) → code.arrays ≡ [] → HasRoom code
-no_arrays_have_room code none =
-    subst (λ (arrays : List ArrayRow).
-    words_of (record { grid = code.grid; boxes = map box_of (stored arrays) }) ≤ 16777216)
-    (sym none) (omega arith)
 
 -- ---- why a text has no code is the fault of its answer
 pub uncoded : (text : List ℕ) (build : Build) (why : Uncoded)

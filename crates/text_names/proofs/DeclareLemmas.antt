@@ -4,6 +4,7 @@ use Rattle.std.specs.List.{flat_map, fold}
 use Rattle.std.specs.Result.{IsErrAnd}
 use Rattle.std.proofs.lemmas.Grind.{flat_map-append}
 use Rattle.std.proofs.lemmas.List.Sums.{fold-append}
+use Rattle.std.proofs.lemmas.List.{drop_more}
 use Rattle.zpl_tree.specs.Syntax.{Base, Bracket, NoBracket, Bracketed}
 use Rattle.zpl_tree.specs.View.{base_type_of, bracket_of, direction_of, name_of}
 use Rattle.zpl_tree.specs.declared.declarations.VarDef.{VarDef as CodeVarDef}
@@ -18,7 +19,6 @@ use Rattle.zpl_names.specs.Shapes.{variable_kind}
 use Rattle.zpl_names.specs.Declared.{declaring, direction_entry, entry_for, region_entry, with_define, with_direction, with_each, with_region, with_variables}
 use Rattle.zpl_names.specs.Sites.{Site, each_sites}
 use Rattle.site_faults.specs.Findings.{Found, kept}
-use Rattle.site_faults.proofs.FindingLemmas.{drop-next}
 use Rattle.text_walk.specs.Meaning.{faults_of}
 use Rattle.text_names.specs.declared.stops.Stop.{Stop}
 use Rattle.text_names.specs.Found.{goes_on}
@@ -33,7 +33,7 @@ pub names-step : {X A : Type 0} (view : X → A) (adds : List Entry → A → Li
     with_each adds new (map view (drop (k + 1) xs)) ≡ whole
 names-step view adds xs k d old new whole less is invariant =
     ap (λ names. with_each adds names (map view (drop (k + 1) xs))) is ∙
-    ap (λ xs. with_each adds old (map view xs)) (sym (drop-next xs k d less)) ∙ invariant
+    ap (λ xs. with_each adds old (map view xs)) (sym (drop_more xs k d less)) ∙ invariant
 
 pub goes-append : (found : Option Found) (xs ys : List Site) →
     goes_on found (xs ++ ys) ≡ goes_on (goes_on found xs) ys
@@ -55,7 +55,7 @@ found-step view adds sites xs k d old new found more whole less is told invarian
     ap₂ (λ names found. goes_on found (each_sites adds sites names rest)) is told ∙
     sym (goes-append found (sites old a) (each_sites adds sites (adds old a) rest)) ∙
     ap (λ xs. goes_on found (each_sites adds sites old (map view xs)))
-    (sym (drop-next xs k d less)) ∙
+    (sym (drop_more xs k d less)) ∙
     invariant
 
 -- a stop at one of them
@@ -68,7 +68,7 @@ each-stops view adds appends xs k d old whole r stop less invariant is h =
     let a = view (get_or xs k d) in
     let later = each-appends adds appends (adds old a) (map view (drop (k + 1) xs)) in
     passed-on r stop (adds old a) later.0 whole is
-    (sym invariant ∙ ap (λ xs. with_each adds old (map view xs)) (drop-next xs k d less) ∙ later.1)
+    (sym invariant ∙ ap (λ xs. with_each adds old (map view xs)) (drop_more xs k d less) ∙ later.1)
     h
 
 -- ---- what each kind of declaration adds

@@ -1,13 +1,12 @@
 -- Parameters, one for each name.
 use Rattle.std.proofs.Common.{◌≡◌, ℕ, ◌+◌, ◌<◌, length, get_or, drop, List, [], ◌∷◌, ◌++◌, map, append_assoc, sym, ◌∙◌, ap}
-use Rattle.std.proofs.lemmas.List.{map-append}
+use Rattle.std.proofs.lemmas.List.{map-append, drop_more}
 use Rattle.zpl_tree.specs.View.{name_of, param_of}
 use Rattle.zpl_tree.specs.declared.declarations.Param.{Param}
 use Rattle.zpl_tree.specs.declared.names.Name.{Name}
 use Rattle.zpl_names.specs.Kinds.{Formal}
 use Rattle.zpl_names.specs.Scope.{Scope}
 use Rattle.zpl_names.specs.Declared.{formal_of, formals_of}
-use Rattle.site_faults.proofs.FindingLemmas.{drop-next}
 
 -- what stands past the end of a list of names
 abbrev pub no_name : Name
@@ -23,7 +22,7 @@ formal-step seen f view xs k d old new whole less is invariant =
     ap (λ fs. map seen fs ++ rest) is ∙
     ap (λ gs. gs ++ rest) (map-append seen old (f ∷ [])) ∙
     append_assoc (map seen old) (seen f ∷ []) rest ∙
-    ap (λ xs. map seen old ++ map (λ name. seen f) (map view xs)) (sym (drop-next xs k d less)) ∙
+    ap (λ xs. map seen old ++ map (λ name. seen f) (map view xs)) (sym (drop_more xs k d less)) ∙
     invariant
 
 -- one more parameter
@@ -39,5 +38,5 @@ formals-step scope xs k d old new f whole less is formal invariant =
     ap (λ fs. fs ++ rest)
     (is ∙ ap (λ f. old ++ map (λ name. f) (map name_of p.names.now)) formal) ∙
     append_assoc old (map (λ name. formal_of scope (param_of p)) (map name_of p.names.now)) rest ∙
-    ap (λ xs. old ++ formals_of scope (map param_of xs)) (sym (drop-next xs k d less)) ∙
+    ap (λ xs. old ++ formals_of scope (map param_of xs)) (sym (drop_more xs k d less)) ∙
     invariant

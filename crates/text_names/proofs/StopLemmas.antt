@@ -2,8 +2,9 @@
 use Rattle.std.proofs.Common.{◌≡◌, ℕ, ◌+◌, ◌<◌, length, get_or, drop, Result, Ok, Err, IfErr, ◌⊎◌, inl, inr, Bool, true, false, ◌||◌, List, [], ◌∷◌, ◌++◌, map, Option, Some, None, IsSome, Contains, append-nil, append_assoc, refl, sym, ◌∙◌, ap, subst, true≢false}
 use Rattle.std.specs.List.{list_any}
 use Rattle.std.specs.Str.{bytes_eq}
-use Rattle.std.proofs.lemmas.List.{map-append}
+use Rattle.std.proofs.lemmas.List.{map-append, drop_more}
 use Rattle.std.specs.Result.{IsErrAnd}
+use Rattle.std.proofs.lemmas.Bool.{or_right, or_cases}
 use Rattle.zpl_tree.specs.Syntax.{Name, Integer}
 use Rattle.zpl_names.specs.Kinds as kind
 use Rattle.zpl_names.specs.Kinds.{Kind}
@@ -11,7 +12,6 @@ use Rattle.zpl_names.specs.Scope.{Entry, kind_in}
 use Rattle.zpl_names.specs.Faults.{at_if, repeated}
 use Rattle.zpl_names.specs.Declared.{entry_for, with_each}
 use Rattle.name_kinds.specs.Names.{Adds}
-use Rattle.site_faults.proofs.FindingLemmas.{drop-next}
 use Rattle.text_names.specs.Heads.{scalars}
 use Rattle.zpl_names.proofs.ListLemmas.{Among, among_from_Contains, Contains-from_among}
 use Rattle.zpl_names.proofs.FaultlessLemmas.{left-among, right-among, split}
@@ -25,14 +25,6 @@ names_of entries = map (λ entry. entry.name) entries
 
 abbrev is_there : List Name → List ℕ → Bool
 is_there names text = list_any (λ earlier. bytes_eq earlier.text text) names
-
-or-right : (a b : Bool) → b ≡ true → a || b ≡ true
-or-right true b e = refl
-or-right false b e = e
-
-or-parts : (a b : Bool) → a || b ≡ true → (a ≡ true) ⊎ (b ≡ true)
-or-parts true b e = inl refl
-or-parts false b e = inr e
 
 -- a name that an entry has
 there : (entries : List Entry) (text : List ℕ) → IsSome (kind_in entries text) →
@@ -63,11 +55,11 @@ second-last before (x ∷ xs) name (inl e) =
     right-among (at_if (is_there before x.text) x.at) (repeated (x ∷ before) (xs ++ name ∷ []))
     name.at
     (second-last (x ∷ before) xs name
-    (inl (or-right (bytes_eq x.text name.text) (is_there before name.text) e)))
+    (inl (or_right (bytes_eq x.text name.text) (is_there before name.text) e)))
 second-last before (x ∷ xs) name (inr e) =
     right-among (at_if (is_there before x.text) x.at) (repeated (x ∷ before) (xs ++ name ∷ []))
     name.at
-    (elim (or-parts (bytes_eq x.text name.text) (is_there xs name.text) e) [
+    (elim (or_cases (bytes_eq x.text name.text) (is_there xs name.text) e) [
       | inl e ↦ second-last (x ∷ before) xs name (inl (or-left (bytes_eq x.text name.text) e))
       | inr e ↦ second-last (x ∷ before) xs name (inr e)
     ])
@@ -194,7 +186,7 @@ grown : {X : Type 0} (g : List X → List Entry) (one : X → List Entry) →
 grown g one step xs k d old whole less invariant =
     sym invariant ∙
     ap (λ ys. old ++ ys)
-    (ap g (drop-next xs k d less) ∙ step (get_or xs k d) (drop (k + 1) xs)) ∙
+    (ap g (drop_more xs k d less) ∙ step (get_or xs k d) (drop (k + 1) xs)) ∙
     sym (append_assoc old (one (get_or xs k d)) (g (drop (k + 1) xs)))
 
 pub loop-stops : {A X : Type 0} (g : List X → List Entry) (one : X → List Entry) →

@@ -98,12 +98,6 @@ pub own-distinct : (hiding : List Entry) (procedure : plain.Procedure) →
 own-distinct hiding procedure is once =
     sym (scalars-second (own_names procedure)) ∙ ap second_names (sym is) ∙ once
 
-pub own-entries : (earlier hiding : List Entry) (procedure : plain.Procedure) →
-    hiding ≡ scalars (own_names procedure) →
-    heads.entries (declaring hiding earlier) procedure ≡ own_entries earlier procedure
-own-entries earlier hiding procedure is =
-    ap (λ own. heads.entries (declaring own earlier) procedure) is
-
 names-for : (kind : Kind) (names : List Name) →
     map (λ entry. entry.name) (map (entry_for kind) names) ≡ names
 names-for kind [] = refl

@@ -2,6 +2,7 @@
 use Rattle.std.proofs.Common.{◌≡◌, ℕ, zero, suc, arith, ◌+◌, ◌<◌, length, get_or, drop, List, [], ◌∷◌, ◌++◌, map, Option, Contains, ◌⊎◌, inl, inr, Result, Ok, Err, IfErr, append-nil, append_assoc, refl, sym, ◌∙◌, ap, ap₂, subst}
 use Rattle.std.specs.List.{flat_map}
 use Rattle.std.specs.Result.{IsErrAnd}
+use Rattle.std.proofs.lemmas.List.{drop_more}
 use Rattle.zpl_tree.specs.Syntax as plain
 use Rattle.zpl_tree.specs.Syntax.{Decl, Config, Constant, Regions, Directions, Vars, Defined}
 use Rattle.zpl_tree.specs.View.{decl_of}
@@ -12,7 +13,6 @@ use Rattle.zpl_names.specs.Declared.{Routine, own_entries, own_names, procedure_
 use Rattle.zpl_names.specs.Faults.{repeated}
 use Rattle.zpl_names.proofs.ListLemmas.{Among, among_from_Contains, Contains-from_among}
 use Rattle.zpl_names.proofs.FaultlessLemmas.{left-among, right-among, flat_among}
-use Rattle.site_faults.proofs.FindingLemmas.{drop-next}
 use Rattle.text_names.specs.Heads.{scalars}
 use Rattle.text_names.specs.Stops.{Stops, second_names}
 use Rattle.text_names.specs.declared.stops.Stop.{Stop}
@@ -33,11 +33,6 @@ pub stops-global : (earlier : List Entry) (decl : Decl) (stop : Stop) →
     Stops (with_decl earlier decl) stop → StopsAt earlier (decl ∷ []) stop
 stops-global earlier decl NoMemory h = tt
 stops-global earlier decl (Twice at) h = inl h
-
-pub err-global : {A : Type 0} (r : Result A Stop) (earlier : List Entry) (decl : Decl) →
-    IfErr r (Stops (with_decl earlier decl)) → IfErr r (StopsAt earlier (decl ∷ []))
-err-global (Ok v) earlier decl h = tt
-err-global (Err stop) earlier decl h = stops-global earlier decl stop h
 
 -- a stop at an own name of a procedure
 own-place : (earlier : List Entry) (procedure : plain.Procedure) (stop : Stop) →
@@ -63,11 +58,6 @@ stops-own earlier procedure stop h =
     let Q : Stop → Type 0 = λ stop. Stops (own_entries earlier procedure) stop in
     subst P (ap (repeated []) (own-entries-names earlier procedure)) (subst Q e h))
 
-pub stop-memory : (earlier : List Entry) (decls : List Decl) (stop : Stop) → stop ≡ NoMemory →
-    StopsAt earlier decls stop
-stop-memory earlier decls NoMemory e = tt
-stop-memory earlier decls (Twice at) e = absurd (let wrong : Twice at ≡ NoMemory = e in cc)
-
 -- a stop that is passed on
 pub passed : {A : Type 0} (r : Result A Stop) (stop : Stop) (earlier : List Entry)
     (decls : List Decl) →
@@ -75,10 +65,6 @@ pub passed : {A : Type 0} (r : Result A Stop) (stop : Stop) (earlier : List Entr
 passed (Ok v) stop earlier decls is h = tt
 passed (Err s) stop earlier decls is h =
     let P : Stop → Type 0 = λ s. StopsAt earlier decls s in subst P (sym is) h
-
-pub passed-memory : {A : Type 0} (r : Result A Stop) (earlier : List Entry) (decls : List Decl) →
-    IsErrAnd r (λ s. s ≡ NoMemory) → IfErr r (StopsAt earlier decls)
-passed-memory r earlier decls is = passed r NoMemory earlier decls is tt
 
 -- ---- one declaration and those behind it
 
@@ -123,7 +109,7 @@ routines-step xs k d old new had has whole less names is invariant =
     ap₂ (λ has names. has ++ routines_behind names rest) is names ∙
     append_assoc had (routines_behind old (decl ∷ [])) (routines_behind (with_decl old decl) rest) ∙
     ap (λ more. had ++ more) (sym (routines-first old decl rest)) ∙
-    ap (λ xs. had ++ routines_behind old (map decl_of xs)) (sym (drop-next xs k d less)) ∙
+    ap (λ xs. had ++ routines_behind old (map decl_of xs)) (sym (drop_more xs k d less)) ∙
     invariant
 
 among-next : (xs : List CodeDecl) (k : ℕ) (d : CodeDecl) → k < length xs →
@@ -144,7 +130,7 @@ stops-step xs k d first old (Twice at) less invariant (inl h) =
     let rest = map decl_of (drop (k + 1) xs) in
     let later = each-appends with_decl decls-append (with_decl old decl) rest in
     let whole : with_each with_decl first (map decl_of xs) ≡ with_decl old decl ++ later.0 =
-    sym invariant ∙ ap (λ xs. with_each with_decl old (map decl_of xs)) (drop-next xs k d less) ∙
+    sym invariant ∙ ap (λ xs. with_each with_decl old (map decl_of xs)) (drop_more xs k d less) ∙
     later.1 in
     let P : List Entry → Type 0 = λ names. Contains (second_names names) at in
     inl (subst P (sym whole) (stops-more (with_decl old decl) later.0 (Twice at) h))

@@ -76,10 +76,6 @@ walked-fault s (x ∷ xs) =
     (after-fault s x) ∙
     sym (fold-append kept s.fault (faults_of s.reached x) (flat_map (faults_of s.reached) xs))
 
-pub walked-reached : (s : State) (xs : List Site) → (fold after s xs).reached ≡ s.reached
-walked-reached s [] = refl
-walked-reached s (x ∷ xs) = walked-reached (after s x) xs ∙ after-reached s x
-
 -- ---- calls
 
 pub walked-calls : (s : State) (xs : List Site) →

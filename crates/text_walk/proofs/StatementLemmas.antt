@@ -2,6 +2,7 @@
 use Rattle.std.proofs.Common.{◌≡◌, ℕ, ◌+◌, ◌-◌, ◌<◌, length, get_or, drop, slice_get, Bool, true, false, ◌&&◌, not, List, [], ◌∷◌, ◌++◌, map, Option, Some, None, is_some, option_map, append-nil, append_assoc, Bor, refl, sym, ◌∙◌, ap, arith}
 use Rattle.std.specs.List.{fold}
 use Rattle.std.proofs.lemmas.List.Sums.{fold-append}
+use Rattle.std.proofs.lemmas.List.{drop_more}
 use Rattle.zpl_tree.specs.Syntax as plain
 use Rattle.zpl_tree.specs.View.{arm_of, arms_of, base_type_of, expr_of, prefix_of, statement_of, stmt_of, stmts_of}
 use Rattle.zpl_tree.specs.declared.declarations.Base.{Base as CodeBase}
@@ -18,7 +19,6 @@ use Rattle.site_faults.specs.of_zpl_names.Declared.{own_names}
 use Rattle.site_faults.specs.of_zpl_names.Faults.{at_if, body_returns, ends_in_return, repeated}
 use Rattle.site_faults.specs.of_zpl_names.Sites.{AtBase, AtProcedure, Reach, Site, Test, arms_sites, body_sites, stmt_sites, stmts_sites, whole_sites}
 use Rattle.site_faults.specs.Findings.{State, after, region_told, tells, text_told}
-use Rattle.site_faults.proofs.FindingLemmas.{drop-next}
 
 -- ---- types
 
@@ -167,5 +167,5 @@ arms-step reach within xs k d old mid new whole less test body invariant =
     sym (fold-append after old (tests ++ bodies) (arms_sites reach within rest)) ∙
     ap (fold after old)
     (sym (arms-cons reach within arm rest) ∙
-    ap (λ xs. arms_sites reach within (arms_of xs)) (sym (drop-next xs k d less))) ∙
+    ap (λ xs. arms_sites reach within (arms_of xs)) (sym (drop_more xs k d less))) ∙
     invariant

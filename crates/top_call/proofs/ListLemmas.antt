@@ -1,5 +1,5 @@
 -- The cause of the answer of a listing, and what out took.
-use Rattle.std.proofs.Common.{◌≡◌, ◌≢◌, ℕ, List, Some, None, sym, ◌∙◌, ap}
+use Rattle.std.proofs.Common.{◌≡◌, ℕ, List, Some, None, sym, ◌∙◌, ap}
 use Rattle.std.proofs.Common.{subst, inl, inr, arith}
 use Rattle.zpl_io.specs.Sink.{Takes, TakesFront}
 use Rattle.node_form.specs.declared.tables.Tables.{Tables}
@@ -13,7 +13,7 @@ use Rattle.call_claims.specs.Command.{Asked, build_of}
 use Rattle.call_claims.specs.Decided.{IsDecided}
 use Rattle.call_claims.specs.Execution.{Execution, HasNoRun}
 use Rattle.gen_call.specs.of_list_claims.Listing.{IsMadeOf, TakesListing, TakesListingFront}
-use Rattle.call_claims.specs.declared.status.TheConstants.{DONE, UNREADABLE}
+use Rattle.call_claims.specs.declared.status.TheConstants.{DONE}
 use Rattle.mean_call.specs.of_call_answers.Answers.{status_of, told_of}
 use Rattle.mean_call.specs.of_call_answers.Work.{execution_in, no_counts}
 use Rattle.top_call.specs.Work.{HasNoCode, IsListOn, IsOfListing}
@@ -75,23 +75,6 @@ pub listing_cut : (work : Work) (code : Tables) (before after : List ℕ → Typ
     → TakesListingFront (execution_in work) before after
 listing_cut work code before after is front =
     record { code = code; made = is; front = front }
-
--- it is told of what was put, or memory was wanting
-pub not_put : (a : Answer) → IsOfListing a → a ≢ answer.Stopped stop.Done None → a ≢ answer.PutFailed
-    → a ≡ answer.NoMemory
-not_put a is done put = elim is [
-  | inl e ↦ absurd (done e)
-  | inr other ↦ elim other [ inl e ↦ absurd (put e) | inr e ↦ e ]
-]
-
-pub listing_read : (a : Answer) → IsOfListing a → status_of a ≢ UNREADABLE
-listing_read a is = elim is [
-  | inl e ↦ λ f. omega (arith, ap status_of e, f)
-  | inr other ↦ elim other [
-    | inl e ↦ λ f. omega (arith, ap status_of e, f)
-    | inr e ↦ λ f. omega (arith, ap status_of e, f)
-  ]
-]
 
 pub listing_done : (a : Answer) → IsOfListing a → status_of a ≡ DONE
     → a ≡ answer.Stopped stop.Done None

@@ -1,5 +1,5 @@
 -- Lemmas on folds of rows.
-use Rattle.std.proofs.Common.{◌≡◌, ℕ, zero, suc, ◌+◌, ◌<◌, ◌≤◌, Bool, true, false, All, Contains, List, [], ◌∷◌, length, map, get_or, drop, ℤ, pos, refl, sym, ◌∙◌, ap, subst, arith, add-one}
+use Rattle.std.proofs.Common.{◌≡◌, ℕ, zero, suc, ◌+◌, ◌<◌, Bool, true, false, All, Contains, List, [], ◌∷◌, length, map, get_or, drop, ℤ, pos, refl, sym, ◌∙◌, ap, subst, arith, add-one}
 use Rattle.std.specs.Prelude.{filter, fold}
 use Rattle.zpl_nums.specs.declared.folds.Fold.{Fold}
 use Rattle.zpl_nums.specs.Fold.{joined, unit_of}
@@ -29,17 +29,6 @@ fold_more operator so_far (suc k) (value ∷ values) [] d e h l = absurd (omega 
 fold_more operator so_far (suc k) (value ∷ values) (is_in ∷ kept) d e h l =
     fold_more operator so_far k values kept d e (omega arith) (omega arith)
     ∙ ap (λ n. fold_left operator (joined_if (get_or kept k e) operator so_far (get_or values k d)) n (value ∷ values) (is_in ∷ kept)) (let next : suc (k + 1) ≡ suc k + 1 = omega arith in next)
-
-pub fold_end : (operator : Fold) (so_far : ℤ) (k : ℕ) (values : List ℤ) (kept : List Bool) → length values ≤ k → fold_left operator so_far k values kept ≡ so_far
-fold_end operator so_far zero [] kept h = refl
-fold_end operator so_far zero (value ∷ values) kept h = absurd (omega arith)
-fold_end operator so_far (suc k) [] kept h = refl
-fold_end operator so_far (suc k) (value ∷ values) [] h = by (drop k values)
-  where
-    by : (rest : List ℤ) → folded_from operator so_far rest [] ≡ so_far
-    by [] = refl
-    by (x ∷ xs) = refl
-fold_end operator so_far (suc k) (value ∷ values) (is_in ∷ kept) h = fold_end operator so_far k values kept (omega arith)
 
 -- ---- the fold over what is kept
 

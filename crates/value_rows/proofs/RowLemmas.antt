@@ -1,6 +1,7 @@
 -- Lemmas on rows of values.
 use Rattle.std.proofs.Common.{◌≡◌, ℕ, zero, suc, ◌+◌, ◌<◌, ◌≤◌, Bool, true, false, ◌&&◌, ◌||◌, not, Option, Some, None, List, [], ◌∷◌, length, map, get_or, set, drop, ℤ, pos, refl, sym, ◌∙◌, ap, arith, add-one}
 use Rattle.std.specs.List.{list_any}
+use Rattle.std.proofs.lemmas.Bool.{and_right}
 use Rattle.zpl_region.proofs.ListLemmas.{cons_same}
 use Rattle.zpl_nums.specs.declared.operators.Op.{Op}
 use Rattle.zpl_nums.specs.declared.operators.Op.TheVariants.{Add, Sub, Mul, Div, Rem, Eq, Ne, Lt, Le, Gt, Ge, And, Or, Max, Min}
@@ -74,16 +75,12 @@ never_missing Or a b h = refl
 never_missing Max a b h = refl
 never_missing Min a b h = refl
 
-none_here : (a m : Bool) → m ≡ false → (a && m) ≡ false
-none_here true m h = h
-none_here false m h = refl
-
 pub never_misses : (operator : Op) (first second : List ℤ) (kept : List Bool) → divides operator ≡ false → false ≡ misses operator first second kept
 never_misses operator [] second kept h = refl
 never_misses operator (x ∷ first) [] kept h = refl
 never_misses operator (x ∷ first) (y ∷ second) [] h = refl
 never_misses operator (x ∷ first) (y ∷ second) (is_in ∷ kept) h =
-    never_misses operator first second kept h ∙ ap (λ b. b || misses operator first second kept) (sym (none_here is_in (is_missing (applied operator x y)) (never_missing operator x y h)))
+    never_misses operator first second kept h ∙ ap (λ b. b || misses operator first second kept) (sym (and_right is_in (is_missing (applied operator x y)) (never_missing operator x y h)))
 
 -- what is left of three rows behind k values misses what they do, where nothing before misses
 abbrev pub misses_from : Op → ℕ → List ℤ → List ℤ → List Bool → Bool
@@ -102,18 +99,6 @@ misses_more operator (suc k) (x ∷ first) (y ∷ second) [] d e a b c h = absur
 misses_more operator (suc k) (x ∷ first) (y ∷ second) (is_in ∷ kept) d e a b c h =
     misses_more operator k first second kept d e (omega arith) (omega arith) (omega arith) h
     ∙ ap (λ n. misses_from operator n (x ∷ first) (y ∷ second) (is_in ∷ kept)) (let next : suc (k + 1) ≡ suc k + 1 = omega arith in next)
-
-pub misses_here : (operator : Op) (k : ℕ) (first second : List ℤ) (kept : List Bool) (d : ℤ) (e : Bool) → k < length first → k < length second → k < length kept
-    → (get_or kept k e && is_missing (applied operator (get_or first k d) (get_or second k d))) ≡ true
-    → true ≡ misses_from operator k first second kept
-misses_here operator zero [] second kept d e a b c h = absurd (omega arith)
-misses_here operator zero (x ∷ first) [] kept d e a b c h = absurd (omega arith)
-misses_here operator zero (x ∷ first) (y ∷ second) [] d e a b c h = absurd (omega arith)
-misses_here operator zero (x ∷ first) (y ∷ second) (is_in ∷ kept) d e a b c h = ap (λ t. t || misses operator first second kept) (sym h)
-misses_here operator (suc k) [] second kept d e a b c h = absurd (omega arith)
-misses_here operator (suc k) (x ∷ first) [] kept d e a b c h = absurd (omega arith)
-misses_here operator (suc k) (x ∷ first) (y ∷ second) [] d e a b c h = absurd (omega arith)
-misses_here operator (suc k) (x ∷ first) (y ∷ second) (is_in ∷ kept) d e a b c h = misses_here operator k first second kept d e (omega arith) (omega arith) (omega arith) h
 
 -- ---- rows of the values of terms
 

@@ -1,11 +1,11 @@
 -- Lemmas on tuples that agree.
-use Rattle.std.proofs.Common.{◌⊎◌, inl, inr, length-drop, ◌≡◌, ◌≢◌, ℕ, zero, suc, ◌+◌, ◌-◌, ◌<◌, ◌≤◌, Bool, true, false, ◌&&◌, ◌||◌, List, [], ◌∷◌, length, get_or, drop, replicate, ℤ, refl, sym, ◌∙◌, ap, add-one, arith}
+use Rattle.std.proofs.Common.{◌⊎◌, inl, inr, length-drop, ◌≡◌, ℕ, zero, suc, ◌+◌, ◌-◌, ◌<◌, ◌≤◌, Bool, true, false, ◌&&◌, ◌||◌, List, [], ◌∷◌, length, get_or, drop, replicate, ℤ, refl, sym, ◌∙◌, ap, add-one, arith}
 use Rattle.std.specs.Ordering.{int_eq}
 use Rattle.std.proofs.lemmas.Bool.{cases_lt}
-use Rattle.std.proofs.lemmas.List.{length-replicate}
+use Rattle.std.proofs.lemmas.List.{length-replicate, drop_all}
 use Rattle.zpl_region.specs.declared.dims.Dim.{Dim}
 use Rattle.zpl_region.specs.Region.{padding}
-use Rattle.zpl_region.proofs.ListLemmas.{int_eq-false, int_eq-true}
+use Rattle.zpl_region.proofs.ListLemmas.{int_eq-true}
 use Rattle.zpl_arrays.specs.Conformity.{is_collapsed}
 use Rattle.zpl_arrays.specs.Fold.{agrees}
 
@@ -34,12 +34,6 @@ from_on k (a ∷ dims) (x ∷ xs) [] d z f g h = absurd (omega arith)
 from_on zero (a ∷ dims) (x ∷ xs) (y ∷ t) d z f g h = refl
 from_on (suc k) (a ∷ dims) (x ∷ xs) (y ∷ t) d z f g h = from_on k dims xs t d z (omega arith) (omega arith) (omega arith)
 
-past_end : {X : Type 0} (k : ℕ) (xs : List X) → length xs ≤ k → drop k xs ≡ []
-past_end zero [] h = refl
-past_end (suc k) [] h = refl
-past_end zero (x ∷ xs) h = absurd (omega arith)
-past_end (suc k) (x ∷ xs) h = past_end k xs (omega arith)
-
 pub agreeing_goes_on : (k : ℕ) (dims : List Dim) (x t : List ℤ) (d : Dim) (z : ℤ) (whole : Bool) → k < length x → k < length t
     → (is_collapsed (get_or dims k d) || int_eq (get_or t k z) (get_or x k z)) ≡ true → agrees_from k dims x t ≡ whole → agrees_from (k + 1) dims x t ≡ whole
 agreeing_goes_on k dims x t d z whole g h e is = by_length (cases_lt k (length dims))
@@ -48,16 +42,10 @@ agreeing_goes_on k dims x t d z whole g h e is = by_length (cases_lt k (length d
     by_length (inl f) =
         ap (λ j. agrees_from j dims x t) (add-one k) ∙ (sym (ap (λ b. b && agrees_from (suc k) dims x t) e) ∙ (sym (from_on k dims x t d z f g h) ∙ is))
     by_length (inr past) =
-        ap (λ ds. agrees ds (drop (k + 1) x) (drop (k + 1) t)) (past_end (k + 1) dims (omega arith)) ∙ (sym (ap (λ ds. agrees ds (drop k x) (drop k t)) (past_end k dims past)) ∙ is)
-
-pub agreeing_stops : (k : ℕ) (dims : List Dim) (x t : List ℤ) (d : Dim) (z : ℤ) (whole : Bool) → k < length dims → k < length x → k < length t
-    → is_collapsed (get_or dims k d) ≡ false → get_or t k z ≢ get_or x k z → agrees_from k dims x t ≡ whole → false ≡ whole
-agreeing_stops k dims x t d z whole f g h e other is =
-    let fails : (is_collapsed (get_or dims k d) || int_eq (get_or t k z) (get_or x k z)) ≡ false = ap (λ b. b || int_eq (get_or t k z) (get_or x k z)) e ∙ int_eq-false (get_or t k z) (get_or x k z) other in
-    sym (sym is ∙ (from_on k dims x t d z f g h ∙ ap (λ b. b && agrees_from (suc k) dims x t) fails))
+        ap (λ ds. agrees ds (drop (k + 1) x) (drop (k + 1) t)) (drop_all (k + 1) dims (omega arith)) ∙ (sym (ap (λ ds. agrees ds (drop k x) (drop k t)) (drop_all k dims past)) ∙ is)
 
 pub agreeing_ends : (k : ℕ) (dims : List Dim) (x t : List ℤ) (whole : Bool) → length dims ≤ k → agrees_from k dims x t ≡ whole → true ≡ whole
-agreeing_ends k dims x t whole h is = sym (ap (λ ds. agrees ds (drop k x) (drop k t)) (past_end k dims h)) ∙ is
+agreeing_ends k dims x t whole h is = sym (ap (λ ds. agrees ds (drop k x) (drop k t)) (drop_all k dims h)) ∙ is
 
 -- a region has at most three dimensions
 pub three_at_most : (rank : ℕ) (dims : List Dim) → rank ≤ 3 → drop rank dims ≡ replicate (3 - rank) padding → length dims ≤ 3

@@ -11,13 +11,12 @@ use Rattle.zpl_region.specs.declared.regions.Region.{Region}
 use Rattle.zpl_region.specs.Dim.{coordinate_moved, dim_moved, extent}
 use Rattle.zpl_region.specs.Ends.{coordinate_count, first_from, first_of, greatest_member, has_none, last_of, least_member, tuple_count}
 use Rattle.zpl_region.specs.Region.{components, each, moved}
-use Rattle.zpl_region.specs.Tests.{is_dim_in_box, is_same_set}
+use Rattle.zpl_region.specs.Tests.{is_dim_in_box}
 use Rattle.zpl_region.proofs.EndLemmas.{positive_left, positive_right}
 use Rattle.zpl_region.proofs.HullLemmas.{no_count}
 use Rattle.zpl_region.proofs.RegionLemmas.{three_components, three_dims}
 use Rattle.zpl_region.proofs.ListLemmas.{int_eq-false, le_from_test, test_from_le}
 use Rattle.zpl_arrays.specs.Border.{border_conforms, dim_border_conforms, each_border_conforms}
-use Rattle.zpl_arrays.specs.Conformity.{dims_reduce, dims_spread, is_collapsed, is_single}
 use Rattle.zpl_arrays.specs.Reference.{dim_lies_in, each_lies_in, is_reference}
 use Rattle.zpl_arrays.proofs.ReferenceLemmas.{length-components}
 
@@ -45,18 +44,6 @@ pub wide_border : (d lo hi step align : ℤ) → (d ≡ pos 0 → ⊥) → step 
 wide_border d lo hi step align other one =
     let passes : int_eq step (pos 1) ≡ true = ap (λ s. int_eq s (pos 1)) one in
     rw (int_eq-false d (pos 0) other, passes) refl
-
--- ---- partial reductions and floods
-module _ (target source : List Dim) (e : Dim) (l : length target ≡ 3) (m : length source ≡ 3) where
-  pub reduction_of_three : ((is_same_set (get_or source 0 e) (get_or target 0 e) || is_collapsed (get_or target 0 e)) && ((is_same_set (get_or source 1 e) (get_or target 1 e) || is_collapsed (get_or target 1 e))
-      && ((is_same_set (get_or source 2 e) (get_or target 2 e) || is_collapsed (get_or target 2 e)) && true))) ≡ dims_reduce target source
-  reduction_of_three =
-      ap (λ ds. dims_reduce ds (get_or source 0 e ∷ get_or source 1 e ∷ get_or source 2 e ∷ [])) (three_dims target e l) ∙ ap (dims_reduce target) (three_dims source e m)
-
-  pub flood_of_three : ((is_single (get_or source 0 e) || is_same_set (get_or source 0 e) (get_or target 0 e)) && ((is_single (get_or source 1 e) || is_same_set (get_or source 1 e) (get_or target 1 e))
-      && ((is_single (get_or source 2 e) || is_same_set (get_or source 2 e) (get_or target 2 e)) && true))) ≡ dims_spread target source
-  flood_of_three =
-      ap (λ ds. dims_spread ds (get_or source 0 e ∷ get_or source 1 e ∷ get_or source 2 e ∷ [])) (three_dims target e l) ∙ ap (dims_spread target) (three_dims source e m)
 
 -- ---- references
 pub first-moved : (d : ℤ) (dim : Dim) → first_of (dim_moved d dim) ≡ coordinate_moved d dim (first_of dim)
@@ -160,9 +147,6 @@ greatest_is r t e = end_of_some (has_none r) (map last_of r.dims) t e
 pub none_from_least : (r : Region) → least_member r ≡ None → has_none r ≡ true
 none_from_least r e = end_of_none (has_none r) (map first_of r.dims) e
 
-pub none_from_greatest : (r : Region) → greatest_member r ≡ None → has_none r ≡ true
-none_from_greatest r e = end_of_none (has_none r) (map last_of r.dims) e
-
 pub some_at : (dims : List Dim) (k : ℕ) (d : Dim) → k < length dims → 0 < tuple_count dims → 0 < coordinate_count (get_or dims k d)
 some_at [] k d h some = absurd (omega arith)
 some_at (a ∷ dims) zero d h some = positive_left (coordinate_count a) (tuple_count dims) some
@@ -186,8 +170,3 @@ component_past zero (x ∷ v) zero h = refl
 component_past zero (x ∷ v) (suc k) h = component_past zero v k (omega arith)
 component_past (suc rank) (x ∷ v) zero h = absurd (omega arith)
 component_past (suc rank) (x ∷ v) (suc k) h = component_past rank v k (omega arith)
-
--- ---- for the code
-pub or_false : (b : Bool) → (b || false) ≡ b
-or_false true = refl
-or_false false = refl

@@ -57,9 +57,6 @@ no-bases : {A : Type 0} (items : List A) → flat_map nothing items ≡ []
 no-bases [] = refl
 no-bases (item ∷ items) = no-bases items
 
-abbrev none-for : List Entry → List (List ℕ × Base)
-none-for entries = bases_among entries
-
 variables : (earlier : List Entry) (kinds : Kind) (names : List Name) →
     own_base [] kinds ≡ [] → bases_among (earlier ++ map (entry_for kinds) names) ≡ bases_among earlier
 variables earlier kinds names plain =

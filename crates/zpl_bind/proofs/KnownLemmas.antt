@@ -29,17 +29,11 @@ use Rattle.zpl_parts.specs.of_zpl_binding.Vectors.{vector_of}
 use Rattle.zpl_parts.specs.of_zpl_binding.Regions.{region_of}
 use Rattle.zpl_parts.specs.of_zpl_binding.Declarations.{with_config, with_constant, with_region, with_direction, with_decl}
 use Rattle.zpl_bind.specs.declared.faults.BindFault.{BindFault}
-use Rattle.zpl_bind.specs.declared.faults.BindFault.TheVariants.{NoMemory}
 use Rattle.zpl_bind.specs.Fault.{FailsAs, IsAmong, fault_of}
 use Rattle.zpl_bind.specs.Known.{known_failures, adds_region, adds_direction}
-use Rattle.zpl_bind.specs.Tables.{computed, found}
+use Rattle.zpl_bind.specs.Tables.{found}
 
 -- ---- lists of faults
-
-pub computed-push : {T : Type 0} (xs : List (List ℕ × T)) (name : List ℕ) (value : T) →
-    computed (xs ++ (name, value) ∷ [])
-    ≡ computed xs ++ record { name = name; outcome = Gives value } ∷ []
-computed-push xs name value = map-append _ xs ((name, value) ∷ [])
 
 failures-append : {A : Type 0} (xs ys : List (Outcome A)) →
     failures (xs ++ ys) ≡ failures xs ++ failures ys
@@ -169,19 +163,6 @@ direction-fails fault known name o fails =
 
 -- ---- loops
 
-pub loop-more : {A X : Type 0} (seen : X → A) (adds : Known → A → Known) (known next : Known)
-    (items : List X) (i : ℕ) (d : X) (whole : Known) → i < length items →
-    next ≡ adds known (seen (get_or items i d)) →
-    with_all adds known (map seen (drop i items)) ≡ whole →
-    with_all adds next (map seen (drop (i + 1) items)) ≡ whole
-loop-more seen adds known next items i d whole below is rest =
-    ap (λ k. with_all adds k (map seen (drop (i + 1) items))) is ∙
-    sym (ap (λ l. with_all adds known (map seen l)) (drop-cons items i d below ∙
-    ap (λ n. get_or items i d ∷ drop n items) next_index)) ∙ rest
-  where
-    next_index : suc i ≡ i + 1
-    next_index = omega arith
-
 pub loop-fails : {A X : Type 0} (seen : X → A) (adds : Known → A → Known) (known : Known)
     (items : List X) (i : ℕ) (d : X) (whole : Known) (fault : BindFault) → i < length items →
     ((f : plain.BindFault) (known : Known) (item : A) → Contains (known_failures known) f →
@@ -206,13 +187,6 @@ loop-fails {A} seen adds known items i d whole fault below keeps there rest =
     by (Some f) h =
         all-keep (λ known. Contains (known_failures known) f) adds (keeps f)
         (map seen (drop (suc i) items)) (adds known (seen (get_or items i d))) h
-
--- want of memory is no fault of them
-pub no-memory : {T : Type 0} (r : Result T BindFault) (xs : List plain.BindFault) →
-    IsErrAnd r (λ e. e ≡ NoMemory) → IfErr r (λ fault. IsAmong fault xs)
-no-memory (Err e) xs is =
-    subst (λ (f : BindFault). IsAmong f xs) (sym is) tt
-no-memory (Ok x) xs is = absurd is
 
 pub told-err : {T : Type 0} (r : Result T BindFault) (fault : BindFault)
     (xs : List plain.BindFault) → IsErrAnd r (λ e. e ≡ fault) → IsAmong fault xs →

@@ -24,10 +24,10 @@ use Rattle.zpl_parts.proofs.of_zpl_binding.KeptLemmas.{Formed, formed-kept}
 use Rattle.std.specs.Prelude.{IsErrAnd}
 use Rattle.std.proofs.Common.{drop-cons}
 use Rattle.std.proofs.lemmas.List.{take_more, map-append}
+use Rattle.std.proofs.lemmas.Bool.{and_parts}
 use Rattle.zpl_tree.specs.View.{posts_of, pre_of, dims_of}
 use Rattle.zpl_tree.specs.declared.regions.Post.{Post}
 use Rattle.zpl_tree.specs.declared.regions.Pre.{Pre as Arena}
-use Rattle.zpl_parts.specs.of_zpl_binding.Outcome.{and_then}
 use Rattle.zpl_bind.specs.Fault.{FailsAs, Computes}
 use Rattle.zpl_bind.specs.declared.faults.BindFault.{BindFault}
 use Rattle.zpl_bind.specs.Known.{IsBuilt}
@@ -258,14 +258,6 @@ pub passed : {B : Type 0} (r : Result B BindFault) (fault : BindFault) (o : Outc
 passed (Err e) fault o is fails = subst (λ f. FailsAs f o) (sym is) fails
 passed (Ok x) fault o is fails = absurd is
 
-pub then-fails : {A B : Type 0} (fault : BindFault) (o : Outcome A) (next : A → Outcome B) →
-    FailsAs fault o → FailsAs fault (and_then o next)
-then-fails fault o next fails = record {
-  told = fails.told;
-  tells = fails.tells;
-  fails = ap (λ o. and_then o next) fails.fails;
-}
-
 pub behind-passes : (known : Known) (posts : Posts) (o : Outcome Region) (fault : BindFault) →
     FailsAs fault o → FailsAs fault (behind known o posts)
 behind-passes known posts o fault fails = record {
@@ -292,14 +284,10 @@ empty-list : {X : Type 0} (xs : List X) → (length xs == 0) ≡ true → xs ≡
 empty-list [] h = refl
 empty-list (x ∷ xs) h = absurd (omega (arith, eqb-true (length (x ∷ xs)) 0 h))
 
-both_parts : (a b : Bool) → a && b ≡ true → (a ≡ true) × (b ≡ true)
-both_parts true b h = (refl, h)
-both_parts false b h = absurd (false-true h)
-
 pub plain-name : (pre : List Arena) (post : List Post) →
     ((length pre == 0) && (length post == 0)) ≡ true → (pre ≡ []) × (post ≡ [])
 plain-name pre post h =
-    let parts = both_parts (length pre == 0) (length post == 0) h in
+    let parts = and_parts (length pre == 0) (length post == 0) h in
     (empty-list pre parts.0, empty-list post parts.1)
 
 -- with something before or behind it

@@ -4,6 +4,7 @@ use Rattle.std.specs.List.{AllByRecursion, AllZip, list_all, list_any}
 use Rattle.std.specs.Str.{bytes_eq}
 use Rattle.std.proofs.lemmas.Int.{ints}
 use Rattle.std.proofs.lemmas.List.Elements.{All-from_recursion, recursion_from_All}
+use Rattle.std.proofs.lemmas.Bool.{and_parts}
 use Rattle.zpl_region.specs.declared.dims.Dim.{Dim}
 use Rattle.zpl_region.specs.declared.dims.Dim.TheVariants.{Range, Flood}
 use Rattle.zpl_region.specs.declared.regions.Region.{Region}
@@ -187,17 +188,13 @@ outside-dim d (Range lo hi step align) part steps (low, high, size, at) =
     c : (neg_ℤ (pos 32767) ≤ℤ d) × (d ≤ℤ pos 32767)
     c = component d part
 
-both_true : (a b : Bool) → a && b ≡ true → (a ≡ true) × (b ≡ true)
-both_true true b h = (refl, h)
-both_true false b h = absurd (false-true h)
-
 pub components-fit : (rank : ℕ) (v : List ℤ) → list_all is_component v ≡ true →
     list_all is_component (components rank v) ≡ true
 components-fit rank [] h = refl
 components-fit zero (x ∷ v) h =
-    components-fit zero v (both_true (is_component x) (list_all is_component v) h).1
+    components-fit zero v (and_parts (is_component x) (list_all is_component v) h).1
 components-fit (suc rank) (x ∷ v) h =
-    let parts = both_true (is_component x) (list_all is_component v) h in
+    let parts = and_parts (is_component x) (list_all is_component v) h in
     ap₂ (λ a b. a && b) parts.0 (components-fit rank v parts.1)
 
 outside-dims : (v : List ℤ) (dims : List Dim) → list_all is_component v ≡ true →
@@ -208,7 +205,7 @@ outside-dims : (v : List ℤ) (dims : List Dim) → list_all is_component v ≡ 
 outside-dims [] dims fit steps within are new = are
 outside-dims (d ∷ v) [] fit steps within are new = tt
 outside-dims (d ∷ v) (dim ∷ dims) fit steps within are new =
-    let parts = both_true (is_component d) (list_all is_component v) fit in
+    let parts = and_parts (is_component d) (list_all is_component v) fit in
     let bounds = outside-dim d dim parts.0 steps.0 within.0 in
     ((new.0, bounds.0, bounds.1), outside-dims v dims parts.1 steps.1 within.1 are.1 new.1)
 
@@ -244,9 +241,9 @@ ranges a b s t a' b' s' t' e f g h = cc
 pub each-fit : (v : List ℤ) (i : ℕ) → list_all is_component v ≡ true →
     is_component (get_or v i (pos 0)) ≡ true
 each-fit [] i h = refl
-each-fit (d ∷ v) zero h = (both_true (is_component d) (list_all is_component v) h).0
+each-fit (d ∷ v) zero h = (and_parts (is_component d) (list_all is_component v) h).0
 each-fit (d ∷ v) (suc i) h =
-    each-fit v i (both_true (is_component d) (list_all is_component v) h).1
+    each-fit v i (and_parts (is_component d) (list_all is_component v) h).1
 
 -- ---- one border after the other
 
@@ -305,22 +302,6 @@ around-next known region storage next name parts i d whole below is rest =
   where
     next_index : suc i ≡ i + 1
     next_index = omega arith
-
--- one border of the region
-pub border-of : (known : Known) (region storage : Region) (name : List ℕ) (border : Border)
-    (vector : List ℤ) → is_of name border ≡ true →
-    outcome_of (three_components []) known.directions border.direction.text ≡ Gives vector →
-    widened known region storage (filter (is_of name) (border ∷ []))
-    ≡ Gives (hull_with storage (outside_of vector region))
-border-of known region storage name border vector e is =
-    ap (λ b. widened known region storage (cond b (border ∷ []) [])) e ∙
-    ap (λ o. and_then o (λ v. widened known region (hull_with storage (outside_of v region)) [])) is
-
-pub border-else : (known : Known) (region storage : Region) (name : List ℕ) (border : Border) →
-    is_of name border ≡ false →
-    widened known region storage (filter (is_of name) (border ∷ [])) ≡ Gives storage
-border-else known region storage name border e =
-    ap (λ b. widened known region storage (cond b (border ∷ []) [])) e
 
 -- ---- a region of rank 0 stays as it is
 

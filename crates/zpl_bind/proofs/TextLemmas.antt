@@ -16,6 +16,7 @@ use Rattle.zpl_bind.specs.Lists.{settings_of}
 use Rattle.zpl_bind.specs.Tables.{found}
 use Rattle.zpl_bind.specs.Texts.{bases_of, type_fault, text_faults, all_text_faults}
 use Rattle.std.specs.Prelude.{MatchOption}
+use Rattle.std.proofs.lemmas.Bool.{or_parts}
 use Rattle.zpl_bind.specs.Fault.{IsAmong, fault_of}
 use Rattle.zpl_bind.specs.declared.faults.BindFault.{BindFault as Code}
 
@@ -39,16 +40,12 @@ sides x y h = by (bytes_eq y x) refl
     by true e =
         absurd (false-true (sym h ∙ (bytes_eq-Decides x y).1 (sym ((bytes_eq-Decides y x).0 e))))
 
-neither : (a b : Bool) → a || b ≡ false → (a ≡ false) × (b ≡ false)
-neither true b h = cc
-neither false b h = (refl, h)
-
 is_set-push : (front : List Setting) (last : Setting) (text : List ℕ) →
     is_set front text ≡ false → bytes_eq last.name text ≡ false →
     is_set (front ++ last ∷ []) text ≡ false
 is_set-push [] last text none other = ap (λ b. b || false) other
 is_set-push (first ∷ front) last text none other =
-    let parts = neither (bytes_eq first.name text) (is_set front text) none in
+    let parts = or_parts (bytes_eq first.name text) (is_set front text) none in
     ap₂ (λ a b. a || b) parts.0 (is_set-push front last text parts.1 other)
 
 nothing : (b : Bool) (faults : List BindFault) →
@@ -61,7 +58,7 @@ pub twice-push : (front : List Setting) (last : Setting) → twice_set front ≡
 twice-push [] last none new = refl
 twice-push (first ∷ front) last none new =
     let parts = nothing (is_set front first.name) (twice_set front) none in
-    let apart = neither (bytes_eq first.name last.name) (is_set front last.name) new in
+    let apart = or_parts (bytes_eq first.name last.name) (is_set front last.name) new in
     ap₂ (λ b faults. if b then TwiceSet ∷ faults else faults)
     (is_set-push front last first.name parts.0 (sides first.name last.name apart.0))
     (twice-push front last parts.1 apart.1)

@@ -1,19 +1,15 @@
 -- Vectors, component by component.
-use Rattle.std.proofs.Common.{◌≡◌, ℕ, suc, ◌+◌, ◌<◌, ◌≤◌, ℤ, pos, Bool, true, false, ◌&&◌, cond, List, [], ◌∷◌, ◌++◌, length, drop, get_or, set, refl, sym, ap, ap₂, ◌∙◌, arith, subst, drop-cons, append_assoc, length-append, ⊎_elim, drop_of_length-le}
+use Rattle.std.proofs.Common.{◌≡◌, ℕ, suc, ◌+◌, ◌<◌, ◌≤◌, ℤ, Bool, true, false, ◌&&◌, List, [], ◌∷◌, ◌++◌, length, drop, get_or, set, refl, sym, ap, ap₂, ◌∙◌, arith, subst, drop-cons, append_assoc, length-append, ⊎_elim}
 use Rattle.std.proofs.lemmas.Bool.{cases_lt}
 use Rattle.std.specs.List.{list_all}
-use Rattle.std.proofs.lemmas.List.{append-nil}
 use Rattle.zpl_tree.specs.Syntax.{Exprs}
 use Rattle.zpl_tree.specs.View.{expr_of, exprs_of}
 use Rattle.zpl_parts.specs.of_zpl_binding.Bound.{IsVector}
 use Rattle.zpl_parts.proofs.of_zpl_binding.LimitLemmas.{Holds, vector-holds}
 use Rattle.zpl_tree.specs.declared.expressions.Expr.{Expr}
-use Rattle.zpl_parts.specs.of_zpl_binding.Outcome as plain
 use Rattle.zpl_parts.specs.of_zpl_binding.Outcome.{Outcome, Gives, Fails, and_then, outcome_map, Computed}
 use Rattle.zpl_parts.specs.of_zpl_binding.Constants.{value_of}
-use Rattle.zpl_parts.specs.of_zpl_binding.Vectors.{values_of, three_components, is_component, limited_vector, vector_of}
-use Rattle.zpl_bind.specs.Fault.{FailsAs}
-use Rattle.zpl_bind.specs.declared.faults.BindFault.{BindFault}
+use Rattle.zpl_parts.specs.of_zpl_binding.Vectors.{values_of, three_components, is_component, vector_of}
 
 -- the first parts have these values
 pub record IsSoFar (values : List (Computed ℤ)) (parts : List Expr) (count : ℕ)
@@ -24,20 +20,6 @@ pub record IsSoFar (values : List (Computed ℤ)) (parts : List Expr) (count : �
   pub counted : length done ≡ count
   pub vector_is : vector ≡ three_components done
   pub within_is : within ≡ list_all is_component done
-
-map-same : {A : Type 0} (o : Outcome (List A)) → o ≡ outcome_map (λ more. [] ++ more) o
-map-same (Gives value) = refl
-map-same (Fails fault) = refl
-
-pub none-so-far : (values : List (Computed ℤ)) (parts : List Expr) →
-    IsSoFar values parts 0 (pos 0 ∷ pos 0 ∷ pos 0 ∷ []) true
-none-so-far values parts = record {
-  done = [];
-  rest = map-same (values_of values (exprs_of parts));
-  counted = refl;
-  vector_is = refl;
-  within_is = refl;
-}
 
 -- one more component
 one-more : (done : List ℤ) (value : ℤ) (o : Outcome (List ℤ)) →
@@ -114,39 +96,6 @@ more-so-far values parts count part vector within value below is new short long 
       within_is = both ∙ ap (λ w. w && is_component value) so.within_is ∙
           sym (all-push so.done value);
     }
-
--- a part that fails
-pub fails-so-far : (values : List (Computed ℤ)) (parts : List Expr) (count : ℕ) (part : Expr)
-    (vector : List ℤ) (within : Bool) (fault : BindFault) → count < length parts →
-    FailsAs fault (value_of values (expr_of (get_or parts count part))) →
-    IsSoFar values parts count vector within → FailsAs fault (vector_of values (exprs_of parts))
-fails-so-far values parts count part vector within fault below fails so = record {
-  told = fails.told;
-  tells = fails.tells;
-  fails =
-      ap (λ o. and_then o limited_vector) (so.rest ∙
-      ap (λ l. outcome_map (λ more. so.done ++ more) (values_of values (exprs_of l)))
-      (drop-cons parts count part below) ∙
-      ap (λ o. outcome_map (λ more. so.done ++ more) (and_then o (λ value.
-      and_then (values_of values (exprs_of (drop (suc count) parts)))
-      (λ others. Gives (value ∷ others))))) fails.fails);
-}
-
--- all parts
-pub all-so-far : (values : List (Computed ℤ)) (parts : List Expr) (count : ℕ)
-    (vector : List ℤ) (within : Bool) → length parts ≤ count →
-    IsSoFar values parts count vector within →
-    vector_of values (exprs_of parts) ≡ cond within (Gives vector) (Fails plain.DirectionLimit)
-all-so-far values parts count vector within past so =
-    ap (λ o. and_then o limited_vector) (so.rest ∙
-    ap (λ l. outcome_map (λ more. so.done ++ more) (values_of values (exprs_of l)))
-    (drop-all parts count past)) ∙
-    ap limited_vector (append-nil so.done) ∙
-    ap₂ (λ b v. cond b (Gives v) (Fails plain.DirectionLimit)) (sym so.within_is)
-    (sym so.vector_is)
-  where
-    drop-all : (l : List Expr) (n : ℕ) → length l ≤ n → drop n l ≡ []
-    drop-all l n h = drop_of_length-le l h
 
 pub vector-given : (values : List (Computed ℤ)) (parts : Exprs) (vector : List ℤ) →
     vector_of values parts ≡ Gives vector → IsVector vector

@@ -4,6 +4,7 @@ use Rattle.std.proofs.Common.{◌≡◌, ℕ, zero, suc, Bool, true, false, not,
 use Rattle.std.specs.List.{flat_map, find}
 use Rattle.std.specs.Str.{bytes_eq}
 use Rattle.std.proofs.lemmas.Slice.Eq.{bytes_eq-Decides}
+use Rattle.std.proofs.lemmas.Option.{same_Some, none-some}
 use Rattle.zpl_tree.specs.Syntax.{Name, Named, Around, Exprs, NoExpr, ThenExpr, Bracket, NoBracket, Bracketed, Base, VarDef, Program}
 use Rattle.zpl_names.specs.Shapes.{unknown_shapes}
 use Rattle.zpl_names.specs.Declared.{Routine, routine_named, entry_of}
@@ -33,9 +34,6 @@ told-later : (first : Binding) (bindings : List Binding) (text : List ℕ) (arra
 told-later first bindings text array told =
     record { binding = told.binding; there = inr told.there; name = told.name; is = told.is }
 
-some-same : {X : Type 0} (x y : X) → Some x ≡ Some y → x ≡ y
-some-same x y e = cc
-
 found-append : (xs ys : List Binding) (text : List ℕ) (array : ExpandedArray) →
     bound_in (xs ++ ys) text ≡ Some array →
     Told xs text array ⊎ (bound_in ys text ≡ Some array)
@@ -54,7 +52,7 @@ found-append (x ∷ xs) ys text array h =
           binding = x;
           there = inl refl;
           name = same.0 refl;
-          is = some-same x.array array h;
+          is = same_Some x.array array h;
         })
     by false same h later =
         shift (later h)
@@ -221,9 +219,6 @@ actual-told program caller by_ref (formal ∷ formals) (ThenExpr first rest) bin
 
 -- ---- arrays that are declared
 
-none-some : {X : Type 0} (x : X) → None ≡ Some x → ⊥
-none-some x e = cc
-
 local-declared : (program : Program) (routine : Routine) (path name : List ℕ)
     (array : ExpandedArray) → is_array_name program routine name ≡ true →
     bound_in (local_arrays path routine.procedure.locals) name ≡ Some array →
@@ -294,7 +289,7 @@ named-stands program instance sound actuals name array h =
         StandsFor program sound.text name array.storage
     by true is (Some one) found e =
         subst (λ at. StandsFor program sound.text name at)
-        (ap (λ array. array.storage) (some-same one array e)) (sound.stands name one is found)
+        (ap (λ array. array.storage) (same_Some one array e)) (sound.stands name one is found)
     by true is None found e =
         formals.Itself sound.text name array.storage
         (ap (λ routine. array_in program routine name) sound.named ∙

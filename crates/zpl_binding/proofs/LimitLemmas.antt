@@ -1,8 +1,9 @@
 -- What is computed is within the limits.
-use Rattle.std.proofs.Common.{◌≡◌, ℕ, zero, suc, ℤ, pos, Bool, true, false, cond, ◌&&◌, List, [], ◌∷◌, ◌++◌, map, length, Some, IsTrue, All, refl, ap, subst}
+use Rattle.std.proofs.Common.{◌≡◌, ℕ, zero, suc, ℤ, pos, Bool, true, false, cond, List, [], ◌∷◌, ◌++◌, map, length, Some, IsTrue, All, refl, ap, subst}
 use Rattle.std.specs.List.{AllByRecursion, list_all, find}
 use Rattle.std.specs.Str.{bytes_eq}
 use Rattle.std.proofs.lemmas.List.Elements.{All-from_recursion}
+use Rattle.std.proofs.lemmas.Bool.{and_parts, and_from}
 use Rattle.zpl_arrays.specs.of_zpl_region.declared.regions.Region.{Region}
 use Rattle.zpl_arrays.specs.of_zpl_region.declared.dims.Dim.{Dim}
 use Rattle.zpl_arrays.specs.of_zpl_region.Region.{outside_of, inside_of, moved, strided}
@@ -146,14 +147,6 @@ known-limited program settings =
 
 -- ---- vectors
 
-both-true : (a b : Bool) → a && b ≡ true → (a ≡ true) × (b ≡ true)
-both-true true b h = (refl, h)
-both-true false b h = cc
-
-true-both : (a b : Bool) → a ≡ true → b ≡ true → a && b ≡ true
-true-both true b e h = h
-true-both false b e h = e
-
 components-length : (count : ℕ) (parts : List ℤ) → length (components_of count parts) ≡ count
 components-length zero parts = refl
 components-length (suc count) [] = ap suc (components-length count [])
@@ -163,10 +156,10 @@ components-limited : (count : ℕ) (parts : List ℤ) → list_all is_component 
     list_all is_component (components_of count parts) ≡ true
 components-limited zero parts h = refl
 components-limited (suc count) [] h =
-    true-both _ _ refl (components-limited count [] refl)
+    and_from _ _ refl (components-limited count [] refl)
 components-limited (suc count) (part ∷ parts) h =
-    let each = both-true (is_component part) (list_all is_component parts) h in
-    true-both (is_component part) _ each.0 (components-limited count parts each.1)
+    let each = and_parts (is_component part) (list_all is_component parts) h in
+    and_from (is_component part) _ each.0 (components-limited count parts each.1)
 
 pub vector-holds : (values : List (Computed ℤ)) (parts : Exprs) →
     Holds IsVector (vector_of values parts)

@@ -6,6 +6,8 @@ use Rattle.std.specs.Str.{bytes_eq}
 use Rattle.std.proofs.lemmas.List.{append-nil, append_assoc, map-append}
 use Rattle.std.proofs.lemmas.List.Concat.{flat_map-append}
 use Rattle.std.proofs.lemmas.Slice.Eq.{bytes_eq-Decides}
+use Rattle.std.proofs.lemmas.Bool.{or_right}
+use Rattle.std.proofs.lemmas.List.Folds.{find-append}
 use Rattle.zpl_tree.specs.Syntax as plain
 use Rattle.zpl_tree.specs.Syntax.{Name, Bracket, NoBracket, Bracketed, Base, VarDef, Param, Decl, Config, Constant, Regions, Directions, Vars, Defined, Program}
 use Rattle.zpl_names.specs.Kinds as kind
@@ -310,10 +312,6 @@ not-there false at h = refl
 abbrev is_named : List ℕ → Name → Bool
 is_named text name = bytes_eq name.text text
 
-or-right : (a b : Bool) → b ≡ true → a || b ≡ true
-or-right true b h = refl
-or-right false b h = h
-
 found-none : (before : List Name) (entries : List Entry) (text : List ℕ) →
     repeated before (map (λ entry. entry.name) entries) ≡ [] →
     list_any (is_named text) before ≡ true → found (arrays_among entries) text ≡ None
@@ -324,7 +322,7 @@ found-none before (entry ∷ entries) text once there =
     by entry.kind (bytes_eq entry.name.text text) refl
     (not-there (list_any (is_named entry.name.text) before) entry.name.at parts.0)
     (found-none (entry.name ∷ before) entries text parts.1
-    (or-right (is_named text entry.name) (list_any (is_named text) before) there))
+    (or_right (is_named text entry.name) (list_any (is_named text) before) there))
   where
     by : (kinds : Kind) (b : Bool) → bytes_eq entry.name.text text ≡ b →
         list_any (is_named entry.name.text) before ≡ false →
@@ -414,16 +412,6 @@ or-none : {T : Type 0} (a b : Option T) → option_or a b ≡ None → (a ≡ No
 or-none None b h = (refl, h)
 or-none (Some x) b h = cc
 
-find-front : {X : Type 0} (p : X → Bool) (xs ys : List X) →
-    find p (xs ++ ys) ≡ option_or (find p xs) (find p ys)
-find-front p [] ys = refl
-find-front {X} p (x ∷ xs) ys = by (p x) (find-front p xs ys)
-  where
-    by : (b : Bool) → find p (xs ++ ys) ≡ option_or (find p xs) (find p ys) →
-        cond b (Some x) (find p (xs ++ ys)) ≡ option_or (cond b (Some x) (find p xs)) (find p ys)
-    by true h = refl
-    by false h = h
-
 -- names with one flag
 flag-same : (names : List Name) (flag value : Bool) (text : List ℕ) →
     found (flags_over names flag) text ≡ Some value → value ≡ flag
@@ -502,7 +490,7 @@ formals-none [] text h = refl
 formals-none (param ∷ params) text h =
     let parts = or-none (found (param_flags param) text) (found (flat_map param_flags params) text)
     (sym (found-front (param_flags param) (flat_map param_flags params) text) ∙ h) in
-    find-front (λ formal. bytes_eq formal.name.text text) (formals_over param.by_ref param.names)
+    find-append (λ formal. bytes_eq formal.name.text text) (formals_over param.by_ref param.names)
     (formal_names params) ∙
     ap₂ (λ a b. option_or a b)
     (formal-none param.by_ref param.names (is_bracketed param.shape) text parts.0)
@@ -514,7 +502,7 @@ params-none [] text h = refl
 params-none (param ∷ params) text h =
     let parts = or-none (formal_named (formals_over param.by_ref param.names) text)
     (formal_named (formal_names params) text)
-    (sym (find-front (λ formal. bytes_eq formal.name.text text)
+    (sym (find-append (λ formal. bytes_eq formal.name.text text)
     (formals_over param.by_ref param.names) (formal_names params)) ∙ h) in
     found-front (param_flags param) (flat_map param_flags params) text ∙
     ap₂ (λ a b. option_or a b)

@@ -1,8 +1,9 @@
 -- The storages of copies.
-use Rattle.std.proofs.Common.{◌≡◌, ℕ, zero, suc, ◌<◌, ◌≤◌, ◌^◌, ◌&&◌, ℤ, pos, int_rem, unsigned_abs, Bool, true, false, cond, List, [], ◌∷◌, map, length, get_or, All, refl, sym, ap, ap₂, ◌∙◌, subst, arith}
+use Rattle.std.proofs.Common.{◌≡◌, ℕ, zero, suc, ◌<◌, ◌≤◌, ◌^◌, ℤ, pos, int_rem, unsigned_abs, Bool, true, false, cond, List, [], ◌∷◌, map, length, get_or, All, refl, sym, ap, ap₂, ◌∙◌, subst, arith}
 use Rattle.std.specs.List.{AllByRecursion, list_all}
 use Rattle.std.proofs.lemmas.Int.{clamps, ints, quot-rem, rem_below}
 use Rattle.std.proofs.lemmas.List.Elements.{All-from_recursion, recursion_from_All}
+use Rattle.std.proofs.lemmas.Bool.{and_parts}
 use Rattle.zpl_region.specs.declared.dims.Dim.{Dim}
 use Rattle.zpl_region.specs.declared.dims.Dim.TheVariants.{Range, Flood}
 use Rattle.zpl_region.specs.declared.regions.Region.{Region}
@@ -52,10 +53,6 @@ rest-small d (Range lo hi step align) fits (low, high, size, at) =
 abbrev AreSmall : List ℤ → Type 0
 AreSmall v = AllByRecursion (IsUpTo 34) v
 
-both_true : (a b : Bool) → a && b ≡ true → (a ≡ true) × (b ≡ true)
-both_true true b h = (refl, h)
-both_true false b h = cc
-
 zeros-small : (v : List ℤ) → AreSmall (zeros v)
 zeros-small [] = tt
 zeros-small (d ∷ v) = ((omega (arith, ints), omega (arith, ints)), zeros-small v)
@@ -65,7 +62,7 @@ rests-small : (v : List ℤ) (dims : List Dim) → list_all is_component v ≡ t
 rests-small [] dims fits within = tt
 rests-small (d ∷ v) [] fits within = tt
 rests-small (d ∷ v) (dim ∷ dims) fits within =
-    let parts = both_true (is_component d) (list_all is_component v) fits in
+    let parts = and_parts (is_component d) (list_all is_component v) fits in
     (rest-small d dim parts.0 within.0, rests-small v dims parts.1 within.1)
 
 components-small : (rank : ℕ) (v : List ℤ) → AreSmall v → AreSmall (components rank v)

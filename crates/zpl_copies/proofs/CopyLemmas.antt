@@ -1,5 +1,5 @@
 -- Copies, and faults that tell of them.
-use Rattle.std.proofs.Common.{◌≡◌, ℕ, List, [], ◌∷◌, map, Contains, Some, None, IfSome, Result, Ok, Err, IfErr, IsErrAnd, ◌⊎◌, inl, inr, refl, sym, ap, ◌∙◌, subst}
+use Rattle.std.proofs.Common.{◌≡◌, ℕ, List, [], ◌∷◌, map, Contains, Some, None, Result, Ok, Err, IfErr, IsErrAnd, ◌⊎◌, inl, inr, refl, sym, ap, ◌∙◌, subst}
 use Rattle.std.specs.Option.{option_map}
 use Rattle.zpl_region.specs.declared.regions.Region.{Region}
 use Rattle.zpl_region.specs.Hull.{hull}
@@ -16,10 +16,9 @@ use Rattle.zpl_binding.specs.Formals as formals
 use Rattle.zpl_bind.specs.declared.faults.BindFault.{BindFault}
 use Rattle.zpl_bind.specs.declared.faults.BindFault.TheVariants.{UnknownConfig, ConfigType, TwiceSet, BadConstant, RegionLimit, DirectionLimit, NoMemory}
 use Rattle.zpl_bind.specs.Fault.{Computes, FailsAs, fault_of}
-use Rattle.zpl_bind.specs.Few.{IsFew}
 use Rattle.zpl_copies.specs.Shapes.{copy_at, found_at, home_over}
 use Rattle.zpl_copies.specs.Uses.{Use, Hands, Reads}
-use Rattle.zpl_copies.specs.Flows.{HasPast, Meets, MeetsAll, TellsOf, IsMetAs, standing_for, Adds, Grows}
+use Rattle.zpl_copies.specs.Flows.{HasPast, Meets, MeetsAll, TellsOf, IsMetAs, standing_for, Adds}
 use Rattle.zpl_copies.proofs.FewLemmas.{found-seen}
 use Rattle.zpl_copies.proofs.FlowLemmas.{adds-grows, adds-only, only-one, single}
 
@@ -47,13 +46,6 @@ pub copy-some : (known : Known) (entries : List (ℕ × Inner)) (at : ℕ) (shif
 copy-some known entries at shift inner some =
     sym (ap (λ o. copy_over known (home_over known o) shift)
     (found-seen entries at ∙ ap (option_map inner_of) (sym some)))
-
-pub few-there : (entries : List (ℕ × Inner)) (at : ℕ) (inner : Inner) →
-    Some inner ≡ found_at entries at →
-    ((at : ℕ) → IfSome (found_at entries at) (λ inner. IsFew (inner_of inner))) →
-    IsFew (inner_of inner)
-few-there entries at inner some few =
-    subst (λ o. IfSome o (λ inner. IsFew (inner_of inner))) (sym some) (few at)
 
 pub computes-same : {A : Type 0} (r : Result A BindFault) (o other : Outcome A) → o ≡ other →
     Computes r o → Computes r other
@@ -118,17 +110,6 @@ one-meets known shapes variable callee formal old new adds = record {
     by (inl before) = inl before
     by (inr same) = inr (Hands callee formal, (only-one (Hands callee formal), same))
 
-pub one-read : (known : Known) (shapes : List (ℕ × plain.Inner)) (variable : ℕ) (shift : Dir)
-    (standings : List formals.Standing) → Grows standings standings →
-    (copy_at known shapes variable shift ≡ Fails outcome.RegionLimit → ⊥) →
-    MeetsAll known shapes variable (Reads shift ∷ []) standings standings
-one-read known shapes variable shift standings grows fine = record {
-  met = λ what h.
-      subst (Meets known shapes standings variable) (sym (single (Reads shift) what h)) fine;
-  grows = grows;
-  only = λ standing h. inl h;
-}
-
 -- ---- faults that are passed on
 
 pub tells-more : (P Q : Type 0) (fault : BindFault) → (P → Q) → TellsOf P fault → TellsOf Q fault
@@ -144,10 +125,6 @@ pub told-of : {T : Type 0} (r : Result T BindFault) (P : Type 0) (fault : BindFa
     IsErrAnd r (λ e. e ≡ fault) → TellsOf P fault → IfErr r (TellsOf P)
 told-of (Err e) P fault is h = subst (TellsOf P) (sym is) h
 told-of (Ok x) P fault is h = absurd is
-
-pub told-memory : {T : Type 0} (r : Result T BindFault) (P : Type 0) →
-    IsErrAnd r (λ e. e ≡ NoMemory) → IfErr r (TellsOf P)
-told-memory r P is = told-of r P NoMemory is tt
 
 pub err-more : {T : Type 0} (r : Result T BindFault) (P Q : Type 0) → (P → Q) →
     IfErr r (TellsOf P) → IfErr r (TellsOf Q)
@@ -167,9 +144,3 @@ pub read-past : (known : Known) (shapes : List (ℕ × plain.Inner)) (variable :
 read-past known shapes variable shift fault (is, past) =
     subst (TellsOf (HasPast known shapes variable (Reads shift ∷ []))) (sym is)
     (Reads shift, (only-one (Reads shift), past))
-
-pub past-more : (known : Known) (shapes : List (ℕ × plain.Inner)) (variable : ℕ) (xs ys : List Use) →
-    ((what : Use) → Contains xs what → Contains ys what) → HasPast known shapes variable xs →
-    HasPast known shapes variable ys
-past-more known shapes variable xs ys more past =
-    (past.0, (more past.0 past.1.0, past.1.1))

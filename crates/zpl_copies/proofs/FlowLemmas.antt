@@ -2,11 +2,11 @@
 use Rattle.std.proofs.Common.{◌≡◌, ℕ, zero, suc, ◌+◌, ◌==◌, ◌&&◌, ◌||◌, ◌<◌, Bool, true, false, cond, if◌then◌else◌, List, [], ◌∷◌, ◌++◌, map, length, take, get_or, Contains, Option, Some, None, ◌⊎◌, inl, inr, ⊎_elim, refl, sym, ap, ap₂, ◌∙◌, subst, arith}
 use Rattle.std.specs.List.{flat_map, list_any}
 use Rattle.std.specs.Str.{bytes_eq}
-use Rattle.std.proofs.lemmas.List.{append-nil, append_assoc, map-append}
+use Rattle.std.proofs.lemmas.List.{append-nil, append_assoc, map-append, map_more}
 use Rattle.std.proofs.lemmas.List.Concat.{flat_map-append}
 use Rattle.std.proofs.lemmas.List.Elements.{Contains-append_left, Contains-append_right, Contains-append_cases, Contains-push}
 use Rattle.std.proofs.lemmas.Slice.Eq.{bytes_eq-Decides}
-use Rattle.std.proofs.Math.Seq.{take-suc}
+use Rattle.std.proofs.lemmas.Bool.{and_parts}
 use borrow.Author.Tests.{eqb-true}
 use Rattle.indexmap.specs.IndexSet.{insert_key}
 use Rattle.zpl_tree.specs.Syntax as plain
@@ -16,10 +16,6 @@ use Rattle.zpl_copies.specs.declared.flows.Standing.{Standing}
 use Rattle.zpl_copies.specs.declared.uses.Parameter.{Parameter}
 use Rattle.zpl_copies.specs.Uses.{Use, Hands, Reads}
 use Rattle.zpl_copies.specs.Flows.{Adds, AddsAll, Grows, Keeps, Kept, Meets, MeetsAll, all_of, is_same, standing_for, standing_of}
-
-both : (a b : Bool) → a && b ≡ true → (a ≡ true) × (b ≡ true)
-both true b h = (refl, h)
-both false b h = cc
 
 pub not-in-none : {A : Type 0} (x : A) → Contains [] x → ⊥
 not-in-none x (k, below, is) = absurd (omega arith)
@@ -76,8 +72,8 @@ same_standings x y =
 
 pub same-standing : (x y : Standing) → same_standings x y ≡ true → standing_of x ≡ standing_of y
 same-standing x y h =
-    let outer = both _ _ h in
-    let inner = both _ _ outer.0 in
+    let outer = and_parts _ _ h in
+    let inner = and_parts _ _ outer.0 in
     let p : x.parameter.procedure.now ≡ y.parameter.procedure.now =
     (bytes_eq-Decides x.parameter.procedure.now y.parameter.procedure.now).0 inner.0 in
     let f : x.parameter.formal.now ≡ y.parameter.formal.now =
@@ -97,7 +93,7 @@ as_key procedure name = record {
 pub same-names : (key : Parameter) (procedure name : List ℕ) → is_same key procedure name ≡ true →
     (key.procedure.now ≡ procedure) × (key.formal.now ≡ name)
 same-names key procedure name h =
-    let parts = both _ _ h in (
+    let parts = and_parts _ _ h in (
       (bytes_eq-Decides key.procedure.now procedure).0 parts.0,
       (bytes_eq-Decides key.formal.now name).0 parts.1,
     )
@@ -164,13 +160,6 @@ adds-only item old new adds other h =
 
 -- ---- several items
 
-pub adds-none : {A : Type 0} (xs : List A) → AddsAll [] xs xs
-adds-none xs = record {
-  there = λ item h. absurd (not-in-none item h);
-  grows = grows-none xs;
-  only = λ item h. inl h;
-}
-
 pub adds-one : {A : Type 0} (item : A) (old new : List A) → Adds item old new →
     AddsAll (item ∷ []) old new
 adds-one item old new adds = record {
@@ -197,17 +186,6 @@ adds-more xs ys a b c one two = record {
 }
 
 -- ---- uses that are kept
-
-pub keeps-none : (text : List ℕ) (arrays : List ℕ → Option ℕ) (kept : Kept) →
-    Keeps text arrays [] kept kept
-keeps-none text arrays kept = record {
-  grows = grows-none kept.standings;
-  before = λ procedure name what h. h;
-  kept = λ name what h. absurd (not-in-none (name, what) h);
-  seeded = λ name what variable h is. absurd (not-in-none (name, what) h);
-  only_uses = λ procedure name what h. inl h;
-  only_standings = λ standing h. inl h;
-}
 
 pub keeps-more : (text : List ℕ) (arrays : List ℕ → Option ℕ) (xs ys : List (List ℕ × Use))
     (a b c : Kept) → Keeps text arrays xs a b → Keeps text arrays ys b c →
@@ -246,14 +224,6 @@ meets-grown known shapes variable (Hands callee formal) old new grows h =
     grown-has old new grows (standing_for callee formal variable) h
 meets-grown known shapes variable (Reads shift) old new grows h = h
 
-pub meets-none : (known : Known) (shapes : List (ℕ × plain.Inner)) (variable : ℕ)
-    (standings : List formals.Standing) → MeetsAll known shapes variable [] standings standings
-meets-none known shapes variable standings = record {
-  met = λ what h. absurd (not-in-none what h);
-  grows = grows-none standings;
-  only = λ standing h. inl h;
-}
-
 pub meets-more : (known : Known) (shapes : List (ℕ × plain.Inner)) (variable : ℕ)
     (xs ys : List Use) (a b c : List formals.Standing) → MeetsAll known shapes variable xs a b →
     MeetsAll known shapes variable ys b c → MeetsAll known shapes variable (xs ++ ys) a c
@@ -274,19 +244,10 @@ meets-more known shapes variable xs ys a b c one two = record {
 
 -- ---- loops
 
-pub take-next : {X A : Type 0} (seen : X → A) (xs : List X) (i : ℕ) (d : X) → i < length xs →
-    map seen (take (i + 1) xs) ≡ map seen (take i xs) ++ seen (get_or xs i d) ∷ []
-take-next seen xs i d below =
-    ap (λ n. map seen (take n xs)) next ∙ ap (map seen) (take-suc xs i d below) ∙
-    map-append seen (take i xs) (get_or xs i d ∷ [])
-  where
-    next : i + 1 ≡ suc i
-    next = omega arith
-
 pub flat-next : {X A B : Type 0} (f : A → List B) (seen : X → A) (xs : List X) (i : ℕ) (d : X) →
     i < length xs → flat_map f (map seen (take (i + 1) xs))
     ≡ flat_map f (map seen (take i xs)) ++ f (seen (get_or xs i d))
 flat-next f seen xs i d below =
-    ap (flat_map f) (take-next seen xs i d below) ∙
+    ap (flat_map f) (map_more seen xs i d below) ∙
     flat_map-append f (map seen (take i xs)) (seen (get_or xs i d) ∷ []) ∙
     ap (λ l. flat_map f (map seen (take i xs)) ++ l) (append-nil (f (seen (get_or xs i d))))

@@ -54,15 +54,6 @@ adds-old item xs there = record {
   only = λ other h. absurd (not-in-none other h);
 }
 
-pub adds-new : {A : Type 0} (item : A) (old new : List A) → new ≡ old ++ item ∷ [] →
-    Adds item old new
-adds-new item old new is = record {
-  there = subst (λ l. Contains l item) (sym is) (Contains-push old item);
-  more = item ∷ [];
-  grown = is;
-  only = λ other h. single item other h;
-}
-
 -- ---- a use of a name
 
 module _ (key : Parameter) (text name : List ℕ) (of_text : key.procedure.now ≡ text)

@@ -42,14 +42,6 @@ beside f g (x ∷ xs) (y ∷ ys) zero d e same less = ap (λ zs. get_or zs 0 (f 
 beside f g (x ∷ xs) (y ∷ ys) (suc k) d e same less =
     beside f g xs ys k d e (ap (drop 1) same) (omega (arith, less))
 
-as_long : {A B C : Type 0} (f : A → C) (g : B → C) (xs : List A) (ys : List B) →
-    map f xs ≡ map g ys → length xs ≡ length ys
-as_long f g [] [] same = refl
-as_long f g [] (y ∷ ys) same = absurd (let no : [] ≡ g y ∷ map g ys = same in cc)
-as_long f g (x ∷ xs) [] same = absurd (let no : f x ∷ map f xs ≡ [] = same in cc)
-as_long f g (x ∷ xs) (y ∷ ys) same =
-    let later = as_long f g xs ys (ap (drop 1) same) in omega (arith, later)
-
 at_each : {A B : Type 0} (g : A → B) (xs : List A) (k : ℕ) (d : B) (e : A) → k < length xs →
     get_or (map g xs) k d ≡ g (get_or xs k e)
 at_each g [] k d e less = absurd (omega (arith, less))
@@ -65,12 +57,6 @@ as_many g (x ∷ xs) = let later = as_many g xs in omega (arith, later)
 module _ (run : Run) (running : IsRunning run) where
   abbrev routines : List CodeRoutine
   routines = run.text.now.routines.items
-
-  pub heads_long : length run.heads.now ≡ length routines
-  heads_long =
-      as_long names_in
-      (λ routine. names_of (setup_of run.setup.now).known (setup_of run.setup.now).borders (procedure_of routine.procedure.now))
-      run.heads.now routines running.names
 
   pub reads_long : length run.reads.now ≡ length routines
   reads_long =
@@ -166,12 +152,6 @@ called_with name givens w target line = record {
   line = line;
 }
 
-pub called_none : (setup : Setup) (depth : ℕ) (calling : Calling) (draft : Drafted) → depth ≡ 0 →
-    draft ≡ grown draft (call_code setup depth calling draft.next)
-called_none setup depth calling draft none =
-    rows_grown draft []
-    ∙ ap (λ d. grown draft (call_code setup d calling draft.next)) (sym none)
-
 pub called_nothing : (setup : Setup) (depth : ℕ) (calling : Calling) (draft : Drafted) →
     routine_named setup.program calling.name ≡ None →
     draft ≡ grown draft (call_code setup depth calling draft.next)
@@ -251,10 +231,6 @@ module _ (run : Run) (running : IsRunning run) (some : run.depth ≡ 0 → ⊥) 
   abbrev pub routine_here : (routine : CodeRoutine) × (routine ≡
       get_or run.text.now.routines.items number routine)
   routine_here = stands_at run.text.now.routines.items number within
-
-  pub routine_named_here : routine_named (setup_of run.setup.now).program calling.name ≡
-      Some (routine_of routine_here.0)
-  routine_named_here = named_here run running calling.name number found routine_here.0 routine_here.1
 
   pub number_steps : d3 ≡
       grown d0 (routine_code (setup_of run.setup.now) clears

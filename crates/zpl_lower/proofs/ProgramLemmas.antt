@@ -17,7 +17,6 @@ use Rattle.zpl_binding.specs.Storages.{Border, borders_of}
 use Rattle.zpl_bind.specs.Known.{known_in}
 use Rattle.zpl_bind.specs.declared.known.Known.{Known as CodeKnown}
 use Rattle.zpl_meaning.specs.Context.{Setup}
-use Rattle.zpl_meaning.specs.Store.{Names}
 use Rattle.zpl_meaning.specs.Variables.{Frame}
 use Rattle.zpl_lowering.specs.Lowered.{Lowered, followed}
 use Rattle.zpl_lowering.specs.Program.{body_code, call_code, entry_calling, entry_code, first_next}
@@ -124,17 +123,6 @@ module _ (text : Text) (known : CodeKnown) (borders : List Border) (opening : Op
 
   abbrev setup : Setup
   setup = setup_at program (known_in known)
-
-  abbrev setup_with : List Border → Names → Setup
-  setup_with borders globals = record {
-    program = program;
-    known = known_in known;
-    borders = borders;
-    globals = globals;
-  }
-
-  pub opened_setup : setup_with borders opening.things ≡ setup
-  opened_setup = ap₂ setup_with opened.are_borders opened.things
 
   pub opened_calling : (other : Setup) → other ≡ setup →
       entry_calling program (frame_at program (known_in known)) ≡ entry_at other opening.numbers

@@ -1,11 +1,12 @@
 -- In a program whose chains of calls aren't too long, deeper calls change nothing.
-use Rattle.std.proofs.Common.{◌≡◌, ℕ, zero, suc, ◌+◌, ◌≤◌, Bool, true, false, ◌&&◌, not, pos, List, [], ◌∷◌}
+use Rattle.std.proofs.Common.{◌≡◌, ℕ, zero, suc, ◌+◌, ◌≤◌, Bool, true, false, not, pos, List, [], ◌∷◌}
 use Rattle.std.proofs.Common.{◌++◌, length, Option, Some, None, refl, sym, ap, ◌∙◌, subst, arith}
 use Rattle.std.proofs.Common.{Contains, cond}
 use Rattle.std.specs.Prelude.{find, filter_map}
 use Rattle.std.specs.List.{list_all, cons_option}
 use Rattle.std.specs.Str.{bytes_eq}
 use Rattle.std.proofs.Math.Path.{fun_ext}
+use Rattle.std.proofs.lemmas.Bool.{and_parts, not-false}
 use Rattle.zpl_binding.specs.of_zpl_nums.declared.operators.Op.{Op}
 use Rattle.zpl_binding.specs.of_zpl_tree.Syntax.{Name, Expr, Number, Truth, Coord, Named, Shifted, Around, Remap}
 use Rattle.zpl_binding.specs.of_zpl_tree.Syntax.{Call, Paren, Neg, Not, Abs, Pair, Reduce, Scan, Flood, Exprs}
@@ -303,10 +304,6 @@ abbrev pub IsKnownCall : Site → Type 0
 IsKnownCall (AtCall reach place name actuals) = is_procedure (kind_of reach.scope name) ≡ true
 IsKnownCall site = Unit {0}
 
-both_true : (a b : Bool) → a && b ≡ true → (a ≡ true) × (b ≡ true)
-both_true true b e = (refl, e)
-both_true false b e = cc
-
 module _ (program : Program) (depth : ℕ) (one other : Called → Store → Outcome)
     (missing : (text : List ℕ) → routine_named program text ≡ None → SameCalls one other text)
     (found : (text : List ℕ) (routine : Routine) → routine_named program text ≡ Some routine
@@ -325,7 +322,7 @@ module _ (program : Program) (depth : ℕ) (one other : Called → Store → Out
       → SameCalls one other text × AllShallow rest
   one_call text rest None is h = (missing text is, h)
   one_call text rest (Some routine) is h =
-      let parts = both_true (is_shallow program depth routine)
+      let parts = and_parts (is_shallow program depth routine)
       (list_all (is_shallow program depth) rest) h in
       (found text routine is parts.0, parts.1)
 
@@ -452,13 +449,9 @@ no_place : (b : Bool) (at : ℕ) → at_if b at ≡ [] → b ≡ false
 no_place true at e = cc
 no_place false at e = refl
 
-not_false : (b : Bool) → not b ≡ false → b ≡ true
-not_false true e = refl
-not_false false e = cc
-
 pub known_call : (site : Site) → HasNoFault site → IsKnownCall site
 known_call (AtCall reach place name actuals) h =
-    not_false (is_procedure (kind_of reach.scope name))
+    not-false (is_procedure (kind_of reach.scope name))
     (no_place (not (is_procedure (kind_of reach.scope name))) name.at h.known)
 known_call (AtWhole reach role expr) h = tt
 known_call (AtExpr reach rank expr) h = tt

@@ -25,10 +25,6 @@ abbrev pub Given : {A : Type 0} → (A → Type 0) → Computed A → Type 0
 Given P (Gives value) = P value
 Given P (Traps kind) = Unit {0}
 
-pub given_any : {A : Type 0} (computed : Computed A) → Given (λ value. Unit {0}) computed
-given_any (Gives value) = tt
-given_any (Traps kind) = tt
-
 module _ {A B : Type 0} (P : A → Type 0) (Q : B → Type 0) where
   pub given_then : (computed : Computed A) (next : A → Computed B) → Given P computed
       → ((value : A) → P value → Given Q (next value)) → Given Q (computed_then computed next)

@@ -56,9 +56,6 @@ done_no_more e = cc
 pub trap_no_more : {A : Type 0} (kind : _) (line : ℕ) → Trap kind line ≡ More → A
 trap_no_more kind line e = cc
 
-false_no_true : {A : Type 0} → false ≡ true → A
-false_no_true e = cc
-
 -- ---- a test, where one branch never wants more
 
 record Splits (test : Test) (one other : Store → Outcome) (store : Store) (truth : Bool) : Type 0

@@ -3,6 +3,7 @@ use Rattle.std.proofs.Common.{◌≡◌, ℕ, zero, suc, Bool, true, false, cond
 use Rattle.std.proofs.Common.{◌∷◌, length, Option, Some, None, option_map, IsSome, refl, sym, ap}
 use Rattle.std.proofs.Common.{◌∙◌, ◌⊎◌, inl, inr, nat_le}
 use Rattle.std.proofs.Common.{subst, arith, true≢false, eqb-true}
+use Rattle.std.proofs.lemmas.Bool.{or_parts, or_left, or_right, not-false}
 use Rattle.zpl_binding.specs.of_zpl_region.declared.regions.Region.{Region}
 use Rattle.zpl_binding.specs.of_zpl_tree.Syntax.{Name, Expr, Number, Truth, Coord, Named, Shifted, Around, Remap}
 use Rattle.zpl_binding.specs.of_zpl_tree.Syntax.{Call, Paren, Neg, Not, Abs, Pair, Reduce, Scan, Flood, Exprs}
@@ -44,14 +45,10 @@ pub record IsClean (site : Site) : Type 0 where
   pub under : HasNoFaultUnder site
   pub ranked : HasKnownRank site
 
-pub not_false : (b : Bool) → not b ≡ false → b ≡ true
-not_false true e = refl
-not_false false e = cc
-
 -- a name that its place takes
 pub taken : (reach : Reach) (takes : Option Kind → Bool) (name : Name)
     → unless_taken reach takes name ≡ [] → takes (kind_of reach.scope name) ≡ true
-taken reach takes name h = not_false (takes (kind_of reach.scope name))
+taken reach takes name h = not-false (takes (kind_of reach.scope name))
     (no_place (not (takes (kind_of reach.scope name))) name.at h)
 
 -- ---- what a name stands for, by what the text says of it
@@ -209,7 +206,7 @@ right_agrees None (Some (suc b)) rank k c h = none_is_not rank k h
 right_agrees (Some zero) (Some b) rank k c h = h
 right_agrees (Some (suc a)) (Some zero) rank k c h = tt
 right_agrees (Some (suc a)) (Some (suc b)) rank k c h =
-    ap (λ n. Some (suc n)) (sym (eqb-true a b (not_false (a == b) c))) ∙ h
+    ap (λ n. Some (suc n)) (sym (eqb-true a b (not-false (a == b) c))) ∙ h
 
 pub both_zero : (rank : Rank) → both_ranks (Some 0) rank ≡ rank
 both_zero None = refl
@@ -251,14 +248,6 @@ placed_suits currents false handed own h le current = (
   λ e. absurd (true≢false (sym e)),
   current,
 )
-
-pub or_left : (a b : Bool) → a ≡ true → a || b ≡ true
-or_left true b e = refl
-or_left false b e = absurd (true≢false (sym e))
-
-pub or_right : (a b : Bool) → b ≡ true → a || b ≡ true
-or_right true b e = refl
-or_right false b e = e
 
 -- ---- names
 
@@ -323,10 +312,6 @@ shifted_read currents rank kind thing h e a c =
 
 -- ---- values of bounds
 
-pub or_false : (a b : Bool) → a || b ≡ false → (a ≡ false) × (b ≡ false)
-or_false true b e = absurd (true≢false e)
-or_false false b e = (refl, e)
-
 scalar_read : (currents : Currents) (thing : Option Thing) → IsRead currents (Some 0) thing
     → IsValue thing
 scalar_read currents (Some (Scalar place)) h = tt
@@ -350,7 +335,7 @@ value_from (Neg at operand) place h o p = value_from operand place h o p
 value_from (Not at operand) place h o p = value_from operand place h o p
 value_from (Abs at operand) place h o p = value_from operand place h o p
 value_from (Pair at op left right) place h o p =
-    let parts = or_false (has_parallel left) (has_parallel right) p in (
+    let parts = or_parts (has_parallel left) (has_parallel right) p in (
       value_from left place h.0 (λ e. o (or_left (is_open left) (is_open right) e)) parts.0,
       value_from right place h.1 (λ e. o (or_right (is_open left) (is_open right) e)) parts.1,
     )
@@ -436,7 +421,7 @@ region_rank laws place shapes shattered result hint (Rexpr pre (NamedRegion name
         region_is (kind_of place.scope name) (thing_of place.environment name.text)
         (fits.names name)
         (or_first (is_region (kind_of place.scope name)) (is_index place.scope pre name post) e
-        (not_false
+        (not-false
         (is_region (kind_of place.scope name) || is_index place.scope pre name post)
         (no_place
         (not (is_region (kind_of place.scope name) || is_index place.scope pre name post)) name.at

@@ -5,6 +5,7 @@ use Rattle.std.proofs.Common.{option_map, option_to_list, is_none, IsSome, refl,
 use Rattle.std.proofs.Common.{true≢false, eqb-true}
 use Rattle.std.specs.Prelude.{◌==◌}
 use Rattle.std.specs.List.{AllByRecursion, flat_map, list_any}
+use Rattle.std.proofs.lemmas.Bool.{and_parts, not-true, or_parts, not-false}
 use Rattle.zpl_binding.specs.of_zpl_nums.declared.operators.Op.{Op}
 use Rattle.zpl_binding.specs.of_zpl_region.declared.regions.Region.{Region}
 use Rattle.zpl_binding.specs.of_zpl_tree.Syntax.{Name, Expr, Number, Truth, Coord, Named, Shifted, Around, Remap}
@@ -56,10 +57,10 @@ use Rattle.zpl_meaning.specs.Proper.{IsProperForm, IsProperUnder}
 use Rattle.zpl_meaning.specs.Statement.{step_expr}
 use Rattle.zpl_meaning.specs.Visited.{IsUnder, Itself, Behind}
 use Rattle.zpl_meaning.proofs.DepthLemmas.{each_left, each_right}
-use Rattle.zpl_meaning.proofs.ProperLemmas.{IsClean, Clean, not_false, taken, IsNamed}
+use Rattle.zpl_meaning.proofs.ProperLemmas.{IsClean, Clean, taken, IsNamed}
 use Rattle.zpl_meaning.proofs.ProperLemmas.{has_current, covers_over, Fits, reach_at}
 use Rattle.zpl_meaning.proofs.ProperLemmas.{RankLaws, array_rank_is, above_zero, both_zero}
-use Rattle.zpl_meaning.proofs.ProperLemmas.{none_is_not, or_false, read_array, read_of, fixed_read}
+use Rattle.zpl_meaning.proofs.ProperLemmas.{none_is_not, read_array, read_of, fixed_read}
 use Rattle.zpl_meaning.proofs.ProperLemmas.{variable_read, zero_rank, region_rank, whole_suits, proper}
 use Rattle.zpl_meaning.proofs.ProperLemmas.{region_proper}
 
@@ -87,7 +88,7 @@ zero_or_same : (rank other : Rank) → IsArrayRank rank → IsSome other
 zero_or_same rank None p k c = none_is_not None k refl
 zero_or_same rank (Some zero) p k c = inl refl
 zero_or_same (Some (suc a)) (Some (suc b)) p k c =
-    inr (ap (λ n. Some (suc n)) (eqb-true a b (not_false (a == b) c)))
+    inr (ap (λ n. Some (suc n)) (eqb-true a b (not-false (a == b) c)))
 zero_or_same (Some zero) (Some (suc b)) p k c = absurd p
 zero_or_same None (Some (suc b)) p k c = absurd p
 
@@ -249,14 +250,6 @@ scalar_value_rank None thing h e z = absurd (true≢false (sym e))
 pub and_false : (a b : Bool) → a ≡ true → a && b ≡ false → b ≡ false
 and_false true b h e = e
 and_false false b h e = absurd (true≢false (sym h))
-
-pub not_true : (b : Bool) → not b ≡ true → b ≡ false
-not_true true e = absurd (true≢false (sym e))
-not_true false e = refl
-
-pub and_true : (a b : Bool) → a && b ≡ true → (a ≡ true) × (b ≡ true)
-and_true true b e = (refl, e)
-and_true false b e = absurd (true≢false (sym e))
 
 -- the faults of one arm's test
 abbrev broken_arm : Reach → Rank → Arm → List ℕ
@@ -440,7 +433,7 @@ module _ (laws : RankLaws) where
             (fits.names name) in
             array_assign name op value (option_map length shape) (ap array_rank e)
             (ap value_rank e) (ap (target_rank place.prefix) e) named.1 named.0
-            (or_false _ _ (no_place (list_any (lacks_region reach)
+            (or_parts _ _ (no_place (list_any (lacks_region reach)
             (array_rank (kind_of place.scope name) ∷ [])) at h.under.regions)).0
             (subst (λ kind. cannot_hold kind (rank_of place.scope place.prefix
             (target_rank place.prefix (kind_of place.scope name)) value) ≡ false) e
@@ -622,9 +615,9 @@ module _ (laws : RankLaws) where
         → fixed_actual reach formal actual ≡ [] → IsActual actual → IsExpr expr_level actual
         → IsProperActual place formal actual
     actual_proper (ScalarFormal false base) actual f x h g =
-        value_proper actual (not_true
+        value_proper actual (not-true
         (is_above_zero (rank_of place.scope place.prefix place.prefix actual))
-        (and_true _ _ f).0) h g
+        (and_parts _ _ f).0) h g
     actual_proper (ScalarFormal true base) actual f x h g = reference_proper base actual f x h
     actual_proper (ArrayFormal by_ref base shape) actual f x h g =
         array_proper by_ref base shape actual f h
@@ -637,7 +630,7 @@ module _ (laws : RankLaws) where
     actuals_proper [] (ThenExpr actual rest) f x h g = absurd (true≢false (sym f))
     actuals_proper (formal ∷ formals) NoExpr f x h g = absurd (true≢false (sym f))
     actuals_proper (formal ∷ formals) (ThenExpr actual rest) f x h g =
-        let fit = and_true (actual_fits reach formal actual) (all_fit reach formals rest) f in
+        let fit = and_parts (actual_fits reach formal actual) (all_fit reach formals rest) f in
         let free = empty_parts (fixed_actual reach formal actual)
         (fixed_actuals reach formals rest) x in
         let sites = split_actual actual rest h in (
@@ -680,7 +673,7 @@ module _ (laws : RankLaws) where
           called = called.1;
           there = subst IsSome (sym found.1) refl;
           taken = actuals_proper called.0.formals actuals
-              (not_false (all_fit reach called.0.formals actuals) fit) free k g;
+              (not-false (all_fit reach called.0.formals actuals) fit) free k g;
         }
 
     -- the name that takes what a call answers
@@ -766,7 +759,7 @@ module _ (laws : RankLaws) where
     items_proper (Str bytes ∷ items) e h g =
         items_proper items e h g.1
     items_proper (Value expr ∷ items) e h g =
-        let lacks = or_false (lacks_region reach (whole_rank reach Printed expr)) _ e in
+        let lacks = or_parts (lacks_region reach (whole_rank reach Printed expr)) _ e in
         let own = each_left IsClean (whole_sites reach Printed expr)
         (flat_map (item_sites reach) items) h in
         let rank = rank_of place.scope place.prefix place.prefix expr in (
@@ -845,7 +838,7 @@ module _ (laws : RankLaws) where
       elementwise operand place shapes shattered result own rank fits h.1 e c
   elementwise (Pair at op left right) place shapes shattered result own rank fits h e c =
       let reach = reach_at place shapes shattered result in
-      let parts = and_true (is_elementwise left) (is_elementwise right) e in (
+      let parts = and_parts (is_elementwise left) (is_elementwise right) e in (
         elementwise left place shapes shattered result own rank fits
             (each_left IsClean (expr_sites reach own left) (expr_sites reach own right) h.1)
             parts.0 c,
@@ -916,8 +909,8 @@ module _ (laws : RankLaws) where
   point_test expr place shapes shattered result n rank fits h e c =
       let reach = reach_at place shapes shattered result in
       elementwise expr place shapes shattered result (test_rank reach expr) rank fits h.1
-      (not_false (is_elementwise expr)
-      (or_false (not (is_elementwise expr)) (ranks_clash (Some (suc n)) (test_rank reach expr))
+      (not-false (is_elementwise expr)
+      (or_parts (not (is_elementwise expr)) (ranks_clash (Some (suc n)) (test_rank reach expr))
       (no_place (not (is_elementwise expr) || ranks_clash (Some (suc n)) (test_rank reach expr)) _
       e)).0) c
 
@@ -970,7 +963,7 @@ module _ (laws : RankLaws) where
     point_form (Assign name op value) at place shapes n result rank fits h k c =
         let reach = reach_at place shapes (Some (suc n)) result in
         let broken = empty_parts _ _ (empty_parts _ _ h.none.shattered).0 in
-        let plain = not_false (is_elementwise value)
+        let plain = not-false (is_elementwise value)
         (no_place (not (is_elementwise value)) _ broken.1) in (
           point_target (kind_of place.scope name) (thing_of place.environment name.text)
               (Some (suc n)) (fits.names name) (taken reach is_value name h.none.known)
@@ -1084,7 +1077,7 @@ module _ (laws : RankLaws) where
       → HasCurrent place.currents rank
   tests_current place shapes shattered result rank fits e le lacks =
       has_current shapes place.currents rank fits.currents (above_is_array rank e le)
-      (or_false (lacks_region (reach_at place shapes shattered result) rank) false lacks).0
+      (or_parts (lacks_region (reach_at place shapes shattered result) rank) false lacks).0
 
   if_proper : (arms : Arms) (otherwise : Otherwise) (at : ℕ) (prefixes : List Prefix)
       (place : Place) (shapes : Shapes) (shattered : Rank) (result : Option Base)
@@ -1270,7 +1263,7 @@ module _ (laws : RankLaws) where
             (each_right IsClean (firsts ++ lasts) steps three) g.0.2,
       )
   form_proper (Border border names) at prefixes place shapes shattered result fits known h k g b = (
-    b (not_false (ends_in_border prefixes)
+    b (not-false (ends_in_border prefixes)
         (no_place (not (ends_in_border prefixes)) _ h.none.borders)),
     arrays_are place shapes shattered result fits names h.none.known,
   )
@@ -1363,7 +1356,7 @@ module _ (laws : RankLaws) where
       → (ends_in_border rest ≡ true → IsSome inner.edge)
       → ends_in_border (prefix ∷ rest) ≡ true → IsSome inner.edge
   edges prefix [] middle inner Itself first later e =
-      first (and_true (is_border_region prefix.region) (is_none prefix.mask) e).0
+      first (and_parts (is_border_region prefix.region) (is_none prefix.mask) e).0
   edges prefix (next ∷ more) middle inner deeper first later e = later e
 
   pub under_fits : (prefixes : List Prefix) (place inner : Place) (shapes : Shapes)

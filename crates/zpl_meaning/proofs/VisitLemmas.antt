@@ -7,6 +7,8 @@ use Rattle.std.specs.List.{AllByRecursion, flat_map, cons_option}
 use Rattle.std.specs.Option.{option_or}
 use Rattle.std.specs.Str.{bytes_eq}
 use Rattle.std.proofs.lemmas.List.Elements.{recursion_from_All}
+use Rattle.std.proofs.lemmas.Option.{same_Some}
+use Rattle.std.proofs.lemmas.Bool.{not-false}
 use Rattle.zpl_binding.specs.of_zpl_tree.Syntax.{Name, Expr, Call, Exprs, NoExpr, ThenExpr, Prefix, Program, Stmt}
 use Rattle.zpl_binding.specs.of_zpl_tree.Syntax.{Prefixed, Stmts, NoStmt, ThenStmt, Form, Assign, Invoke, Block}
 use Rattle.zpl_binding.specs.of_zpl_tree.Syntax.{If, While, Repeat, For, Border, Write, Return, Arm, Tested, Arms}
@@ -51,7 +53,7 @@ use Rattle.zpl_meaning.specs.Visited.{AsAnswer, AsStatement as CalledAsStatement
 use Rattle.zpl_meaning.specs.Visited.{handed_at, body_place, IsVisited, Begins, Holds, Calls}
 use Rattle.zpl_meaning.specs.Visited.{first_setup}
 use Rattle.zpl_meaning.proofs.DepthLemmas.{Each, each_left, each_right, each_from}
-use Rattle.zpl_meaning.proofs.ProperLemmas.{IsClean, Clean, not_false, taken, IsNamed, Covers, Fits}
+use Rattle.zpl_meaning.proofs.ProperLemmas.{IsClean, Clean, taken, IsNamed, Covers, Fits}
 use Rattle.zpl_meaning.proofs.ProperLemmas.{reach_at, RankLaws}
 use Rattle.zpl_meaning.proofs.StatementLemmas.{first_known, form_proper}
 use Rattle.zpl_meaning.proofs.StatementLemmas.{under_fits, under_proper}
@@ -367,9 +369,6 @@ all_handed place store (ArrayFormal false base shape ∷ formals) (ThenExpr actu
   array_handed base shape store false (actual_thing place.environment actual) h.0,
   all_handed place store formals rest values h.1 e,
 )
-
-some_same : {A : Type 0} (a b : A) → Some a ≡ Some b → a ≡ b
-some_same a b e = cc
 
 pub none_there : (xs : List ℕ) → ((at : ℕ) → ¬ Contains xs at) → xs ≡ []
 none_there [] h = refl
@@ -768,7 +767,7 @@ module _ (program : Program) (settings : List Setting) (laws : Laws program)
       sym (subst (λ (s : Setup). routine_named s.program name.text ≡ Some callee.0) owned callee.1)
       ∙ named in
       let is : IsProcedureOf signature routine =
-      subst (IsProcedureOf signature) (some_same callee.0 routine same) callee.2 in
+      subst (IsProcedureOf signature) (same_Some callee.0 routine same) callee.2 in
       let given : AreHanded signature.formals (handed_at inner before name actuals values) =
       subst (λ formals. AreHanded signature.formals
       (handed_on inner.environment before formals actuals values)) (sym formals_are)
@@ -801,7 +800,7 @@ module _ (program : Program) (settings : List Setting) (laws : Laws program)
   entry_is : (entry : Option Routine) → entry_of program ≡ entry → is_entry entry ≡ true
   entry_is entry e =
       subst (λ found. is_entry found ≡ true) e
-      (not_false (is_entry (entry_of program))
+      (not-false (is_entry (entry_of program))
       (no_place (not (is_entry (entry_of program))) program.name.at
       (none_there (no_entry program) (λ at. clean NoEntry at))))
 

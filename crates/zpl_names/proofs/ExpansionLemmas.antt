@@ -2,13 +2,14 @@
 use Rattle.std.proofs.Common.{◌≡◌, ℕ, zero, suc, ◌+◌, ◌≤◌, Bool, true, List, [], ◌∷◌, ◌++◌, Option, Some, None, refl, sym, ◌∙◌, ap, ap₂, arith, add-zero, true≢false}
 use Rattle.std.specs.List.{filter_map, cons_option, flat_map, list_all, sum_by}
 use Rattle.std.proofs.lemmas.List.Sums.{sum_by-cons, sum_by-append}
+use Rattle.std.proofs.lemmas.Bool.{and_parts}
 use Rattle.zpl_tree.specs.Syntax.{Program}
 use Rattle.zpl_names.specs.Shapes.{unknown_shapes}
 use Rattle.zpl_names.specs.Declared.{Routine, routine_named, entry_of}
 use Rattle.zpl_names.specs.Sites.{CallSite, calls_under}
 use Rattle.zpl_names.specs.Reached.{longest_chain}
 use Rattle.zpl_names.specs.Expansion.{Instance, callees, expanded, expanded_from, expanded_of, is_shallow, of_routine, called_instance, made_by, instances_from, entry_instance, instances_of}
-use Rattle.zpl_names.proofs.ListLemmas.{and_parts, sum_same}
+use Rattle.zpl_names.proofs.ListLemmas.{sum_same}
 
 -- ---- more depth
 

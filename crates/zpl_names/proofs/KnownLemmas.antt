@@ -3,6 +3,7 @@ use Rattle.std.proofs.Common.{◌≡◌, ℕ, zero, suc, Bool, true, false, cond
 use Rattle.std.specs.List.{AllByRecursion, find, flat_map}
 use Rattle.std.specs.Option.{option_or}
 use Rattle.std.specs.Str.{bytes_eq}
+use Rattle.std.proofs.lemmas.Bool.{not-false}
 use Rattle.zpl_tree.specs.Syntax.{Name, Pre, NamedRegion, Ditto, Expr, Number, Truth, Coord, Named, Shifted, Around, Remap, Call, Paren, Neg, Not, Abs, Pair, Reduce, Scan, Flood, Exprs, NoExpr, ThenExpr, Dir, NamedDir, Vector, Inner, Rexpr, Dims, NoBracket, Bracketed, Posts, NoPost, ThenPost, DimTexts, NoDim, ThenDim, at_of}
 use Rattle.zpl_names.specs.Kinds.{Rank, Kind, Config, Constant, Region, Direction, Scalar, Array, Procedure}
 use Rattle.zpl_names.specs.Scope.{Entry, Scope, kind_in, kind_of, in_reach, is_value, is_array, is_region, is_direction}
@@ -129,14 +130,10 @@ value-known (Some (Direction rank)) h is = absurd (true≢false (sym is))
 value-known (Some (Procedure signature)) h is = absurd (true≢false (sym is))
 value-known None h is = absurd (true≢false (sym is))
 
-not_false : (b : Bool) → not b ≡ false → b ≡ true
-not_false true e = refl
-not_false false e = absurd (true≢false e)
-
 -- a name that its place takes
 pub taken : (reach : Reach) (takes : Option Kind → Bool) (name : Name) →
     unless_taken reach takes name ≡ [] → takes (kind_of reach.scope name) ≡ true
-taken reach takes name h = not_false (takes (kind_of reach.scope name))
+taken reach takes name h = not-false (takes (kind_of reach.scope name))
     (no_place (not (takes (kind_of reach.scope name))) name.at h)
 
 -- ---- sites without faults
@@ -196,7 +193,7 @@ pub named-region : (reach : Reach) (pre : List Pre) (name : Name) (post : Posts)
     is_index reach.scope pre name post ≡ false → is_region (kind_of reach.scope name) ≡ true
 named-region reach pre name post h e =
     by (is_region (kind_of reach.scope name)) (is_index reach.scope pre name post) e
-    (not_false (is_region (kind_of reach.scope name) || is_index reach.scope pre name post)
+    (not-false (is_region (kind_of reach.scope name) || is_index reach.scope pre name post)
     (no_place (not (is_region (kind_of reach.scope name) || is_index reach.scope pre name post))
     name.at h))
   where

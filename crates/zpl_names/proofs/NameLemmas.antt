@@ -1,9 +1,10 @@
 -- What names stand for, and the procedures that calls name.
-use Rattle.std.proofs.Common.{◌≡◌, ℕ, Bool, true, false, cond, ◌||◌, inl, inr, ◌↔◌, List, [], ◌∷◌, ◌++◌, map, Option, Some, None, option_map, Contains, Decides, refl, sym, ◌∙◌, ap, subst, true≢false}
+use Rattle.std.proofs.Common.{◌≡◌, ℕ, Bool, true, false, cond, inl, inr, ◌↔◌, List, [], ◌∷◌, ◌++◌, map, Option, Some, None, option_map, Contains, Decides, refl, sym, ◌∙◌, ap, subst, true≢false}
 use Rattle.std.specs.List.{find, list_any}
 use Rattle.std.specs.Option.{option_or}
 use Rattle.std.specs.Str.{bytes_eq}
 use Rattle.std.proofs.lemmas.Slice.Eq.{bytes_eq-Decides}
+use Rattle.std.proofs.lemmas.Bool.{or_parts}
 use Rattle.zpl_tree.specs.Syntax.{Name, Base, Define, RegionDef, DirDef, VarDef, Decl, Config, Constant, Regions, Directions, Vars, Defined, NoBracket, Bracketed, Bracket, Program}
 use Rattle.zpl_names.specs.Kinds as kind
 use Rattle.zpl_names.specs.Kinds.{Kind, Signature}
@@ -312,10 +313,6 @@ procedure_is_there program text signature h = routine-behind [] program.decls te
 
 -- ---- names that differ
 
-or_false : (a b : Bool) → a || b ≡ false → (a ≡ false) × (b ≡ false)
-or_false true b h = absurd (true≢false h)
-or_false false b h = (refl, h)
-
 pub empty_parts : (xs ys : List ℕ) → xs ++ ys ≡ [] → (xs ≡ []) × (ys ≡ [])
 empty_parts [] ys h = (refl, h)
 empty_parts (x ∷ xs) ys h = cc
@@ -340,7 +337,7 @@ is-new before (first ∷ rest) name h (inr m) =
     let parts =
     empty_parts (at_if (list_any (λ earlier. bytes_eq earlier.text first.text) before) first.at)
     (repeated (first ∷ before) rest) h in
-    (or_false (bytes_eq first.text name.text)
+    (or_parts (bytes_eq first.text name.text)
     (list_any (λ earlier. bytes_eq earlier.text name.text) before)
     (is-new (first ∷ before) rest name parts.1 m)).1
 
@@ -366,7 +363,7 @@ distinct-found before (first ∷ rest) entry h (inr m) =
     let parts =
     empty_parts (at_if (list_any (λ earlier. bytes_eq earlier.text first.name.text) before)
     first.name.at) (repeated (first.name ∷ before) (names_of rest)) h in
-    let new = or_false (bytes_eq first.name.text entry.name.text)
+    let new = or_parts (bytes_eq first.name.text entry.name.text)
     (list_any (λ earlier. bytes_eq earlier.text entry.name.text) before)
     (is-new (first.name ∷ before) (names_of rest) entry.name parts.1 (name-among rest entry m)) in
     kind_in-cons first rest entry.name.text ∙

@@ -1,10 +1,9 @@
 -- One rule behind another: how an answer follows the outcome of the whole.
-use Rattle.std.proofs.Common.{◌≡◌, Bool, true, false, if◌then◌else◌, List, Result, Ok, Err, refl, sym, ap, subst}
+use Rattle.std.proofs.Common.{◌≡◌, Result, Ok, Err, sym, ap, subst}
 use Rattle.std.specs.Result.{IsErrAnd}
 use Rattle.zpl_parse.specs.declared.faults.ParseFault.{ParseFault}
 use Rattle.zpl_parse.specs.declared.faults.ParseFault.TheVariants.{Syntax, TooDeep, NoMemory}
-use Rattle.zpl_grammar.specs.Lexeme.{Lexeme, head_at, behind}
-use Rattle.zpl_parse.specs.Outcome.{Outcome, Wrong, Deep, Reader, and_then, made, too_deep}
+use Rattle.zpl_parse.specs.Outcome.{Outcome, Reader, and_then, made}
 use Rattle.zpl_parse.specs.Following.{IsFaultOf, Follows}
 
 -- a fault is passed on as it is
@@ -23,11 +22,6 @@ pub fault_made : {A B : Type 0} (fault : ParseFault) (f : A → B) (o : Outcome 
 fault_made (Syntax at) f o h = record { rest = h.rest; is = ap (made f) h.is; place = h.place }
 fault_made TooDeep f o h = record { rest = h.rest; is = ap (made f) h.is }
 fault_made NoMemory f o h = tt
-
--- where no deeper tree may stand
-pub too_deep_here : (A : Type 0) (b : Bool) (rest : List Lexeme) (fault : ParseFault) → fault ≡ (if b then TooDeep else Syntax (head_at rest)) → IsFaultOf {A = A} fault (too_deep b rest)
-too_deep_here A true rest fault is = subst (λ f. IsFaultOf {A = A} f (Deep (behind rest))) (sym is) (record { rest = behind rest; is = refl })
-too_deep_here A false rest fault is = subst (λ f. IsFaultOf {A = A} f (Wrong rest)) (sym is) (record { rest = rest; is = refl; place = refl })
 
 -- the same of an outcome that is equal
 pub follows_same : {V A : Type 0} (r : Result V ParseFault) (done : V → Outcome A) (o other : Outcome A) → o ≡ other → Follows r done o → Follows r done other

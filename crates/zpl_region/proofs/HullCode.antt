@@ -5,6 +5,7 @@ use Rattle.std.specs.List.{AllZip}
 use Rattle.std.specs.Int.{int_max, int_min}
 use Rattle.std.proofs.lemmas.Bool.{cases_lt, eq-eqb}
 use Rattle.std.proofs.lemmas.Bool.Decides.{nat_tests}
+use Rattle.std.proofs.lemmas.List.{nil_from_length}
 use Rattle.zpl_region.specs.declared.dims.Dim.{Dim}
 use Rattle.zpl_region.specs.declared.dims.Dim.TheVariants.{Range}
 use Rattle.zpl_region.specs.declared.progressions.Progression.{Progression}
@@ -21,9 +22,6 @@ use Rattle.zpl_region.proofs.HullWithLemmas.{with_by}
 use Rattle.zpl_region.proofs.LawLemmas.{each_among, each_coordinate}
 
 -- ---- whether a region has tuples
-no_list : {X : Type 0} (xs : List X) → length xs ≡ 0 → xs ≡ []
-no_list [] e = refl
-no_list (x ∷ xs) e = absurd (omega arith)
 
 pub none_told : (b : Bool) (r : Region) → IsRegion r → (IsTrue b ↔ (members r ≡ [])) → b ≡ true → has_none r ≡ true
 none_told b r is iff e = eq-eqb (tuple_count r.dims) 0 (sym (length-tuple_count r.dims (has_steps r.dims is.dims)) ∙ ap length (iff.0 e))
@@ -34,7 +32,7 @@ some_told b r is iff e = by_count (cases_lt 0 (tuple_count r.dims))
     by_count : (0 < tuple_count r.dims) ⊎ (tuple_count r.dims ≤ 0) → 0 < tuple_count r.dims
     by_count (inl some) = some
     by_count (inr none) =
-        let empty : members r ≡ [] = no_list (members r) (omega (arith, length-tuple_count r.dims (has_steps r.dims is.dims))) in
+        let empty : members r ≡ [] = nil_from_length (members r) (omega (arith, length-tuple_count r.dims (has_steps r.dims is.dims))) in
         let both : true ≡ false = sym (iff.1 empty) ∙ e in absurd (cc)
 
 pub each_some : (dims : List Dim) (e : Dim) → length dims ≡ 3 → 0 < tuple_count dims

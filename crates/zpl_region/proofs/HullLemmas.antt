@@ -84,9 +84,6 @@ hulls_in_box (l ∷ lo) (k ∷ hi) (d ∷ dims) h some =
     ∙ ap (λ b. is_dim_in_box l k d && b) (hulls_in_box lo hi dims (All-tail HasStep d dims h) (positive_right (coordinate_count d) (tuple_count dims) some))
 
 -- ---- the hull of no tuples
-replicate_none : (n : ℕ) → tuple_count (replicate n padding) ≡ 1
-replicate_none zero = refl
-replicate_none (suc n) = ap (λ k. 1 * k) (replicate_none n)
 
 emptied_none : (n rank : ℕ) (dims : List Dim) → drop rank dims ≡ replicate n padding → tuple_count dims ≡ 0 → tuple_count (emptied rank dims) ≡ 0
 emptied_none n zero dims padded none = none

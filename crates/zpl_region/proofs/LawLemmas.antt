@@ -3,7 +3,7 @@ use Rattle.std.proofs.Common.{◌≡◌, ◌≢◌, ◌↔◌, ℕ, zero, suc, �
 use Rattle.std.specs.List.{AllZip, count_by, filter, find, flat_map}
 use Rattle.std.specs.Int.RustNames.{int_lt}
 use Rattle.std.specs.Ordering.{int_eq}
-use Rattle.std.proofs.lemmas.Bool.{false≢true, or_cases, and_parts}
+use Rattle.std.proofs.lemmas.Bool.{false≢true, or_cases, and_parts, false_from_ne_true}
 use Rattle.std.proofs.lemmas.Bool.Decides.{Decides-int_eq}
 use Rattle.std.proofs.lemmas.Int.{ints}
 use Rattle.std.proofs.lemmas.List.{length-map}
@@ -80,10 +80,6 @@ pub members_distinct : (r : Region) → AllPairs ◌≢◌ (members r)
 members_distinct r = λ i j d below within e. let before = members_in_order r i j d below within in
     not_both (get_or (members r) j d) (get_or (members r) j d) (subst (λ t. IsTrue (is_before t (get_or (members r) j d))) e before) (subst (λ t. IsTrue (is_before t (get_or (members r) j d))) e before)
 
-not_true : (b : Bool) → (b ≡ true → ⊥) → b ≡ false
-not_true true n = absurd (n refl)
-not_true false n = refl
-
 find_first : (t : List ℤ) (ms : List (List ℤ)) → ((u : List ℤ) → Among ms u → IsTrue (is_before t u)) → find (is_before t) ms ≡ slice_get ms 0
 find_first t [] all = refl
 find_first t (m ∷ ms) all = let first : is_before t m ≡ true = all m (inl refl) in rw first refl
@@ -103,10 +99,10 @@ next_in : (ms : List (List ℤ)) (i : ℕ) (t : List ℤ) → Rises IsBefore ms 
 next_in [] i t h e = refl
 next_in (m ∷ ms) zero t h e =
     let is : m ≡ t = some_is e in
-    find_later t m ms (not_true (is_before t m) (λ b. not_both t m b (subst (λ u. IsTrue (is_before m u)) is (subst (λ u. IsTrue (is_before u m)) (sym is) b))))
+    find_later t m ms (false_from_ne_true (is_before t m) (λ b. not_both t m b (subst (λ u. IsTrue (is_before m u)) is (subst (λ u. IsTrue (is_before u m)) (sym is) b))))
     ∙ find_first t ms (λ u k. subst (λ v. IsTrue (is_before v u)) is (h.0 u k))
 next_in (m ∷ ms) (suc i) t h e =
-    find_later t m ms (not_true (is_before t m) (λ b. not_both t m b (h.0 t (among_at ms i t e)))) ∙ next_in ms i t h.1 e
+    find_later t m ms (false_from_ne_true (is_before t m) (λ b. not_both t m b (h.0 t (among_at ms i t e)))) ∙ next_in ms i t h.1 e
 
 pub next_member : (r : Region) (i : ℕ) (t : List ℤ) → slice_get (members r) i ≡ Some t → find (is_before t) (members r) ≡ slice_get (members r) (i + 1)
 next_member r i t e = let one : suc i ≡ i + 1 = omega arith in next_in (members r) i t (members_rise r) e ∙ ap (slice_get (members r)) one

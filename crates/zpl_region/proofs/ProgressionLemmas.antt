@@ -1,5 +1,5 @@
 -- Lemmas on numbers with one step between them.
-use Rattle.std.proofs.Common.{◌≡◌, ◌↔◌, ℕ, zero, suc, ◌+◌, ◌-◌, ◌*◌, ◌/◌, ◌%◌, ◌<◌, ◌≤◌, ◌⊎◌, inl, inr, true, ◌&&◌, nat_eq, IsTrue, length, get_or, Some, None, ℤ, pos, ◌+ℤ◌, ◌-ℤ◌, ◌≤ℤ◌, ◌<ℤ◌, refl, sym, ◌∙◌, ap, subst, arith, add-one, AllPairs, All, Contains, slice_get}
+use Rattle.std.proofs.Common.{◌≡◌, ◌↔◌, ℕ, zero, suc, ◌+◌, ◌-◌, ◌*◌, ◌/◌, ◌%◌, ◌<◌, ◌≤◌, ◌⊎◌, inl, inr, true, ◌&&◌, nat_eq, IsTrue, length, get_or, Some, None, ℤ, pos, ◌+ℤ◌, ◌-ℤ◌, ◌≤ℤ◌, ◌<ℤ◌, refl, sym, ◌∙◌, ap, subst, arith, add-one, All, Contains, slice_get}
 use Rattle.std.specs.List.{find}
 use Rattle.std.specs.Int.RustNames.{int_le, int_lt}
 use Rattle.std.specs.Ordering.{int_eq}
@@ -7,8 +7,6 @@ use Rattle.std.proofs.lemmas.Int.{ints}
 use Rattle.std.proofs.lemmas.Bool.{and_from, and_parts, cases_lt, eq-eqb, eqb-true}
 use Rattle.std.proofs.lemmas.Bool.Decides.{Decides-int_eq}
 use Rattle.std.proofs.lemmas.Nat.{div_below, mul-le, mod-mul-add}
-use Rattle.std.proofs.lemmas.List.Elements.{All-nil, All-cons}
-use Rattle.std.proofs.lemmas.List.Kept.{AllPairs-cons}
 use Rattle.zpl_region.specs.declared.progressions.Progression.{Progression}
 use Rattle.zpl_region.specs.Progression.{IsNormal, is_between, progression, terms}
 use Rattle.zpl_region.proofs.ListLemmas.{int_lt-true, int_lt-false, le_from_test}
@@ -40,20 +38,7 @@ place_in_progression f s n x c =
     let below : i < n = omega (arith, length-progression f s n, c.1) in
     (i, below, sym c.2 ∙ get_or-progression f s n i x below)
 
--- ---- ascending
-above_first : (f g : ℤ) (s n : ℕ) → f <ℤ g → All (λ x. f <ℤ x) (progression g s n)
-above_first f g s zero h = All-nil (λ x. f <ℤ x)
-above_first f g s (suc n) h = All-cons (λ x. f <ℤ x) g (progression (g +ℤ pos s) s n) h (above_first f (g +ℤ pos s) s n (omega (arith, ints)))
-
-pub AllPairs-progression : (f : ℤ) (s n : ℕ) → 0 < s → AllPairs ◌<ℤ◌ (progression f s n)
-AllPairs-progression f s zero h = λ i j d l m. absurd (omega arith)
-AllPairs-progression f s (suc n) h =
-    AllPairs-cons ◌<ℤ◌ f (progression (f +ℤ pos s) s n) (above_first f (f +ℤ pos s) s n (omega (arith, ints))) (AllPairs-progression (f +ℤ pos s) s n h)
-
 -- ---- the first number above x
-pub find-from_first : (f : ℤ) (s n : ℕ) (x : ℤ) → x <ℤ f → find (int_lt x) (progression f s n) ≡ slice_get (progression f s n) 0
-find-from_first f s zero x h = refl
-find-from_first f s (suc n) x h = rw (int_lt-true x f h) refl
 
 pub find-past_last : (f : ℤ) (s i : ℕ) (x : ℤ) → (f +ℤ pos (i * s)) ≤ℤ x → find (int_lt x) (progression f s (suc i)) ≡ None
 find-past_last f s zero x h = rw (int_lt-false x f (omega (arith, ints))) refl

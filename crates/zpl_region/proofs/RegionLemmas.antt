@@ -83,10 +83,6 @@ three_are (p ∷ q ∷ r ∷ []) e a b c l f g h = cons_same f (cons_same g (con
 three_are (p ∷ q ∷ r ∷ s ∷ dims) e a b c l f g h = absurd (omega arith)
 
 -- ---- forms of a region
-length-components : (rank : ℕ) (d : List ℤ) → length (components rank d) ≡ length d
-length-components rank [] = refl
-length-components zero (x ∷ d) = ap suc (length-components zero d)
-length-components (suc rank) (x ∷ d) = ap suc (length-components rank d)
 
 each_of_three : (form : ℤ → Dim → Dim) (v : List ℤ) (dims : List Dim) (e : Dim) → length v ≡ 3 → length dims ≡ 3
     → form (get_or v 0 (pos 0)) (get_or dims 0 e) ∷ form (get_or v 1 (pos 0)) (get_or dims 1 e) ∷ form (get_or v 2 (pos 0)) (get_or dims 2 e) ∷ [] ≡ each form v dims

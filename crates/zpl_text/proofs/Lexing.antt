@@ -4,10 +4,9 @@ use Rattle.std.proofs.Common.{append_assoc}
 use Rattle.std.proofs.lemmas.List.{append-nil}
 use Rattle.zpl_text.specs.declared.tokens.Token.{Token}
 use Rattle.zpl_text.specs.declared.faults.LexFault.{LexFault}
-use Rattle.zpl_text.specs.declared.faults.LexFault.TheVariants.{NoMemory}
 use Rattle.zpl_text.specs.Gaps.{Skips}
 use Rattle.zpl_text.specs.Tokens.{Place, Takes, Cuts, nothing, token, start, end_of, IsTokens}
-use Rattle.zpl_text.specs.Tokens.{IsFaultAt, HasFault, Appends, Refuses}
+use Rattle.zpl_text.specs.Tokens.{IsFaultAt, HasFault, Appends}
 
 -- now is before with the tokens up to a place behind it
 pub record IsCutUpTo (text : List ℕ) (before now : List Token) (here : Place) : Type 0 where
@@ -49,33 +48,7 @@ appends_tokens text before now here cut gap = record {
   holds = record { found = cut.found; last = here; cuts = cut.cuts; only_gap = gap; all = refl };
 }
 
--- what is found stays where there is no memory
-pub appends_found : (text : List ℕ) (before now : List Token) (here : Place)
-    → IsCutUpTo text before now here → Appends before now (Refuses text NoMemory)
-appends_found text before now here cut =
-    record {
-      tokens = cut.found;
-      appended = cut.appended;
-      holds =
-          record { last = here; cuts = cut.cuts };
-    }
-
--- and at a fault
-refuses_from : (text : List ℕ) (found : List Token) (fault : LexFault) → HasFault text found fault
-    → Refuses text fault found
-refuses_from text found NoMemory fault = record { last = fault.last; cuts = fault.cuts }
-refuses_from text found _ fault = fault
-
 pub has_fault : (text : List ℕ) (before now : List Token) (here : Place) (fault : LexFault)
     (cut : IsCutUpTo text before now here) → IsFaultAt text here fault
     → HasFault text cut.found fault
 has_fault text before now here fault cut at = record { last = here; cuts = cut.cuts; fault_at = at }
-
-pub appends_refused : (text : List ℕ) (before now : List Token) (here : Place) (fault : LexFault)
-    → IsCutUpTo text before now here → IsFaultAt text here fault
-    → Appends before now (Refuses text fault)
-appends_refused text before now here fault cut at = record {
-  tokens = cut.found;
-  appended = cut.appended;
-  holds = refuses_from text cut.found fault (has_fault text before now here fault cut at);
-}

@@ -1,4 +1,5 @@
 use Rattle.std.proofs.Common.{ap, subst, sym, ◌∙◌}
+use Rattle.std.proofs.lemmas.List.{get_or_default}
 use Rattle.zpl_tree.specs.View.{expr_of}
 use Rattle.zpl_tree.specs.declared.statements.Arm.{out-Arm}
 use Rattle.zpl_meaning.specs.Statement.{test_of}
@@ -7,7 +8,7 @@ use Rattle.array_steps.specs.of_array_settling.Fit.{IsFit}
 use Rattle.array_statements.specs.Arms.{offset_or}
 use Rattle.array_statements.specs.Choices.{Leads}
 use Rattle.array_statements.specs.declared.choices.Truth.TheVariants as truth
-use Rattle.array_statements.proofs.ChoiceLemmas.{any_default, arm_fit, left_done, left_ends, left_next}
+use Rattle.array_statements.proofs.ChoiceLemmas.{arm_fit, left_done, left_ends, left_next}
 use Rattle.array_statements.proofs.arms.arm_taken.Goals as goal
 
 pub truth_of-requires-clause-fit : goal.truth_of-requires-clause-fit
@@ -28,7 +29,7 @@ returns-in-True c = (
       let offset = c.offset_or-offset.result in
       let less = c.loop-number-test.true in
       let d = c.index-arms-number.result in
-      let is = c.index-arms-number.is ∙ any_default arms k d e less in
+      let is = c.index-arms-number.is ∙ get_or_default arms k d e less in
       let leads = subst
       (λ arm. Leads truth.True (test_of place (expr_of (out-Arm arm).test.now) offset) store) is
       (subst (λ t. Leads t (test_of place (expr_of (out-Arm d).test.now) offset) store) c.in-True.is

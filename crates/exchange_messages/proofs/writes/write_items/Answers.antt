@@ -1,13 +1,13 @@
 use Rattle.std.proofs.Common.{◌≡◌, ◌+◌, [], drop, get_or, subst, length, ap, ◌∙◌, arith, length-drop}
 use Rattle.std.specs.Prelude.{Some, None}
-use Rattle.std.proofs.lemmas.List.{get_or_default}
+use Rattle.std.proofs.lemmas.List.{get_or_default, drop_more as next_of}
 use Rattle.zpl_region.specs.Region.{members}
 use Rattle.node_messages.specs.of_grid_meaning.Exchange.{places_of, words_written}
 use Rattle.node_messages.specs.of_grid_meaning.Place.{with_values}
 use Rattle.node_messages.specs.of_node_local.Workplace.{Workplace}
 use Rattle.node_messages.specs.of_node_stages.Slots.{at_slots}
 use Rattle.exchange_messages.specs.Writing.{IsWritten}
-use Rattle.exchange_messages.proofs.ItemLemmas.{next_of, whole_rest}
+use Rattle.exchange_messages.proofs.ItemLemmas.{whole_rest}
 use Rattle.exchange_messages.proofs.WriteLemmas.{item_written, left_words, same_places}
 use Rattle.exchange_messages.proofs.writes.write_items.Goals as goal
 

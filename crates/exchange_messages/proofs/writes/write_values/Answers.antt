@@ -1,9 +1,9 @@
 use Rattle.std.proofs.Common.{rules, ◌≡◌, get_or, pos, to_z, of_z, w64, refl, sym, ap, ◌∙◌, subst, arith}
+use Rattle.std.proofs.lemmas.List.{drop_more}
 use Rattle.zpl_region.proofs.EndLemmas.{first_member}
 use Rattle.zpl_region.proofs.HullLemmas.{has_steps}
 use Rattle.node_messages.specs.of_grid_meaning.Place.{with_value}
 use Rattle.node_messages.specs.of_node_local.Workplace.{Workplace}
-use Rattle.exchange_messages.proofs.ItemLemmas.{next_of}
 use Rattle.exchange_messages.proofs.WriteLemmas.{IsWriting, places_end, words_end, writing_lacks, writing_starts, writing_step}
 use Rattle.exchange_messages.proofs.writes.write_values.Goals as goal
 
@@ -30,7 +30,7 @@ returns-then-not-set_value-clause-written c =
     let back : to_z w64 (of_z w64 word) ≡ word = search rules in
     writing_lacks c.args.array c.args.places.now c.args.words.now c.in-Some.x c.loop-i.i word old now
     (subst (λ o. IsWriting c.args.array c.args.places.now c.args.words.now o c.loop-i.i old now) c.in-Some.is c.loop-i.invariant.0)
-    (next_of c.args.words.now c.loop-i.i (pos 0) (omega arith))
+    (drop_more c.args.words.now c.loop-i.i (pos 0) (omega arith))
     (sym (ap (with_value now c.args.array c.in-Some.x) back) ∙ c.if-not-set_value.ensures.held)
 
 pub loop-i-preserved : goal.loop-i-preserved
@@ -42,7 +42,7 @@ loop-i-preserved c =
     let back : to_z w64 (of_z w64 word) ≡ word = search rules in
     let step = writing_step c.args.array c.args.places.now c.args.words.now c.in-Some.x c.next_after-next.result c.loop-i.i word old now next
     (subst (λ o. IsWriting c.args.array c.args.places.now c.args.words.now o c.loop-i.i old now) c.in-Some.is c.loop-i.invariant.0)
-    (next_of c.args.words.now c.loop-i.i (pos 0) (omega arith))
+    (drop_more c.args.words.now c.loop-i.i (pos 0) (omega arith))
     (sym (ap (with_value now c.args.array c.in-Some.x) back) ∙ c.if-not-set_value.ensures.held) c.next_after-next.ensures in (
       step,
       c.set_value.ensures.stores

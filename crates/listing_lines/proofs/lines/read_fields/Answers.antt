@@ -1,10 +1,10 @@
 use Rattle.std.proofs.Common.{◌≡◌, ◌++◌, ℕ, List, [], ◌∷◌, get_or}
-use Rattle.std.proofs.lemmas.List.{map-append}
+use Rattle.std.proofs.lemmas.List.{map-append, take_more as take-step}
 use Rattle.std.proofs.lemmas.List.Elements.{All-get_or, All-push}
 use Rattle.listing_lines.specs.declared.fields.Field.TheVariants as field
 use Rattle.listing_lines.specs.declared.names.Name.TheVariants as name
 use Rattle.listing_lines.specs.Field.{IsField, field_text}
-use Rattle.listing_lines.proofs.Taken.{same_at, take-step}
+use Rattle.listing_lines.proofs.Taken.{same_at}
 use Rattle.listing_lines.proofs.lines.read_fields.Goals as goal
 
 joined : (xs ys : List (List ℕ)) (x y : List ℕ) → xs ≡ ys → x ≡ y → xs ++ x ∷ [] ≡ ys ++ y ∷ []

@@ -1,10 +1,10 @@
 use Rattle.std.proofs.Common.{rules, ◌≡◌, ◌∷◌, [], ◌++◌, map, sym, ap, ◌∙◌}
 use Rattle.std.specs.Vec.Iter.{into_iter_items}
+use Rattle.std.proofs.lemmas.List.{nil_from_length}
 use Rattle.lower_regions.specs.of_zpl_lowering.Hoist.{mask_code}
 use Rattle.lower_regions.specs.of_lower_draft.Drafted.{grown}
 use Rattle.lower_regions.specs.of_lower_draft.Inline.{member_of}
 use Rattle.lower_regions.specs.of_lower_draft.declared.rows.FlatMember.TheVariants as flat
-use Rattle.lower_regions.proofs.of_lower_draft.PushLemmas.{nothing_left}
 use Rattle.lower_regions.specs.of_lower_places.View.{slotted_of}
 use Rattle.lower_operators.specs.Remapped.{puts_of, with_rooms}
 use Rattle.lower_operators.proofs.RemapLemmas.{put-pushed, puts-end, puts-next, rooms-end, rooms-next}
@@ -41,7 +41,7 @@ returns-clause-rooms c =
     let over = slotted_of c.args.over.now in
     let left = into_iter_items at.expr-iterator in
     let none : left ≡ [] =
-    nothing_left _ (sym at.expr-iterator.rest.ok.0 ∙ c.in-None.ensures.steps.0) in
+    nil_from_length _ (sym at.expr-iterator.rest.ok.0 ∙ c.in-None.ensures.steps.0) in
     rooms-end over at.draft _ left none at.invariant.rooms
     ∙ ap (λ ws. grown c.args.draft.now (with_rooms over c.args.draft.now.next.temps ws))
     c.into_iter-expr-iterator.ensures.into_iter_gives.0
@@ -52,7 +52,7 @@ returns-clause-group c =
     let mask = mask_code c.args.numbers.now (slotted_of c.args.over.now).mask in
     let left = into_iter_items at.expr-iterator in
     let none : left ≡ [] =
-    nothing_left _ (sym at.expr-iterator.rest.ok.0 ∙ c.in-None.ensures.steps.0) in
+    nil_from_length _ (sym at.expr-iterator.rest.ok.0 ∙ c.in-None.ensures.steps.0) in
     puts-end c.args.line mask at.draft.next.temps left (map member_of at.group.items) _ none
     at.invariant.group
     ∙ ap (λ ws. puts_of c.args.line mask c.args.draft.now.next.temps ws)

@@ -1,8 +1,9 @@
 use Rattle.std.proofs.Common.{rules, ◌≡◌, get_or, pos, to_z, of_z, w64, refl, sym, ap, ◌∙◌, subst, arith}
+use Rattle.std.proofs.lemmas.List.{drop_more}
 use Rattle.exchange_messages.specs.of_node_local.Workplace.{Workplace}
 use Rattle.part_messages.specs.Joining.{joined_at}
 use Rattle.part_messages.proofs.AheadLemmas.{on_ahead}
-use Rattle.part_messages.proofs.JoinLemmas.{IsJoining, joining_lacks, joining_starts, joining_step, next_of, tuples_end, words_end}
+use Rattle.part_messages.proofs.JoinLemmas.{IsJoining, joining_lacks, joining_starts, joining_step, tuples_end, words_end}
 use Rattle.part_messages.proofs.joins.join_each.Goals as goal
 
 pub loop-i-init : goal.loop-i-init
@@ -26,7 +27,7 @@ returns-then-not-join_word-clause-joined c =
     let back : to_z w64 (of_z w64 word) ≡ word = search rules in
     joining_lacks c.args.fold c.args.array c.args.walk.now c.args.words.now c.in-Some.x c.loop-i.i word old now
     (subst (λ o. IsJoining c.args.fold c.args.array c.args.walk.now c.args.words.now o c.loop-i.i old now) c.in-Some.is c.loop-i.invariant.0)
-    (next_of c.args.words.now c.loop-i.i (pos 0) (omega arith))
+    (drop_more c.args.words.now c.loop-i.i (pos 0) (omega arith))
     (sym (ap (λ v. joined_at c.args.fold c.args.array c.in-Some.x v now) back) ∙ c.if-not-join_word.ensures.put)
 
 pub after-next-requires-clause-there : goal.after-next-requires-clause-there
@@ -45,7 +46,7 @@ loop-i-preserved c =
     let back : to_z w64 (of_z w64 word) ≡ word = search rules in (
       joining_step c.args.fold c.args.array c.args.walk.now c.args.words.now c.in-Some.x c.after-next.result c.loop-i.i word old now next
           (subst (λ o. IsJoining c.args.fold c.args.array c.args.walk.now c.args.words.now o c.loop-i.i old now) c.in-Some.is c.loop-i.invariant.0)
-          (next_of c.args.words.now c.loop-i.i (pos 0) (omega arith))
+          (drop_more c.args.words.now c.loop-i.i (pos 0) (omega arith))
           (sym (ap (λ v. joined_at c.args.fold c.args.array c.in-Some.x v now) back) ∙ c.if-not-join_word.ensures.put) c.after-next.ensures.ahead,
       c.join_word.ensures.stores
           ∙ ap (λ (w : Workplace). record w { local = record w.local { stores = next } }) c.loop-i.invariant.1,

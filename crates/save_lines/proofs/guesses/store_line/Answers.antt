@@ -1,11 +1,12 @@
 use Rattle.std.proofs.Common.{◌≡◌, arith, codes, length, map, ap, sym, ◌∙◌}
 use Rattle.std.specs.Prelude.{None, Some, vec_len}
 use Rattle.std.proofs.lemmas.Bool.{eqb-true}
+use Rattle.std.proofs.lemmas.List.{nil_from_length}
 use Rattle.save_lines.specs.declared.lines.SavedLine.{SavedLine}
 use Rattle.save_lines.specs.declared.lines.SavedLine.TheVariants.{Store}
 use Rattle.save_lines.specs.declared.lines.Kind.TheVariants as kind
 use Rattle.save_lines.specs.Line.{IsSavedLine, box_word, kind_of, number_words, words_behind}
-use Rattle.save_lines.proofs.Colon.{boxes_other, in_back, in_front, none_of}
+use Rattle.save_lines.proofs.Colon.{boxes_other, in_back, in_front}
 use Rattle.save_lines.proofs.guesses.store_line.Goals as goal
 
 pub returns-in_default-clause-found : goal.returns-in_default-clause-found
@@ -28,7 +29,7 @@ returns-then-is_empty-clause-found c = by where
       let found = rw c.in-Some.is at c.in_ok-dims.ensures.found dims is.1 front in
       let zero : vec_len c.in-Some.dims ≡ 0 = eqb-true (vec_len c.in-Some.dims) 0 (sym c.is_empty.ensures ∙ c.if-is_empty.true) in
       let many : length c.in-Some.dims.items ≡ 0 = omega (arith, c.in-Some.dims.ok.0, zero) in
-      absurd (is.0 (none_of dims (ap length (sym found) ∙ many)))
+      absurd (is.0 (nil_from_length dims (ap length (sym found) ∙ many)))
   by line is kind _ = absurd cc
 
 pub returns-in-Some-2-clause-found : goal.returns-in-Some-2-clause-found

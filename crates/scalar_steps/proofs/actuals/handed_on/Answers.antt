@@ -1,9 +1,9 @@
 use Rattle.std.proofs.Common.{◌≡◌, ◌++◌, drop, length, map, sym, ap, ◌∙◌, subst, arith}
 use Rattle.std.specs.Option.{option_map}
 use Rattle.std.specs.Prelude.{IfSome, min}
+use Rattle.std.proofs.lemmas.List.{append-nil}
 use Rattle.array_places.specs.View.{environment_of}
 use Rattle.array_frames.specs.Handed.{IsHanded, handed_of}
-use Rattle.array_frames.proofs.LoopLemmas.{append-nothing}
 use Rattle.scalar_steps.proofs.ActualLemmas.{all-push, at-end, get-drop, handed-end, handed-next}
 use Rattle.scalar_steps.proofs.ActualLemmas.{handed-stops, mapped-push}
 use Rattle.scalar_steps.proofs.actuals.handed_on.Goals as goal
@@ -47,7 +47,7 @@ pub returns-clause-handed : goal.returns-clause-handed
 returns-clause-handed c =
     let is : c.loop-at.at ≡ min (length c.args.formals.now) (length c.args.actuals.now) =
     omega (arith, c.min-count.ensures, c.loop-at-test.false, c.loop-at.auto.at-end) in
-    sym (append-nothing (map handed_of c.loop-at.all.items)) ∙
+    sym (append-nil (map handed_of c.loop-at.all.items)) ∙
     ap (λ l. map handed_of c.loop-at.all.items ++ l)
     (sym (handed-end (environment_of c.args.environment.now) c.args.store.now
     (drop c.loop-at.at c.args.formals.now) (drop c.loop-at.at c.args.actuals.now)

@@ -1,8 +1,8 @@
 use Rattle.std.proofs.Common.{◌≡◌, ◌++◌, drop, length, map, sym, ap, ◌∙◌, arith}
 use Rattle.std.specs.Prelude.{min}
+use Rattle.std.proofs.lemmas.List.{append-nil}
 use Rattle.array_places.specs.View.{place_of}
 use Rattle.array_settling.specs.Placed.{placed_of}
-use Rattle.array_frames.proofs.LoopLemmas.{append-nothing}
 use Rattle.scalar_steps.proofs.ActualLemmas.{at-end, values-end}
 use Rattle.scalar_steps.proofs.actuals.value_exprs.Goals as goal
 
@@ -10,7 +10,7 @@ pub returns : goal.returns
 returns c =
     let is : c.loop-at.at ≡ min (length c.args.formals.now) (length c.args.actuals.now) =
     omega (arith, c.min-count.ensures, c.loop-at-test.false, c.loop-at.auto.at-end) in
-    sym (append-nothing (map placed_of c.loop-at.exprs.items)) ∙
+    sym (append-nil (map placed_of c.loop-at.exprs.items)) ∙
     ap (λ l. map placed_of c.loop-at.exprs.items ++ l)
     (sym (values-end (place_of c.args.place.now) (drop c.loop-at.at c.args.formals.now)
     (drop c.loop-at.at c.args.actuals.now)

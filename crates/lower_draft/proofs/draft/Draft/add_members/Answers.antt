@@ -1,11 +1,12 @@
 use Rattle.std.proofs.Common.{rules, ◌≡◌, ◌∷◌, [], ◌++◌, List, length, map, sym, ap, ◌∙◌, arith}
 use Rattle.std.specs.Vec.Iter.{into_iter_items}
+use Rattle.std.proofs.lemmas.List.{nil_from_length}
 use Rattle.zpl_lowering.specs.of_flat_form.Row.{member_coded, member_words}
 use Rattle.lower_draft.specs.Inline.{member_of}
 use Rattle.lower_draft.specs.declared.rows.FlatMember.{FlatMember}
 use Rattle.zpl_lowering.specs.of_node_form.declared.members.Member.{Member}
 use Rattle.lower_draft.proofs.PushLemmas.{coded_behind, end_coded, end_with, next_coded, next_with}
-use Rattle.lower_draft.proofs.PushLemmas.{nothing_left, with_all}
+use Rattle.lower_draft.proofs.PushLemmas.{with_all}
 use Rattle.lower_draft.proofs.draft.Draft.add_members.Goals as goal
 
 pub loop-member-preserved : goal.loop-member-preserved
@@ -40,7 +41,7 @@ pub returns-clause-members : goal.returns-clause-members
 returns-clause-members c =
     let at = c.loop-member in
     let none = c.in-None.ensures.steps in
-    let empty : into_iter_items at.member-iterator ≡ [] = nothing_left _ (sym at.invariant.2 ∙
+    let empty : into_iter_items at.member-iterator ≡ [] = nil_from_length _ (sym at.invariant.2 ∙
     none.0) in
     end_coded member_words member_coded at.self at.members.items _
     (map member_of (into_iter_items at.member-iterator))
@@ -52,7 +53,7 @@ pub returns-clause-added : goal.returns-clause-added
 returns-clause-added c =
     let at = c.loop-member in
     let none = c.in-None.ensures.steps in
-    let empty : into_iter_items at.member-iterator ≡ [] = nothing_left _ (sym at.invariant.2 ∙
+    let empty : into_iter_items at.member-iterator ≡ [] = nil_from_length _ (sym at.invariant.2 ∙
     none.0) in
     end_with member_words member_coded at.self _
     (map member_of (into_iter_items at.member-iterator))

@@ -1,11 +1,12 @@
 use Rattle.std.proofs.Common.{rules, ◌≡◌, ◌∷◌, [], ◌++◌, List, length, map, sym, ap, ◌∙◌, arith}
 use Rattle.std.specs.Vec.Iter.{into_iter_items}
+use Rattle.std.proofs.lemmas.List.{nil_from_length}
 use Rattle.zpl_lowering.specs.of_flat_form.Row.{part_coded, part_words}
 use Rattle.lower_draft.specs.Inline.{part_of}
 use Rattle.lower_draft.specs.declared.rows.FlatPart.{FlatPart}
 use Rattle.zpl_lowering.specs.of_node_form.declared.instructions.DimRow.{DimRow}
 use Rattle.lower_draft.proofs.PushLemmas.{coded_behind, end_coded, end_with, next_coded, next_with}
-use Rattle.lower_draft.proofs.PushLemmas.{nothing_left, with_all}
+use Rattle.lower_draft.proofs.PushLemmas.{with_all}
 use Rattle.lower_draft.proofs.draft.Draft.add_parts.Goals as goal
 
 pub loop-part-preserved : goal.loop-part-preserved
@@ -38,7 +39,7 @@ pub returns-clause-parts : goal.returns-clause-parts
 returns-clause-parts c =
     let at = c.loop-part in
     let none = c.in-None.ensures.steps in
-    let empty : into_iter_items at.part-iterator ≡ [] = nothing_left _ (sym at.invariant.2 ∙
+    let empty : into_iter_items at.part-iterator ≡ [] = nil_from_length _ (sym at.invariant.2 ∙
     none.0) in
     end_coded part_words part_coded at.self at.rows.items _
     (map part_of (into_iter_items at.part-iterator))
@@ -50,7 +51,7 @@ pub returns-clause-added : goal.returns-clause-added
 returns-clause-added c =
     let at = c.loop-part in
     let none = c.in-None.ensures.steps in
-    let empty : into_iter_items at.part-iterator ≡ [] = nothing_left _ (sym at.invariant.2 ∙
+    let empty : into_iter_items at.part-iterator ≡ [] = nil_from_length _ (sym at.invariant.2 ∙
     none.0) in
     end_with part_words part_coded at.self _
     (map part_of (into_iter_items at.part-iterator))

@@ -1,5 +1,5 @@
 use Rattle.std.proofs.Common.{Vec, Global, ℤ, set, ◌∙◌, ap}
-use Rattle.scan_plan.proofs.SumLemmas.{map-set}
+use Rattle.std.proofs.lemmas.List.{map-set}
 use Rattle.scan_plan.proofs.lists.Totals.set.Goals as goal
 
 pub returns : goal.returns
