@@ -27,12 +27,12 @@ use Rattle.zpl_meaning.specs.Program.{call_at, entry_call, first_frame, mean_of,
 use Rattle.zpl_meaning.specs.Store.{Names, Store}
 use Rattle.zpl_meaning.specs.Visited.{IsVisited, IsVisitedCall, first_setup}
 use Rattle.meaning_ranks.specs.Ranked.{IsRankedStmt}
-use Rattle.routine_walks.specs.declared.texts.Text.{Text}
-use Rattle.routine_walks.specs.Texts.{routine_of}
-use Rattle.array_frames.specs.declared.heads.Head.{Head}
-use Rattle.array_frames.specs.Heads.{names_in, names_of}
-use Rattle.array_statements.specs.declared.faults.MeanFault.{MeanFault}
-use Rattle.array_statements.specs.Runs.{Faults, Runs}
+use Rattle.text_walks.specs.declared.routine_texts.Text.{Text}
+use Rattle.text_walks.specs.Texts.{routine_of}
+use Rattle.interpreter_frames.specs.declared.heads.Head.{Head}
+use Rattle.interpreter_frames.specs.Heads.{names_in, names_of}
+use Rattle.array_meaning.specs.declared.faults.MeanFault.{MeanFault}
+use Rattle.array_meaning.specs.Runs.{Faults, Runs}
 use Rattle.array_meaning.specs.Means.{Means}
 use Rattle.array_meaning.specs.Opened.{IsOpened}
 

@@ -3,7 +3,7 @@ use Rattle.std.specs.Prelude.{◌≡◌, ℕ, List, Result, Ok, Err}
 use Rattle.zpl_nums.specs.declared.ends.End.{End}
 use Rattle.zpl_io.specs.Sink.{Takes, TakesFront}
 use Rattle.zpl_meaning.specs.Program.{Meaning}
-use Rattle.array_statements.specs.declared.faults.MeanFault.{MeanFault}
+use Rattle.array_meaning.specs.declared.faults.MeanFault.{MeanFault}
 
 -- The sink took just the bytes of the meaning, and the answer is its end.
 pub record HasMeant (meaning : Meaning) (answer : End) (before after : List ℕ → Type 0) : Type 0

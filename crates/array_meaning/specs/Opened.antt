@@ -14,12 +14,12 @@ use Rattle.zpl_bind.specs.Known.{known_in}
 use Rattle.zpl_bind.specs.Storages.{borders_in}
 use Rattle.zpl_meaning.specs.Program.{first_frame}
 use Rattle.zpl_meaning.specs.Store.{Names, Store}
-use Rattle.routine_walks.specs.declared.texts.Text.{Text}
-use Rattle.routine_walks.specs.Texts.{IsText}
-use Rattle.array_places.specs.Sound.{IsRanked}
-use Rattle.array_frames.specs.declared.heads.Head.{Head}
-use Rattle.array_frames.specs.Heads.{IsHead, names_in, names_of}
-use Rattle.array_frames.specs.Variables.{framed}
+use Rattle.text_walks.specs.declared.routine_texts.Text.{Text}
+use Rattle.text_walks.specs.Texts.{IsText}
+use Rattle.interpreter_places.specs.Sound.{IsRanked}
+use Rattle.interpreter_frames.specs.declared.heads.Head.{Head}
+use Rattle.interpreter_frames.specs.Heads.{IsHead, names_in, names_of}
+use Rattle.interpreter_frames.specs.Variables.{framed}
 
 -- The names, the variables and the parts are those of a program without faults.
 pub record IsOpened (program : Program) (texts : Text) (tables : Known) (borders : List Part)

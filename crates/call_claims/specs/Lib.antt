@@ -13,5 +13,6 @@ pub mod Source
 pub mod Stream
 pub mod Texts
 pub mod Words
+pub mod Reading
 pub use Rattle.zpl_claims.specs.of_zpl_binding as of_zpl_binding
 pub use Rattle.zpl_claims.specs as of_zpl_claims

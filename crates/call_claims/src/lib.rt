@@ -1,17 +1,25 @@
-//! What a call of the program says: the words, the answer with its status, and the parts of causes
-//! that commands share.
-//!
-//! The definitions stand in `specs/`. The function here does nothing: it has a law of the
-//! definitions as its contract, and a call brings the law into a proof.
+//! What a call says and what its words are: commands and settings, the answer, parts of causes that
+//! commands share.
 #![tactic(auto)]
 
+mod asked;
+mod commands;
+mod grids;
 mod laws;
+mod letters;
 mod limits;
+mod names;
+mod numbers;
 mod ran;
+mod settings;
 pub mod status;
+mod words;
 
+pub use asked::Asked;
+pub use commands::{Command, FileCommand, GenCommand, command_of};
 pub use laws::commands_are_one;
 pub use limits::{
     MOST_DIGITS, MOST_FACTOR_DIGITS, MOST_LATENCY, MOST_LINKS, MOST_SEED, MOST_TURNS,
 };
 pub use ran::Ran;
+pub use settings::{sets_nothing, setting_in};

@@ -20,17 +20,17 @@ use Rattle.check_claims.specs.Answer.{sound_text}
 use Rattle.check_claims.specs.Cause.{Cause, CheckCause, CheckFileCause}
 use Rattle.check_claims.specs.Cause.Cause.{check}
 use Rattle.check_claims.specs.Cause.CheckCause.{fails, sound}
-use Rattle.listing_code.specs.Code.{IsFailed, NoWork, ReadsNone}
-use Rattle.listing_code.specs.of_call_answers.Answers.{status_of, told_of}
-use Rattle.listing_code.specs.of_call_answers.Told.{IsAnswerOf}
-use Rattle.listing_code.specs.of_call_answers.Work.{execution_in, no_counts, ran_of}
-use Rattle.listing_code.specs.of_call_answers.declared.answers.Answer.{Answer}
-use Rattle.listing_code.specs.of_call_answers.declared.answers.Answer.TheVariants as answer
-use Rattle.listing_code.specs.of_call_answers.declared.answers.Stop.TheVariants as stop
-use Rattle.listing_code.specs.of_call_answers.declared.work.Work.{Work}
-use Rattle.listing_code.specs.of_grid_call.Work.{HasNoTurns}
-use Rattle.listing_code.proofs.CodeLemmas.{failed_caused, failed_done, failed_fetches, failed_not_put, with_work}
-use Rattle.listing_code.proofs.of_call_answers.CallLemmas.{not_done, told_done, work_other}
+use Rattle.exec_call.specs.Code.{IsFailed, NoWork, ReadsNone}
+use Rattle.exec_call.specs.of_mean_call.Answers.{status_of, told_of}
+use Rattle.exec_call.specs.of_mean_call.Told.{IsAnswerOf}
+use Rattle.exec_call.specs.of_mean_call.AnswerWork.{execution_in, no_counts, ran_of}
+use Rattle.exec_call.specs.of_mean_call.declared.answers.Answer.{Answer}
+use Rattle.exec_call.specs.of_mean_call.declared.answers.Answer.TheVariants as answer
+use Rattle.exec_call.specs.of_mean_call.declared.answers.Stop.TheVariants as stop
+use Rattle.exec_call.specs.of_mean_call.declared.work.Work.{Work}
+use Rattle.exec_call.specs.CodeWork.{HasNoTurns}
+use Rattle.exec_call.proofs.CodeLemmas.{failed_caused, failed_done, failed_fetches, failed_not_put, with_work}
+use Rattle.exec_call.proofs.of_mean_call.CallLemmas.{not_done, told_done, work_other}
 use Rattle.check_call.specs.Work.{IsCheckWork, IsPutAs, IsWorkOn}
 use Rattle.check_call.specs.Work.IsCheckWork.{cut, failed, told}
 use Rattle.check_call.specs.Work.IsPutAs.{part, wanting, whole}

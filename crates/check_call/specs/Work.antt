@@ -9,13 +9,13 @@ use Rattle.node_form.specs.declared.tables.Tables.{Tables}
 use Rattle.call_claims.specs.Call.{Call}
 use Rattle.check_claims.specs.of_exec_claims.Answer.{IsListedIn}
 use Rattle.check_claims.specs.Answer.{IsToldSound}
-use Rattle.listing_code.specs.Code.{IsFailed, ReadsNone}
-use Rattle.listing_code.specs.of_call_answers.Work.{no_counts}
-use Rattle.listing_code.specs.of_call_answers.declared.answers.Answer.{Answer}
-use Rattle.listing_code.specs.of_call_answers.declared.answers.Answer.TheVariants as answer
-use Rattle.listing_code.specs.of_call_answers.declared.answers.Stop.TheVariants as stop
-use Rattle.listing_code.specs.of_call_answers.declared.work.Work.{Work}
-use Rattle.listing_code.specs.of_grid_call.Work.{HasNoTurns}
+use Rattle.exec_call.specs.Code.{IsFailed, ReadsNone}
+use Rattle.exec_call.specs.of_mean_call.AnswerWork.{no_counts}
+use Rattle.exec_call.specs.of_mean_call.declared.answers.Answer.{Answer}
+use Rattle.exec_call.specs.of_mean_call.declared.answers.Answer.TheVariants as answer
+use Rattle.exec_call.specs.of_mean_call.declared.answers.Stop.TheVariants as stop
+use Rattle.exec_call.specs.of_mean_call.declared.work.Work.{Work}
+use Rattle.exec_call.specs.CodeWork.{HasNoTurns}
 
 -- ---- the put of a text
 -- the stream took it, or a put failed and it took a front, or memory was wanting and it took

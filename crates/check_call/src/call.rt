@@ -8,18 +8,17 @@ ghost use Rattle.call_claims.specs.Call.{call_of};
 ghost use Rattle.call_claims.specs.Command.{IsCheck};
 ghost use Rattle.call_claims.specs.Stream.{stream_of};
 ghost use Rattle.call_claims.specs.declared.status.TheConstants.{UNREADABLE, USAGE};
-ghost use Rattle.call_words.specs.Reading.{asked_in};
-ghost use Rattle.listing_code.specs.of_call_answers.Answers.{status_of};
-ghost use Rattle.listing_code.specs.of_call_answers.Stops.{CallStopsAtFault};
+ghost use Rattle.call_claims.specs.Reading.{asked_in};
+ghost use Rattle.exec_call.specs.of_mean_call.Answers.{status_of};
+ghost use Rattle.exec_call.specs.of_mean_call.Stops.{CallStopsAtFault};
 ghost use Rattle.check_call.specs.Call.{IsValidated};
 ghost use Rattle.check_call.specs.Work.{IsWorkOn};
 
 use crate::puts::put_check;
-use call_claims::Ran;
-use call_words::FileCommand;
+use call_claims::{FileCommand, Ran};
 use check_claims::check_statuses_are_exact;
-use listing_code::call_answers::{Answer, Work, answered};
-use listing_code::fetch_code;
+use exec_call::fetch_code;
+use exec_call::mean_call::{Answer, Work, answered};
 use std::alloc::Global;
 use zpl_io::{Files, Sink};
 

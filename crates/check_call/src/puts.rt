@@ -6,9 +6,9 @@ ghost use Rattle.zpl_io.specs.Sink.{StopsAtFault};
 ghost use Rattle.check_claims.specs.Answer.{sound_text};
 ghost use Rattle.check_call.specs.Work.{IsCheckWork, IsPutAs};
 
+use exec_call::check_code;
+use exec_call::mean_call::{Answer, Stop};
 use itoa::Buffer;
-use listing_code::call_answers::{Answer, Stop};
-use listing_code::check_code;
 use node_form::NodeProgram;
 use std::alloc::{AllocError, Global};
 use zpl_io::{PutFailed, Sink, put_piece};

@@ -19,29 +19,29 @@ use Rattle.call_claims.specs.Decided.{IsDecided}
 use Rattle.call_claims.specs.Stream.{Stream}
 use Rattle.call_claims.specs.declared.status.TheConstants.{TURN_LIMIT}
 use Rattle.call_claims.proofs.OneLemmas.{of_given}
-use Rattle.listing_code.specs.of_grid_call.Ended.{answer_in}
-use Rattle.listing_code.specs.of_grid_call.Work.{IsOrderOf, IsRunOn}
-use Rattle.listing_code.specs.of_call_answers.Answers.{IsUnrun, status_of, told_of}
-use Rattle.listing_code.specs.of_call_answers.Refusals.{build_status}
-use Rattle.listing_code.specs.of_call_answers.Told.{IsAnswerOf}
-use Rattle.listing_code.specs.of_call_answers.Work.{execution_in}
-use Rattle.listing_code.specs.of_call_answers.declared.refusals.BuildFault.{BuildFault}
-use Rattle.listing_code.specs.of_call_answers.declared.refusals.BuildFault.TheVariants as build
-use Rattle.listing_code.specs.of_call_answers.declared.work.Work.{Work}
-use Rattle.listing_code.specs.of_exec_claims.Answer.{IsListedIn}
-use Rattle.listing_code.specs.of_exec_claims.Cause.{Cause, PassesCheck, run_of}
-use Rattle.listing_code.specs.of_exec_claims.Cause.Cause.{no_memory}
-use Rattle.listing_code.specs.of_call_answers.declared.answers.Answer.{Answer}
-use Rattle.listing_code.specs.of_call_answers.declared.answers.Answer.TheVariants as answer
-use Rattle.listing_code.specs.of_grid_sim.Counting.{AddTurns, AreCounted}
-use Rattle.listing_code.specs.of_grid_sim.Run.{EndsRun, IsRun, run_in, run_to}
-use Rattle.listing_code.specs.of_grid_sim.Simulation.{Simulation, counts_of, start_simulation}
-use Rattle.listing_code.specs.of_grid_sim.declared.counts.Counts.{Counts}
-use Rattle.listing_code.specs.of_grid_sim.declared.faults.SimFault.{SimFault}
-use Rattle.listing_code.specs.of_grid_sim.declared.faults.SimFault.TheVariants as fault
-use Rattle.listing_code.proofs.of_grid_call.RunLemmas.{TurnsCount}
-use Rattle.listing_code.proofs.of_grid_call.WorkLemmas.{AreFew, order_back, text_few}
-use Rattle.listing_code.specs.Code.{IsListed}
+use Rattle.exec_call.specs.Ended.{answer_in}
+use Rattle.exec_call.specs.CodeWork.{IsOrderOf, IsRunOn}
+use Rattle.mean_call.specs.Answers.{IsUnrun, status_of, told_of}
+use Rattle.mean_call.specs.Refusals.{build_status}
+use Rattle.mean_call.specs.Told.{IsAnswerOf}
+use Rattle.mean_call.specs.AnswerWork.{execution_in}
+use Rattle.mean_call.specs.declared.refusals.BuildFault.{BuildFault}
+use Rattle.mean_call.specs.declared.refusals.BuildFault.TheVariants as build
+use Rattle.mean_call.specs.declared.work.Work.{Work}
+use Rattle.mean_call.specs.of_exec_claims.Answer.{IsListedIn}
+use Rattle.mean_call.specs.of_exec_claims.Cause.{Cause, PassesCheck, run_of}
+use Rattle.mean_call.specs.of_exec_claims.Cause.Cause.{no_memory}
+use Rattle.mean_call.specs.declared.answers.Answer.{Answer}
+use Rattle.mean_call.specs.declared.answers.Answer.TheVariants as answer
+use Rattle.mean_call.specs.of_grid_sim.Counting.{AddTurns, AreCounted}
+use Rattle.mean_call.specs.of_grid_sim.Run.{EndsRun, IsRun, run_in, run_to}
+use Rattle.mean_call.specs.of_grid_sim.Simulation.{Simulation, counts_of, start_simulation}
+use Rattle.mean_call.specs.of_grid_sim.declared.counts.Counts.{Counts}
+use Rattle.mean_call.specs.of_grid_sim.declared.faults.SimFault.{SimFault}
+use Rattle.mean_call.specs.of_grid_sim.declared.faults.SimFault.TheVariants as fault
+use Rattle.exec_call.proofs.RunLemmas.{TurnsCount}
+use Rattle.exec_call.proofs.CodeWorkLemmas.{AreFew, order_back, text_few}
+use Rattle.exec_call.specs.Code.{IsListed}
 use Rattle.exec_call.specs.Work.{IsSavedCode, IsSavedListed, IsSavedRun, IsTextTold, SavesCode, SavesGrid}
 use Rattle.exec_call.specs.Work.{SavesListed, is_limit, limited}
 use Rattle.exec_call.specs.declared.telling.Telling.{Telling}

@@ -11,13 +11,13 @@ use Rattle.call_claims.specs.Decided.{IsDecided}
 use Rattle.call_claims.specs.Stream.{Stream}
 use Rattle.call_claims.specs.Texts.{no_memory_text}
 use Rattle.call_claims.specs.declared.status.TheConstants.{NO_MEMORY, PUT_FAILED, UNREADABLE}
-use Rattle.listing_code.specs.of_call_answers.Answers.{status_of, told_of}
-use Rattle.listing_code.specs.of_call_answers.Stops.{CallStopsAtFault}
-use Rattle.listing_code.specs.of_call_answers.Told.{IsAnswerOf}
-use Rattle.listing_code.specs.of_call_answers.declared.answers.Answer.{Answer}
-use Rattle.listing_code.specs.of_call_answers.declared.answers.Answer.TheVariants as answer
-use Rattle.listing_code.proofs.of_call_answers.CallLemmas.{answered, failed_put, fetches_counted, puts_counted, work_other}
-use Rattle.listing_code.proofs.of_call_answers.CallLemmas.FailedPut.{in_work, in_telling}
+use Rattle.mean_call.specs.Answers.{status_of, told_of}
+use Rattle.mean_call.specs.Stops.{CallStopsAtFault}
+use Rattle.mean_call.specs.Told.{IsAnswerOf}
+use Rattle.mean_call.specs.declared.answers.Answer.{Answer}
+use Rattle.mean_call.specs.declared.answers.Answer.TheVariants as answer
+use Rattle.mean_call.proofs.CallLemmas.{answered, failed_put, fetches_counted, puts_counted, work_other}
+use Rattle.mean_call.proofs.CallLemmas.FailedPut.{in_work, in_telling}
 use Rattle.exec_call.specs.Work.{IsTextTold}
 
 -- The status has a cause and errs took what is told, or a put failed, of the work or in that; and

@@ -8,23 +8,23 @@ use Rattle.call_claims.specs.Call.{Call, call_of}
 use Rattle.call_claims.specs.Decided.{IsDecided}
 use Rattle.call_claims.specs.Execution.{HasNoCounts}
 use Rattle.call_claims.specs.Command.{Asked, IsExec}
-use Rattle.listing_code.specs.of_exec_claims.Answer.{HasCounts, IsReadFor, Runs, TakesPrinted}
-use Rattle.listing_code.specs.of_exec_claims.Cause.{Cause, CodeCause}
-use Rattle.listing_code.specs.of_exec_claims.Cause.CodeCause.{fails as check_fails, passes as check_passes}
-use Rattle.listing_code.specs.of_exec_claims.Cause.Cause.{exec}
-use Rattle.listing_code.specs.of_exec_claims.Cause.ListingCause.{listed}
-use Rattle.listing_code.specs.of_exec_claims.Cause.TextCause.{work as of_text}
-use Rattle.listing_code.specs.of_call_answers.Answers.{status_of, told_of}
-use Rattle.listing_code.specs.of_call_answers.Work.{execution_in, no_counts, ran_of}
-use Rattle.listing_code.specs.of_grid_call.Work.{IsCodeWork}
-use Rattle.listing_code.specs.of_grid_call.Work.IsCodeWork.{unordered, ran}
-use Rattle.listing_code.specs.of_call_answers.declared.answers.Answer.{Answer}
-use Rattle.listing_code.specs.of_call_answers.declared.answers.Answer.TheVariants as answer
-use Rattle.listing_code.specs.of_call_answers.declared.work.Work.{Work}
-use Rattle.listing_code.proofs.of_grid_call.WorkLemmas.{none_counted, of_code, run_counted, work_back}
+use Rattle.mean_call.specs.of_exec_claims.Answer.{HasCounts, IsReadFor, Runs, TakesPrinted}
+use Rattle.mean_call.specs.of_exec_claims.Cause.{Cause, CodeCause}
+use Rattle.mean_call.specs.of_exec_claims.Cause.CodeCause.{fails as check_fails, passes as check_passes}
+use Rattle.mean_call.specs.of_exec_claims.Cause.Cause.{exec}
+use Rattle.mean_call.specs.of_exec_claims.Cause.ListingCause.{listed}
+use Rattle.mean_call.specs.of_exec_claims.Cause.TextCause.{work as of_text}
+use Rattle.mean_call.specs.Answers.{status_of, told_of}
+use Rattle.mean_call.specs.AnswerWork.{execution_in, no_counts, ran_of}
+use Rattle.exec_call.specs.CodeWork.{IsCodeWork}
+use Rattle.exec_call.specs.CodeWork.IsCodeWork.{unordered, ran}
+use Rattle.mean_call.specs.declared.answers.Answer.{Answer}
+use Rattle.mean_call.specs.declared.answers.Answer.TheVariants as answer
+use Rattle.mean_call.specs.declared.work.Work.{Work}
+use Rattle.exec_call.proofs.CodeWorkLemmas.{none_counted, of_code, run_counted, work_back}
 use Rattle.exec_call.specs.Call.{IsOutputCut}
-use Rattle.listing_code.specs.Code.{IsFailed}
-use Rattle.listing_code.proofs.CodeLemmas.{failed_caused, failed_not_put, with_work}
+use Rattle.exec_call.specs.Code.{IsFailed}
+use Rattle.exec_call.proofs.CodeLemmas.{failed_caused, failed_not_put, with_work}
 use Rattle.exec_call.specs.Work.{IsListedWork, IsWorkOn}
 use Rattle.exec_call.specs.Work.IsListedWork.{fails, passes}
 use Rattle.exec_call.specs.Work.IsWorkOn.{unread, read}

@@ -15,14 +15,14 @@ use Rattle.call_claims.specs.declared.status.TheConstants.{DONE, TOO_LONG, TRAPP
 use Rattle.call_claims.specs.declared.status.TheConstants.{TURN_LIMIT, PUT_FAILED}
 use Rattle.call_claims.specs.Command.{Asked, IsExec}
 use Rattle.call_claims.specs.Stream.{Stream}
-use Rattle.listing_code.specs.of_exec_claims.Answer.{IsReadFor, Runs, TakesPrinted}
-use Rattle.listing_code.specs.of_exec_claims.Cause.{Execs}
-use Rattle.listing_code.specs.of_exec_claims.Decided.{ExecsBadOrder, ExecsChecked, ExecsNoListing}
-use Rattle.listing_code.specs.of_exec_claims.Decided.{ExecsTooLong, IsTooLarge, IsUnsound}
-use Rattle.listing_code.specs.of_exec_claims.Whole.{CanExecute, HasExecuted}
-use Rattle.listing_code.specs.of_exec_claims.Decided.{IsDoneAt, IsStuckOrIdleAt, IsTrapAt, RunsTo}
-use Rattle.listing_code.specs.of_exec_claims.declared.status.TheConstants.{CHECK_LIMIT, LISTING_REFUSED}
-use Rattle.listing_code.specs.of_exec_claims.declared.status.TheConstants.{ORDER_REFUSED, STUCK, UNSOUND}
+use Rattle.mean_call.specs.of_exec_claims.Answer.{IsReadFor, Runs, TakesPrinted}
+use Rattle.mean_call.specs.of_exec_claims.Cause.{Execs}
+use Rattle.mean_call.specs.of_exec_claims.Decided.{ExecsBadOrder, ExecsChecked, ExecsNoListing}
+use Rattle.mean_call.specs.of_exec_claims.Decided.{ExecsTooLong, IsTooLarge, IsUnsound}
+use Rattle.mean_call.specs.of_exec_claims.Whole.{CanExecute, HasExecuted}
+use Rattle.mean_call.specs.of_exec_claims.Decided.{IsDoneAt, IsStuckOrIdleAt, IsTrapAt, RunsTo}
+use Rattle.mean_call.specs.of_exec_claims.declared.status.TheConstants.{CHECK_LIMIT, LISTING_REFUSED}
+use Rattle.mean_call.specs.of_exec_claims.declared.status.TheConstants.{ORDER_REFUSED, STUCK, UNSOUND}
 use Rattle.resume_claims.specs.Saving.{Tells}
 
 -- ---- a put that failed

@@ -16,19 +16,19 @@ use Rattle.call_claims.specs.Stream.{Stream}
 use Rattle.call_claims.specs.declared.status.TheConstants.{PUT_FAILED, TURN_LIMIT}
 use Rattle.grid_runs.specs.Run.{Run, GoesOnTo}
 use Rattle.resume_claims.specs.Saving.{IsSavedAt, SavesRun}
-use Rattle.listing_code.specs.of_exec_claims.Answer.{IsListedIn}
-use Rattle.listing_code.specs.of_exec_claims.Cause.{PassesCheck, run_of}
-use Rattle.listing_code.specs.of_call_answers.Answers.{status_of}
-use Rattle.listing_code.specs.of_grid_call.Work.{HasNoTurns, IsCodeWork, IsOrderOf}
-use Rattle.listing_code.specs.of_call_answers.Work.{execution_in}
-use Rattle.listing_code.specs.of_grid_sim.declared.faults.SimFault.{SimFault}
-use Rattle.listing_code.specs.of_grid_sim.declared.faults.SimFault.TheVariants as fault
-use Rattle.listing_code.specs.Code.{IsFailed, ReadsNone}
+use Rattle.mean_call.specs.of_exec_claims.Answer.{IsListedIn}
+use Rattle.mean_call.specs.of_exec_claims.Cause.{PassesCheck, run_of}
+use Rattle.mean_call.specs.Answers.{status_of}
+use Rattle.exec_call.specs.CodeWork.{HasNoTurns, IsCodeWork, IsOrderOf}
+use Rattle.mean_call.specs.AnswerWork.{execution_in}
+use Rattle.mean_call.specs.of_grid_sim.declared.faults.SimFault.{SimFault}
+use Rattle.mean_call.specs.of_grid_sim.declared.faults.SimFault.TheVariants as fault
+use Rattle.exec_call.specs.Code.{IsFailed, ReadsNone}
 use Rattle.exec_call.specs.declared.telling.Telling.{Telling}
-use Rattle.listing_code.specs.of_call_answers.declared.answers.Stop.TheVariants as stop
-use Rattle.listing_code.specs.of_call_answers.declared.answers.Answer.{Answer}
-use Rattle.listing_code.specs.of_call_answers.declared.answers.Answer.TheVariants as answer
-use Rattle.listing_code.specs.of_call_answers.declared.work.Work.{Work}
+use Rattle.mean_call.specs.declared.answers.Stop.TheVariants as stop
+use Rattle.mean_call.specs.declared.answers.Answer.{Answer}
+use Rattle.mean_call.specs.declared.answers.Answer.TheVariants as answer
+use Rattle.mean_call.specs.declared.work.Work.{Work}
 
 -- ---- the work on listed code
 -- The words ask that the code be sound, and the check of it fails; or it passes, and this came of

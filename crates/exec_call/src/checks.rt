@@ -1,10 +1,10 @@
 //! The check of listed code, where it is asked for.
 ghost use Rattle.std.specs.Prelude.{ℕ, IfErr, IsTrue, OnOk};
-ghost use Rattle.listing_code.specs.of_exec_claims.of_node_check.Sound.{IsChecked};
-ghost use Rattle.listing_code.specs.Code.{IsFailed};
+ghost use Rattle.mean_call.specs.of_exec_claims.of_node_check.Sound.{IsChecked};
+ghost use Rattle.exec_call.specs.Code.{IsFailed};
 
-use listing_code::call_answers::Answer;
-use listing_code::check_code;
+use crate::listing_checks::check_code;
+use mean_call::Answer;
 use node_form::NodeProgram;
 use std::alloc::Global;
 

@@ -4,13 +4,13 @@ ghost use Rattle.zpl_io.specs.Sink.{StopsAtFault};
 ghost use Rattle.call_claims.specs.Answer.{CountsPuts};
 ghost use Rattle.call_claims.specs.Stream.{stream_of};
 ghost use Rattle.call_claims.specs.declared.status.TheConstants.{PUT_FAILED};
-ghost use Rattle.listing_code.specs.of_call_answers.Told.{IsAnswerOf};
-ghost use Rattle.listing_code.specs.of_call_answers.Work.{ran_of};
+ghost use Rattle.mean_call.specs.Told.{IsAnswerOf};
+ghost use Rattle.mean_call.specs.AnswerWork.{ran_of};
 ghost use Rattle.exec_call.specs.Work.{IsTextTold};
 
 use call_claims::Ran;
 use call_claims::status::PUT_FAILED;
-use listing_code::call_answers::{Answer, Work, answered};
+use mean_call::{Answer, Work, answered};
 use std::alloc::Global;
 use zpl_io::{Sink, put_piece};
 

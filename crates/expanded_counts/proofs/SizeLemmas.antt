@@ -5,13 +5,13 @@ use Rattle.std.specs.List.{filter_map, cons_option}
 use Rattle.std.proofs.lemmas.List.Sums.{sum_by-cons}
 use Rattle.std.proofs.lemmas.Option.{slice_get-map}
 use Rattle.zpl_tree.specs.Syntax.{Program}
-use Rattle.routine_walks.specs.of_zpl_names.Accepted.{most_nodes, most_statements}
-use Rattle.routine_walks.specs.of_zpl_names.Declared.{Routine, routine_named, routines_of, entry_of}
-use Rattle.routine_walks.specs.of_zpl_names.Expansion.{expanded, expanded_from, expanded_nodes, expanded_statements, callees}
-use Rattle.routine_walks.specs.of_zpl_names.Reached.{longest_chain}
-use Rattle.routine_walks.specs.of_zpl_names.Shapes.{unknown_shapes}
-use Rattle.routine_walks.specs.of_zpl_names.Sites.{CallSite, calls_under}
-use Rattle.routine_walks.specs.Numbers.{node_of}
+use Rattle.text_walks.specs.of_zpl_names.Accepted.{most_nodes, most_statements}
+use Rattle.text_walks.specs.of_zpl_names.Declared.{Routine, routine_named, routines_of, entry_of}
+use Rattle.text_walks.specs.of_zpl_names.Expansion.{expanded, expanded_from, expanded_nodes, expanded_statements, callees}
+use Rattle.text_walks.specs.of_zpl_names.Reached.{longest_chain}
+use Rattle.text_walks.specs.of_zpl_names.Shapes.{unknown_shapes}
+use Rattle.text_walks.specs.of_zpl_names.Sites.{CallSite, calls_under}
+use Rattle.text_walks.specs.Numbers.{node_of}
 use Rattle.expanded_counts.specs.declared.sizes.Sizes.{Sizes}
 use Rattle.expanded_counts.specs.declared.excess.Excess.{Excess}
 use Rattle.expanded_counts.specs.declared.excess.Excess.TheVariants as excess

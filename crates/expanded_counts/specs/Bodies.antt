@@ -1,12 +1,12 @@
 -- Procedures as they are counted, and what their numbers add up to over calls.
 use Rattle.std.specs.Prelude.{ℕ, zero, suc, List, [], map, fold, Option, Some, None, slice_get}
-use Rattle.routine_walks.specs.of_zpl_names.Counts.{body_count, stmt_nodes}
-use Rattle.routine_walks.specs.of_zpl_names.Declared.{Routine}
-use Rattle.routine_walks.specs.of_zpl_names.Expansion.{expanded}
-use Rattle.routine_walks.specs.of_zpl_names.Shapes.{unknown_shapes}
-use Rattle.routine_walks.specs.of_zpl_names.Sites.{calls_under}
+use Rattle.text_walks.specs.of_zpl_names.Counts.{body_count, stmt_nodes}
+use Rattle.text_walks.specs.of_zpl_names.Declared.{Routine}
+use Rattle.text_walks.specs.of_zpl_names.Expansion.{expanded}
+use Rattle.text_walks.specs.of_zpl_names.Shapes.{unknown_shapes}
+use Rattle.text_walks.specs.of_zpl_names.Sites.{calls_under}
 use Rattle.zpl_tree.specs.Syntax.{Program}
-use Rattle.routine_walks.specs.Numbers.{node_of}
+use Rattle.text_walks.specs.Numbers.{node_of}
 use Rattle.expanded_counts.specs.declared.bodies.Body.{Body}
 use Rattle.expanded_counts.specs.declared.sizes.Sizes.{Sizes}
 use Rattle.expanded_counts.specs.Counts.{capped_sum, more}

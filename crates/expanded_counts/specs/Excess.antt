@@ -1,6 +1,6 @@
 -- What is too much of an expanded program.
 use Rattle.std.specs.Prelude.{◌<◌, ◌≤◌, Option, Some, None}
-use Rattle.routine_walks.specs.of_zpl_names.Accepted.{HasTooManyNodes, HasTooManyStatements, most_nodes, most_statements}
+use Rattle.text_walks.specs.of_zpl_names.Accepted.{HasTooManyNodes, HasTooManyStatements, most_nodes, most_statements}
 use Rattle.zpl_tree.specs.Syntax.{Program}
 use Rattle.expanded_counts.specs.declared.sizes.Sizes.{Sizes}
 use Rattle.expanded_counts.specs.declared.excess.Excess.{Excess}

@@ -1,19 +1,19 @@
 //! Procedures as they are counted.
 ghost use Rattle.std.specs.Prelude.{◌≡◌, IfOk, map};
 ghost use Rattle.zpl_tree.specs.View.{stmt_of, syntax_of};
-ghost use Rattle.routine_walks.specs.of_zpl_names.Counts.{body_count, stmt_nodes};
-ghost use Rattle.routine_walks.specs.of_zpl_names.Declared.{routines_of};
-ghost use Rattle.routine_walks.specs.of_site_faults.Reach.{call_site_of};
-ghost use Rattle.routine_walks.specs.Numbers.{node_of};
-ghost use Rattle.routine_walks.specs.Texts.{IsText, names_in, routine_of};
+ghost use Rattle.text_walks.specs.of_zpl_names.Counts.{body_count, stmt_nodes};
+ghost use Rattle.text_walks.specs.of_zpl_names.Declared.{routines_of};
+ghost use Rattle.text_walks.specs.of_site_faults.Reach.{call_site_of};
+ghost use Rattle.text_walks.specs.Numbers.{node_of};
+ghost use Rattle.text_walks.specs.Texts.{IsText, names_in, routine_of};
 ghost use Rattle.expanded_counts.specs.Bodies.{body_in, called_numbers, counted, counted_body};
 
 use crate::sizes::Sizes;
 use crate::statements::{count_body, count_nodes};
 use name_kinds::{Current, Shapes};
-use routine_walks::site_faults::{Called, Findings};
-use routine_walks::{Routine, Text, walk_under};
 use std::alloc::{AllocError, Global};
+use text_walks::site_faults::{Called, Findings};
+use text_walks::{Routine, Text, walk_under};
 use zpl_tree::Stmt;
 
 /// A procedure as it is counted.

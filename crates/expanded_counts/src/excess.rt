@@ -1,14 +1,14 @@
 //! Programs that are too large.
 ghost use Rattle.std.specs.Prelude.{IfOk};
 ghost use Rattle.zpl_tree.specs.View.{syntax_of};
-ghost use Rattle.routine_walks.specs.Texts.{IsText};
+ghost use Rattle.text_walks.specs.Texts.{IsText};
 ghost use Rattle.expanded_counts.specs.Excess.{AreTooMany, Exceeds};
 
 use crate::bodies::bodies_of;
 use crate::sizes::Sizes;
 use crate::sums::{size_at, sizes_down};
-use routine_walks::Text;
 use std::alloc::{AllocError, Global};
+use text_walks::Text;
 
 /// The most procedures of a chain of calls.
 const LONGEST_CHAIN: u32 = 32;

@@ -10,5 +10,5 @@ mod sums;
 
 pub use bodies::calls_of;
 pub use excess::{Excess, excess_of};
-pub use routine_walks;
-pub use routine_walks::{zpl_names, zpl_tree};
+pub use text_walks;
+pub use text_walks::{zpl_names, zpl_tree};

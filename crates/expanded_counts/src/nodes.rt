@@ -4,9 +4,9 @@
 ghost use Rattle.std.specs.Prelude.{◌≡◌, map, sum_by};
 ghost use Rattle.zpl_tree.specs.View.{bracket_of, dim_of, dims_of, dir_of, expr_of, exprs_of};
 ghost use Rattle.zpl_tree.specs.View.{inner_of, posts_of, prefix_of};
-ghost use Rattle.routine_walks.specs.of_zpl_names.Counts as counts;
-ghost use Rattle.routine_walks.specs.of_zpl_names.Counts.{dim_nodes, dims_nodes, dir_nodes, expr_nodes};
-ghost use Rattle.routine_walks.specs.of_zpl_names.Counts.{exprs_nodes, inner_nodes, posts_nodes};
+ghost use Rattle.text_walks.specs.of_zpl_names.Counts as counts;
+ghost use Rattle.text_walks.specs.of_zpl_names.Counts.{dim_nodes, dims_nodes, dir_nodes, expr_nodes};
+ghost use Rattle.text_walks.specs.of_zpl_names.Counts.{exprs_nodes, inner_nodes, posts_nodes};
 ghost use Rattle.expanded_counts.specs.Counts.{more};
 
 use zpl_tree::{

@@ -6,7 +6,7 @@ ghost use Rattle.std.specs.Option.{option_map};
 ghost use Rattle.zpl_tree.specs.View.{arms_of, expr_of, head_of, item_of, statement_of, stmt_of};
 ghost use Rattle.zpl_tree.specs.View.{stmts_of};
 ghost use Rattle.zpl_tree.specs.Syntax as plain;
-ghost use Rattle.routine_walks.specs.of_zpl_names.Counts as counts;
+ghost use Rattle.text_walks.specs.of_zpl_names.Counts as counts;
 ghost use Rattle.expanded_counts.specs.Counts.{more};
 
 use crate::nodes::{count_expr, count_exprs, count_prefixes};

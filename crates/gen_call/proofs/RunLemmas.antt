@@ -20,14 +20,14 @@ use Rattle.text_code.specs.of_exec_claims.Cause.RunCause.{done, trap, turn_limit
 use Rattle.text_code.specs.of_list_claims.Cause.{TextFault}
 use Rattle.text_code.specs.of_list_claims.Cause.TextFault.{refused, unbound}
 use Rattle.text_code.specs.of_list_claims.Code.{IsCodeOf}
-use Rattle.grid_call.specs.of_call_answers.Answers.{status_of, told_of}
-use Rattle.grid_call.specs.of_call_answers.Work.{execution_in, no_counts}
-use Rattle.grid_call.specs.of_call_answers.declared.answers.Answer.{Answer}
-use Rattle.grid_call.specs.of_call_answers.declared.answers.Answer.TheVariants as answer
-use Rattle.grid_call.specs.of_call_answers.declared.answers.Stop.TheVariants as stop
-use Rattle.grid_call.specs.of_call_answers.declared.work.Work.{Work}
-use Rattle.grid_call.proofs.of_call_answers.AnswerLemmas.{failed_or}
-use Rattle.grid_call.specs.Work.{IsRunOn}
+use Rattle.exec_call.specs.of_mean_call.Answers.{status_of, told_of}
+use Rattle.exec_call.specs.of_mean_call.AnswerWork.{execution_in, no_counts}
+use Rattle.exec_call.specs.of_mean_call.declared.answers.Answer.{Answer}
+use Rattle.exec_call.specs.of_mean_call.declared.answers.Answer.TheVariants as answer
+use Rattle.exec_call.specs.of_mean_call.declared.answers.Stop.TheVariants as stop
+use Rattle.exec_call.specs.of_mean_call.declared.work.Work.{Work}
+use Rattle.exec_call.proofs.of_mean_call.AnswerLemmas.{failed_or}
+use Rattle.exec_call.specs.CodeWork.{IsRunOn}
 use Rattle.text_code.specs.Refusals.{IsUncoded}
 use Rattle.program_texts.specs.Text.{drawn_program}
 use Rattle.gen_claims.specs.Grids.{NamedGrid, IsNext, line_of_tally}

@@ -15,13 +15,13 @@ use Rattle.text_code.specs.of_exec_claims.Cause.{RunCause}
 use Rattle.text_code.specs.of_exec_claims.Cause.RunCause.{done, trap, turn_limit, stuck, idle}
 use Rattle.text_code.specs.of_list_claims.Cause.{TextFault}
 use Rattle.text_code.specs.of_list_claims.Cause.TextFault.{refused, unbound}
-use Rattle.grid_call.specs.of_call_answers.Answers.{status_of, told_of}
-use Rattle.grid_call.specs.of_call_answers.Told.{IsAnswerOf}
-use Rattle.grid_call.specs.of_call_answers.Work.{execution_in, no_counts, ran_of}
-use Rattle.grid_call.specs.of_call_answers.declared.answers.Answer.{Answer}
-use Rattle.grid_call.specs.of_call_answers.declared.answers.Answer.TheVariants as answer
-use Rattle.grid_call.specs.of_call_answers.declared.answers.Stop.TheVariants as stop
-use Rattle.grid_call.specs.of_call_answers.declared.work.Work.{Work}
+use Rattle.exec_call.specs.of_mean_call.Answers.{status_of, told_of}
+use Rattle.exec_call.specs.of_mean_call.Told.{IsAnswerOf}
+use Rattle.exec_call.specs.of_mean_call.AnswerWork.{execution_in, no_counts, ran_of}
+use Rattle.exec_call.specs.of_mean_call.declared.answers.Answer.{Answer}
+use Rattle.exec_call.specs.of_mean_call.declared.answers.Answer.TheVariants as answer
+use Rattle.exec_call.specs.of_mean_call.declared.answers.Stop.TheVariants as stop
+use Rattle.exec_call.specs.of_mean_call.declared.work.Work.{Work}
 use Rattle.gen_claims.specs.Answer.{AreLines, IsLastRun, IsRunFor, TakesLines, TakesLinesFront}
 use Rattle.gen_claims.specs.Answer.{TellMeant}
 use Rattle.gen_claims.specs.Cause.{Cause, GenCause, Gens}

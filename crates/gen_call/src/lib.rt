@@ -7,7 +7,7 @@ mod lines;
 mod runs;
 
 pub use call::generate;
+pub use exec_call;
 pub use gen_claims::run_claims;
-pub use grid_call;
 pub use text_code;
 pub use text_code::list_claims;

@@ -5,7 +5,7 @@ ghost use Rattle.zpl_io.specs.Sink.{StopsAtFault};
 ghost use Rattle.gen_claims.specs.Grids.{line_of_tally};
 ghost use Rattle.gen_call.specs.Work.{IsLinePut};
 
-use grid_call::call_answers::{Answer, Stop};
+use exec_call::mean_call::{Answer, Stop};
 use itoa::Buffer;
 use std::alloc::{AllocError, Global};
 use zpl_io::{CountSink, PutFailed, Sink, put_piece};

@@ -7,8 +7,8 @@ ghost use Rattle.zpl_text.specs.declared.TheConstants.{MOST_SOURCE};
 ghost use Rattle.code_layout.specs.Room.{HasRoom};
 ghost use Rattle.call_claims.specs.Met.{CanBeMet};
 ghost use Rattle.call_claims.specs.declared.status.TheConstants.{DONE};
-ghost use Rattle.grid_call.specs.of_call_answers.Answers.{status_of};
-ghost use Rattle.call_words.specs.Reading.{asked_in};
+ghost use Rattle.exec_call.specs.of_mean_call.Answers.{status_of};
+ghost use Rattle.call_claims.specs.Reading.{asked_in};
 ghost use Rattle.text_code.specs.of_exec_claims.Cause.{run_of};
 ghost use Rattle.program_texts.specs.Text.{drawn_program};
 ghost use Rattle.gen_claims.specs.Grids.{IsNext, grids, NamedGrid as Claimed};
@@ -16,10 +16,9 @@ ghost use Rattle.gen_call.specs.Work.{AreCounts, IsCame, IsCounted, IsStep, IsTo
 ghost use Rattle.gen_call.specs.Work.{PutsMore, StopsMore, seen};
 
 use crate::lines::put_line;
-use call_claims::status;
-use call_words::{Asked, GenCommand};
-use grid_call::call_answers::{Answer, Work};
-use grid_call::run_round;
+use call_claims::{Asked, GenCommand, status};
+use exec_call::mean_call::{Answer, Work};
+use exec_call::run_round;
 use node_form::NodeProgram;
 use std::alloc::Global;
 use text_code::code_of_text;

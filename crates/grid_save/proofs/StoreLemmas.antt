@@ -10,7 +10,7 @@ use Rattle.zpl_region.specs.declared.regions.Region.{Region}
 use Rattle.zpl_region.specs.Region.{members}
 use Rattle.zpl_arrays.specs.Array.{Array, IsArray, element, has_place}
 use Rattle.zpl_arrays.proofs.ArrayLemmas.{place_of_member, value_at_place}
-use Rattle.node_messages.specs.Reading.{IsRead}
+use Rattle.fold_messages.specs.Reading.{IsRead}
 use Rattle.grid_meaning.specs.Place.{held_value, value_at, values_at, where_held}
 
 -- a tuple of the storage has its value there

@@ -13,10 +13,10 @@ ghost use Rattle.grid_save.specs.Written.{found_lines, kept_line, kept_lines, lo
 ghost use Rattle.grid_save.specs.Written.{slot_line, store_line};
 
 use crate::parts::{kept_line, proc_row, slot_line, store_line, values_are_integers};
+use fold_messages::push_values;
 use grid_links::Words;
 use node_form::{ArrayRow, NodeProgram, Row};
 use node_local::Local;
-use node_messages::push_values;
 use save_lines::{SavedLine, write_line};
 use std::alloc::{AllocError, Global};
 use zpl_region::Region;

@@ -3,8 +3,7 @@ ghost use Rattle.std.specs.Prelude.{◌≡◌, IfOk};
 
 use grid_order::read_order;
 use grid_sim::{Counts, Sim, SimFault};
-use listing_runs::{listed_code_has_room, read_orders_can_be_given};
-use node_text::read_listing;
+use node_text::{listed_code_has_room, read_listing, read_orders_can_be_given};
 use std::alloc::Global;
 use std::process::Abort;
 use std::test::Fail;

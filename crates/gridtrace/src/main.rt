@@ -3,17 +3,17 @@
 #![tactic(auto)]
 
 ghost use Rattle.std.specs.Prelude.{map, string_bytes, IfSome};
-ghost use Rattle.call_words.specs.of_call_claims.Command.{IsExec};
-ghost use Rattle.call_words.specs.Reading.{asked_in};
+ghost use Rattle.call_claims.specs.Command.{IsExec};
+ghost use Rattle.call_claims.specs.Reading.{asked_in};
 ghost use Rattle.trace_call.specs.Call.{IsPlain};
 
-use call_words::{Command, FileCommand, command_of};
+use call_claims::{Command, FileCommand, command_of};
 use std::alloc::AllocError;
 use std::io::ErrorKind;
 use std::process::ExitCode;
 use std::rt::Env;
 use std::{env, io};
-use trace_call::call_answers::{Answer, told};
+use trace_call::mean_call::{Answer, told};
 use trace_call::trace;
 use zpl_io::{DiskFiles, StdSink, put_piece};
 

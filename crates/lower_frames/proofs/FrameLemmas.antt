@@ -22,9 +22,9 @@ use Rattle.zpl_lowering.specs.Program.{zero_row}
 use Rattle.zpl_lowering.specs.Statement as statement
 use Rattle.zpl_lowering.specs.Statement.{Given}
 use Rattle.zpl_lowering.specs.Where.{Next, Stored}
-use Rattle.array_frames.specs.declared.variables.Boxes.{Boxes}
-use Rattle.array_frames.specs.Heads.{Names, names_of}
-use Rattle.array_frames.specs.Variables.{Declared, all_declared, boxes_of, named}
+use Rattle.interpreter_frames.specs.declared.variables.Boxes.{Boxes}
+use Rattle.interpreter_frames.specs.Heads.{Names, names_of}
+use Rattle.interpreter_frames.specs.Variables.{Declared, all_declared, boxes_of, named}
 use Rattle.lower_draft.specs.Drafted.{Drafted, all_pushed, grown, pushed, with_array}
 use Rattle.lower_draft.specs.Drafted.{with_scalars, with_slot}
 use Rattle.lower_draft.proofs.GrowthLemmas.{array_grown, array_slot_grown, both_grown}

@@ -1,3 +1,3 @@
 pub mod FrameLemmas
 pub mod OpeningLemmas
-pub use Rattle.array_frames.proofs as of_array_frames
+pub use Rattle.interpreter_frames.proofs as of_interpreter_frames

@@ -11,7 +11,7 @@ use Rattle.zpl_lowering.specs.Program as plain
 use Rattle.zpl_lowering.specs.Program.{givens_code, locals_code}
 use Rattle.zpl_lowering.specs.Statement as statement
 use Rattle.zpl_lowering.specs.Where.{Next}
-use Rattle.array_places.specs.Things.{IsThing, thing_in}
+use Rattle.interpreter_places.specs.Things.{IsThing, thing_in}
 use Rattle.lower_draft.specs.Drafted.{Drafted, grown}
 use Rattle.lower_places.specs.Numbers.{stored_of}
 use Rattle.lower_frames.specs.declared.frames.Entry.{Entry}

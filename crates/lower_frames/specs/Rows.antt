@@ -6,8 +6,8 @@ use Rattle.zpl_lowering.specs.Program.{Entry, Framed, clear_row, given_code, wit
 use Rattle.zpl_lowering.specs.Program.{zero_row}
 use Rattle.zpl_lowering.specs.Statement.{Given}
 use Rattle.zpl_lowering.specs.Where.{Next}
-use Rattle.array_frames.specs.declared.variables.Boxes.{Boxes}
-use Rattle.array_frames.specs.Variables.{Declared, named}
+use Rattle.interpreter_frames.specs.declared.variables.Boxes.{Boxes}
+use Rattle.interpreter_frames.specs.Variables.{Declared, named}
 
 -- ---- parameters by their names
 abbrev pub named_givens : ℕ → List (List ℕ) → List Given → Framed → Next

@@ -2,12 +2,12 @@
 ghost use Rattle.std.specs.Prelude.{◌≡◌, IfOk};
 ghost use Rattle.zpl_region.specs.Region.{IsRegion};
 ghost use Rattle.zpl_lowering.specs.Program as plain;
-ghost use Rattle.array_frames.specs.Variables.{named};
+ghost use Rattle.interpreter_frames.specs.Variables.{named};
 ghost use Rattle.lower_places.specs.Numbers.{stored_of};
-ghost use Rattle.array_places.specs.Things.{IsThing, thing_in};
+ghost use Rattle.interpreter_places.specs.Things.{IsThing, thing_in};
 ghost use Rattle.lower_frames.specs.Frames.{framed_of, with_thing};
 
-use array_places::{Thing, Things};
+use interpreter_places::{Thing, Things};
 use lower_places::{Numbers, Stored};
 use std::alloc::AllocError;
 use zpl_region::Region;

@@ -1,7 +1,7 @@
 //! Parameters, and what they take.
 ghost use Rattle.std.specs.Prelude.{◌≡◌, ◌∷◌, [], All, IfOk, None, OnOk, map};
 ghost use Rattle.zpl_lowering.specs.Program.{given_code, made_copy};
-ghost use Rattle.array_frames.specs.Variables.{named};
+ghost use Rattle.interpreter_frames.specs.Variables.{named};
 ghost use Rattle.node_form.specs.Expression.{Element, words_of};
 ghost use Rattle.flat_form.specs.Row as row;
 ghost use Rattle.lower_draft.specs.Drafted.{grown};
@@ -11,7 +11,7 @@ ghost use Rattle.lower_frames.specs.Rows.{named_givens};
 ghost use Rattle.lower_frames.specs.Frames.{IsGiven, IsWith, framed_of, given_of};
 
 use crate::frames::Framed;
-use array_places::Thing;
+use interpreter_places::Thing;
 use lower_draft::{Draft, FlatMember, FlatRow};
 use lower_places::Stored;
 use node_form::{ExprOp, ExprRow, Instr};

@@ -6,9 +6,9 @@ mod givens;
 mod locals;
 mod openings;
 
-pub use array_frames;
 pub use frames::{Entry, Framed};
 pub use givens::Given;
+pub use interpreter_frames;
 pub use locals::enter;
 pub use lower_places;
 pub use openings::{Opening, open};

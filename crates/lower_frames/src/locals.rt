@@ -3,8 +3,8 @@ ghost use Rattle.std.specs.Prelude.{◌≡◌, [], All, IfOk, OnOk, Some, None, 
 ghost use Rattle.zpl_region.specs.Region.{IsRegion};
 ghost use Rattle.zpl_names.specs.Declared.{Routine};
 ghost use Rattle.zpl_meaning.specs.Context.{Setup};
-ghost use Rattle.array_frames.specs.Heads.{IsHead, names_in, names_of};
-ghost use Rattle.array_frames.specs.Variables.{HasBoxes, named, variable_in};
+ghost use Rattle.interpreter_frames.specs.Heads.{IsHead, names_in, names_of};
+ghost use Rattle.interpreter_frames.specs.Variables.{HasBoxes, named, variable_in};
 ghost use Rattle.zpl_lowering.specs.Program.{clear_row, zero_row};
 ghost use Rattle.lower_draft.specs.Drafted.{all_pushed};
 ghost use Rattle.lower_frames.specs.Rows.{all_declared_code, declared_code};
@@ -13,8 +13,8 @@ ghost use Rattle.lower_frames.specs.Frames.{given_of};
 
 use crate::frames::{Entry, Framed};
 use crate::givens::{Given, with_givens};
-use array_frames::{Boxes, Head, Variable};
-use array_places::Things;
+use interpreter_frames::{Boxes, Head, Variable};
+use interpreter_places::Things;
 use lower_draft::{Draft, FlatRow};
 use lower_places::{Numbers, Stored};
 use node_form::{ExprOp, ExprRow, Instr};

@@ -10,7 +10,7 @@ use Rattle.expanded_counts.specs.of_zpl_names.Expansion.{expanded, expanded_from
 use Rattle.expanded_counts.specs.of_zpl_names.Reached.{longest_chain}
 use Rattle.expanded_counts.specs.of_zpl_names.Shapes.{unknown_shapes}
 use Rattle.expanded_counts.specs.of_zpl_names.Sites.{CallSite, calls_under}
-use Rattle.expanded_counts.specs.of_routine_walks.Numbers.{node_of}
+use Rattle.expanded_counts.specs.of_text_walks.Numbers.{node_of}
 use Rattle.lower_numbers.specs.declared.counts.Counts.{Counts}
 use Rattle.expanded_counts.specs.Counts.{capped_sum, more}
 use Rattle.lower_numbers.specs.Bodies.{Counted, no_counts, plus, counts_or, counted, counted_body, summed, sums_down, expanded_counts, expanded_down}

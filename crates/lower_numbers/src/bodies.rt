@@ -3,14 +3,14 @@ ghost use Rattle.std.specs.Prelude.{◌≡◌, IfOk, map};
 ghost use Rattle.zpl_tree.specs.View.{procedure_of, syntax_of};
 ghost use Rattle.expanded_counts.specs.of_zpl_names.Declared.{routines_of};
 ghost use Rattle.lower_draft.specs.of_zpl_lowering.Program.{reads_round};
-ghost use Rattle.expanded_counts.specs.of_routine_walks.Texts.{IsText, names_in, routine_of};
+ghost use Rattle.expanded_counts.specs.of_text_walks.Texts.{IsText, names_in, routine_of};
 ghost use Rattle.lower_numbers.specs.Arrays.{procedure_arrays};
 ghost use Rattle.lower_numbers.specs.Bodies.{body_in, counted, counted_body};
 
 use crate::arrays::{count_parameters, count_variables};
 use crate::counts::Counts;
 use expanded_counts::calls_of;
-use expanded_counts::routine_walks::{Routine, Text};
+use expanded_counts::text_walks::{Routine, Text};
 use lower_reads::reads_of;
 use std::alloc::{AllocError, Global};
 use zpl_tree::Procedure;

@@ -14,7 +14,7 @@ use Rattle.zpl_region.specs.Hull.{AreAlike, IsSameKind}
 use Rattle.zpl_region.specs.Region.{IsRegion, components, each, moved}
 use Rattle.zpl_region.proofs.HullLemmas.{no_count}
 use Rattle.zpl_arrays.specs.Around.{copy_shift, dim_rest, each_rest, zeros}
-use Rattle.array_terms.specs.Sound.{IsNear}
+use Rattle.interpreter_store.specs.Sound.{IsNear}
 use Rattle.lower_regions.specs.of_zpl_lowering.Lowered.{Lowered, rows_alone}
 use Rattle.lower_regions.specs.of_zpl_lowering.Slate.{border_slots, is_moving}
 

@@ -8,5 +8,5 @@ pub mod SettleLemmas
 pub mod SlateLemmas
 pub mod VectorLemmas
 pub mod WrapLemmas
-pub use Rattle.array_settling.proofs.of_array_regions as of_array_regions
+pub use Rattle.interpreter_settling.proofs.of_interpreter_regions as of_interpreter_regions
 pub use Rattle.lower_regions.proofs.of_lower_draft as of_lower_draft

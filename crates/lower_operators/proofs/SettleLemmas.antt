@@ -9,7 +9,7 @@ use Rattle.zpl_meaning.specs.Store.{Thing}
 use Rattle.lower_regions.specs.of_zpl_lowering.Where.{Where, Next, Slotted}
 use Rattle.lower_regions.specs.of_zpl_lowering.Slate.{Settled, Slates, NoSlate, ThenSlate, remap_slate, settled, settled_all, settled_each, then_settled}
 use Rattle.lower_regions.specs.of_zpl_lowering.Slate as settle
-use Rattle.array_settling.specs.Fit.{AreFit}
+use Rattle.interpreter_settling.specs.Fit.{AreFit}
 use Rattle.lower_regions.specs.of_lower_draft.Drafted.{Drafted, grown}
 use Rattle.lower_operators.specs.declared.slates.Slate.{Slate}
 use Rattle.lower_operators.specs.declared.phasing.Placed.{Placed}

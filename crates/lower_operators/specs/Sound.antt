@@ -3,8 +3,8 @@
 use Rattle.std.specs.Prelude.{List, All}
 use Rattle.zpl_tree.specs.View.{expr_of}
 use Rattle.lower_regions.specs.of_zpl_lowering.Slate.{Slate, Constant, Variable, Coordinate, Element, Wrapped, Unary, Binary, Folded, PartFolded, Scanned, Flooded, Remapped, Slates, NoSlate, ThenSlate}
-use Rattle.array_terms.specs.Sound.{IsNear}
-use Rattle.array_settling.specs.Fit.{IsFit}
+use Rattle.interpreter_store.specs.Sound.{IsNear}
+use Rattle.interpreter_settling.specs.Fit.{IsFit}
 use Rattle.lower_operators.specs.declared.phasing.Placed.{Placed}
 
 abbrev pub AreFitPlaced : List Placed → Type 0

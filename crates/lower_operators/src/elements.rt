@@ -3,7 +3,7 @@ ghost use Rattle.std.specs.Prelude.{◌≡◌, ◌++◌, OnOk, slice_get};
 ghost use Rattle.std.specs.Option.{option_map};
 ghost use Rattle.node_form.specs.Expression.{words_of};
 ghost use Rattle.lower_regions.specs.of_zpl_lowering.Hoist as plain;
-ghost use Rattle.array_terms.specs.Sound.{IsNear};
+ghost use Rattle.interpreter_store.specs.Sound.{IsNear};
 ghost use Rattle.lower_regions.specs.of_lower_draft.Drafted.{grown};
 ghost use Rattle.lower_regions.specs.of_lower_places.Numbers.{stored_of};
 ghost use Rattle.lower_operators.specs.Code.{of_hoisted};

@@ -18,7 +18,7 @@ mod vectors;
 mod words;
 mod wrapping;
 
-pub use array_places;
+pub use interpreter_places;
 pub use lower_regions;
 pub use lower_regions::{lower_draft, lower_places};
 pub use phasing::{Placed, elementwise, phases};

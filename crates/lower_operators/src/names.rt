@@ -3,14 +3,14 @@
 ghost use Rattle.std.specs.Prelude.{◌≡◌};
 ghost use Rattle.std.specs.Option.{option_map};
 ghost use Rattle.lower_regions.specs.of_zpl_lowering.Slate as plain;
-ghost use Rattle.array_places.specs.Things.{thing_in};
-ghost use Rattle.array_terms.specs.Sound.{IsNear};
+ghost use Rattle.interpreter_places.specs.Things.{thing_in};
+ghost use Rattle.interpreter_store.specs.Sound.{IsNear};
 ghost use Rattle.lower_regions.specs.of_lower_places.View.{slotted_of};
 ghost use Rattle.lower_operators.specs.Sound.{AreSound, IsSound};
 ghost use Rattle.lower_operators.specs.View.{slate_of, slates_of};
 
 use crate::slates::{Slate, Slates};
-use array_places::Thing;
+use interpreter_places::Thing;
 use lower_regions::lower_places::Slotted;
 use zpl_region::Vec3;
 

@@ -7,7 +7,7 @@ ghost use Rattle.lower_regions.specs.of_zpl_lowering.Lowered.{phased_with, rows_
 ghost use Rattle.lower_regions.specs.of_zpl_lowering.Reference.{all_conforming, all_referred, each_once, needs};
 ghost use Rattle.lower_regions.specs.of_zpl_lowering.Slate as plain;
 ghost use Rattle.lower_regions.specs.of_zpl_lowering.Statement.{elementwise};
-ghost use Rattle.array_settling.specs.Fit.{IsFit};
+ghost use Rattle.interpreter_settling.specs.Fit.{IsFit};
 ghost use Rattle.lower_regions.specs.of_lower_draft.Drafted.{grown};
 ghost use Rattle.lower_regions.specs.of_lower_places.Sound.{IsPlace};
 ghost use Rattle.lower_regions.specs.of_lower_places.View.{where_of};

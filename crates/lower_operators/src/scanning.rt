@@ -11,7 +11,7 @@ ghost use Rattle.lower_operators.specs.Code.{Hoists, Leaves, owning};
 
 use crate::rows::{add_room, keep, push_plain};
 use crate::words::{mask_row, put};
-use array_terms::Mask;
+use interpreter_store::Mask;
 use lower_regions::lower_draft::{Draft, FlatMember, FlatRow};
 use lower_regions::lower_places::{Numbers, Slotted};
 use node_form::{ExprOp, ExprRow, Instr};

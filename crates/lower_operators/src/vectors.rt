@@ -1,7 +1,7 @@
 //! Shifts.
 ghost use Rattle.std.specs.Prelude.{◌≡◌};
 ghost use Rattle.lower_regions.specs.of_zpl_lowering.Reference as plain;
-ghost use Rattle.array_terms.specs.Sound.{IsNear};
+ghost use Rattle.interpreter_store.specs.Sound.{IsNear};
 
 use zpl_region::{Dim, Region, Vec3};
 

@@ -4,10 +4,10 @@ ghost use Rattle.std.specs.Option.{option_map};
 ghost use Rattle.node_form.specs.Expression.{Expression, words_of};
 ghost use Rattle.lower_regions.specs.of_zpl_lowering.Hoist as plain;
 ghost use Rattle.lower_regions.specs.of_zpl_lowering.Words.{variable_code};
-ghost use Rattle.array_terms.specs.View.{mask_of};
+ghost use Rattle.interpreter_store.specs.View.{mask_of};
 ghost use Rattle.lower_regions.specs.of_lower_places.Numbers.{stored_of};
 
-use array_terms::Mask;
+use interpreter_store::Mask;
 use lower_regions::lower_places::{Numbers, Stored};
 use node_form::{ExprOp, ExprRow};
 use std::alloc::{AllocError, Global};

@@ -2,8 +2,8 @@
 -- found right.
 use Rattle.std.specs.Prelude.{◌≡◌}
 use Rattle.zpl_bind.specs.Known.{known_in}
-use Rattle.array_places.specs.Sound.{IsRanked}
-use Rattle.array_places.specs.declared.places.Setup.{Setup}
+use Rattle.interpreter_places.specs.Sound.{IsRanked}
+use Rattle.interpreter_places.specs.declared.places.Setup.{Setup}
 use Rattle.lower_places.specs.RegionSlots.{region_names}
 use Rattle.lower_places.specs.declared.index.Index.{Index}
 use Rattle.lower_places.specs.declared.places.Place.{Place}

@@ -2,8 +2,8 @@
 use Rattle.std.specs.Option.{option_map}
 use Rattle.lower_draft.specs.of_zpl_lowering.Where as plain
 use Rattle.name_kinds.specs.Reach.{scope_of}
-use Rattle.array_terms.specs.View.{mask_of}
-use Rattle.array_places.specs.View.{environment_of, setup_of}
+use Rattle.interpreter_store.specs.View.{mask_of}
+use Rattle.interpreter_places.specs.View.{environment_of, setup_of}
 use Rattle.lower_places.specs.declared.slots.Slotted.{Slotted}
 use Rattle.lower_places.specs.declared.slots.SlotCurrents.{SlotCurrents}
 use Rattle.lower_places.specs.declared.slots.SlotEdge.{SlotEdge}

@@ -4,7 +4,7 @@ ghost use Rattle.zpl_text.specs.declared.TheConstants.{MOST_SOURCE};
 
 use crate::lines::Lines;
 use crate::region_slots::RegionSlots;
-use array_places::Setup;
+use interpreter_places::Setup;
 use std::alloc::{AllocError, Global};
 
 /// The lines of a program's text, and the slots of its declared regions. It is made once.

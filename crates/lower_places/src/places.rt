@@ -8,14 +8,14 @@ ghost use Rattle.zpl_tree.specs.View.{expr_of, name_of};
 ghost use Rattle.zpl_meaning.specs.Store.{thing_of};
 ghost use Rattle.lower_draft.specs.of_zpl_lowering.Where as plain;
 ghost use Rattle.lower_draft.specs.of_zpl_lowering.Slate as slate;
-ghost use Rattle.array_places.specs.Things.{thing_in};
+ghost use Rattle.interpreter_places.specs.Things.{thing_in};
 ghost use Rattle.lower_places.specs.Sound.{IsPlace};
 ghost use Rattle.lower_places.specs.View.{slotted_of, where_of};
 
 use crate::index::Index;
 use crate::numbers::Numbers;
 use crate::slots::{SlotCurrents, SlotEdge, Slotted};
-use array_places::{Environment, Setup, Thing, rank_of};
+use interpreter_places::{Environment, Setup, Thing, rank_of};
 use name_kinds::{Kind, Rank, Scope, array_rank, is_scalar};
 use zpl_tree::{Expr, Name};
 

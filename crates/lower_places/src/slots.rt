@@ -4,7 +4,7 @@ ghost use Rattle.std.specs.Option.{option_map};
 ghost use Rattle.lower_draft.specs.of_zpl_lowering.Where as plain;
 ghost use Rattle.lower_places.specs.View.{currents_of, slotted_of};
 
-use array_terms::Mask;
+use interpreter_store::Mask;
 use lower_draft::Flood;
 use name_kinds::Rank;
 use zpl_region::Vec3;

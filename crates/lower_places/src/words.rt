@@ -4,12 +4,12 @@ ghost use Rattle.std.specs.Option.{option_map};
 ghost use Rattle.zpl_tree.specs.View.{expr_of};
 ghost use Rattle.node_form.specs.Expression.{words_of};
 ghost use Rattle.lower_draft.specs.of_zpl_lowering.Words.{scalar_code, thing_code, variable_code};
-ghost use Rattle.array_places.specs.Things.{thing_in};
+ghost use Rattle.interpreter_places.specs.Things.{thing_in};
 ghost use Rattle.lower_places.specs.View.{where_of};
 
 use crate::numbers::Numbers;
 use crate::places::Place;
-use array_places::Thing;
+use interpreter_places::Thing;
 use node_form::ExprOp;
 use std::alloc::AllocError;
 use zpl_tree::{Expr, ExprForm};

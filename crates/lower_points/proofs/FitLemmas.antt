@@ -5,7 +5,7 @@ use Rattle.zpl_tree.specs.View.{arm_of, arms_of, expr_of, stmt_of, stmts_of}
 use Rattle.zpl_tree.specs.declared.statements.Arm.{Arm, out-Arm}
 use Rattle.zpl_tree.specs.declared.statements.Stmt.{Stmt}
 use Rattle.zpl_tree.proofs.Views.{arm_of-parts}
-use Rattle.lower_operators.specs.of_array_settling.Fit.{IsFit}
+use Rattle.lower_operators.specs.of_interpreter_settling.Fit.{IsFit}
 use Rattle.lower_points.specs.Fit.{AreFitArms, AreFitStmts, IsFitArm, IsFitStmt}
 
 pub fit_first : (stmts : List Stmt) (i : ℕ) (d : Stmt) → i < length stmts →

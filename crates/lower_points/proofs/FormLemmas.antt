@@ -11,7 +11,7 @@ use Rattle.zpl_tree.specs.declared.statements.Stmt.{Stmt}
 use Rattle.zpl_tree.specs.declared.statements.ForHead.{ForHead}
 use Rattle.zpl_tree.proofs.Views.{statement_of-Block, statement_of-Choice, statement_of-For, statement_of-Repeat, statement_of-While}
 use Rattle.lower_points.specs.Fit.{AreFitArms, AreFitStmts, IsFitElse, IsFitForm, IsFitHead}
-use Rattle.lower_operators.specs.of_array_settling.Fit.{IsFit}
+use Rattle.lower_operators.specs.of_interpreter_settling.Fit.{IsFit}
 
 pub block_is : (one : Form) (body : Bor (List Stmt)) → one ≡ form.Block body →
     statement_of one ≡ plain.Block (stmts_of body.now)

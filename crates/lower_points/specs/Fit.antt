@@ -3,8 +3,8 @@
 use Rattle.std.specs.Prelude.{List, [], ◌∷◌}
 use Rattle.zpl_tree.specs.Syntax.{Expr, Call, Exprs, NoExpr, Prefix, ForHead, Item, Str, Value, Stmt, Prefixed, Stmts, NoStmt, ThenStmt, Form, Assign, Invoke, Block, If, While, Repeat, For, Border, Write, Return, Arm, Tested, Arms, NoArm, ThenArm, Otherwise, NoElse, Else}
 use Rattle.zpl_meaning.specs.Statement.{step_expr}
-use Rattle.lower_operators.specs.of_array_regions.Fit.{IsFitInner}
-use Rattle.lower_operators.specs.of_array_settling.Fit.{IsFit, AreFit}
+use Rattle.lower_operators.specs.of_interpreter_regions.Fit.{IsFitInner}
+use Rattle.lower_operators.specs.of_interpreter_settling.Fit.{IsFit, AreFit}
 
 abbrev pub AreFitPrefixes : List Prefix → Type 0
 AreFitPrefixes [] = Unit {0}

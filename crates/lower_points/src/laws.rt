@@ -9,7 +9,7 @@ ghost use Rattle.zpl_tree.specs.declared.statements.ForHead.{ForHead};
 ghost use Rattle.zpl_tree.specs.declared.statements.Form.{Form};
 ghost use Rattle.zpl_tree.specs.declared.statements.Form.TheVariants as form;
 ghost use Rattle.zpl_tree.specs.declared.statements.Stmt.{Stmt};
-ghost use Rattle.lower_operators.specs.of_array_settling.Fit.{IsFit};
+ghost use Rattle.lower_operators.specs.of_interpreter_settling.Fit.{IsFit};
 ghost use Rattle.lower_points.specs.Fit.{AreFitArms, AreFitStmts, IsFitElse, IsFitForm};
 ghost use Rattle.lower_points.specs.Fit.{IsFitHead, IsFitStmt};
 

@@ -11,7 +11,7 @@ mod shattered;
 
 pub use laws::parts_of_fit_statements_are_fit;
 pub use lower_operators;
-pub use lower_operators::{array_places, lower_places, lower_regions};
+pub use lower_operators::{interpreter_places, lower_places, lower_regions};
 pub use masks::mask_words;
 pub use ranks::tests_rank;
 pub use shattered::lower_shattered;

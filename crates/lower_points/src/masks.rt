@@ -2,9 +2,9 @@
 ghost use Rattle.std.specs.Prelude.{◌≡◌, IfOk};
 ghost use Rattle.std.specs.Option.{option_map};
 ghost use Rattle.zpl_lowering.specs.Hoist.{mask_code};
-ghost use Rattle.array_terms.specs.View.{mask_of};
+ghost use Rattle.interpreter_store.specs.View.{mask_of};
 
-use array_terms::Mask;
+use interpreter_store::Mask;
 use lower_operators::lower_places::Numbers;
 use node_form::{ExprOp, ExprRow};
 use std::alloc::{AllocError, Global};

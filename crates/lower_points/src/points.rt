@@ -6,7 +6,7 @@ ghost use Rattle.zpl_tree.specs.View.{stmts_of};
 ghost use Rattle.zpl_meaning.specs.Points.{assigned_expr};
 ghost use Rattle.zpl_meaning.specs.Store.{thing_of};
 ghost use Rattle.std.specs.Option.{option_map};
-ghost use Rattle.lower_operators.specs.of_array_settling.Fit.{IsFit};
+ghost use Rattle.lower_operators.specs.of_interpreter_settling.Fit.{IsFit};
 ghost use Rattle.lower_operators.specs.of_lower_places.Sound.{IsPlace};
 ghost use Rattle.lower_operators.specs.of_lower_places.View.{where_of};
 ghost use Rattle.lower_operators.specs.Once.{with_references};
@@ -19,7 +19,7 @@ use crate::laws::{
     parts_of_fit_arms_are_fit, parts_of_fit_statements_are_fit, statements_of_a_fit_else_are_fit,
 };
 use crate::members::{close_if, push};
-use array_places::Thing;
+use interpreter_places::Thing;
 use lower_operators::lower_draft::{Draft, FlatMember};
 use lower_operators::lower_places::{Place, Stored};
 use lower_operators::{Reference, References, elementwise};

@@ -2,11 +2,11 @@
 ghost use Rattle.std.specs.Prelude.{◌≡◌, IfOk, map};
 ghost use Rattle.zpl_lowering.specs.of_zpl_tree.View.{syntax_of};
 ghost use Rattle.zpl_lowering.specs.Program.{reads_round};
-ghost use Rattle.routine_walks.specs.Texts.{routine_of};
+ghost use Rattle.text_walks.specs.Texts.{routine_of};
 
 use crate::statements::count_stmt;
-use routine_walks::{Routine, Text};
 use std::alloc::{AllocError, Global};
+use text_walks::{Routine, Text};
 
 /// How many reads that wrap round stand in the text of a procedure.
 pub fn reads_of(text: &Text<'_>, routine: &Routine<'_>) -> Result<u32, AllocError>

@@ -16,7 +16,7 @@ use Rattle.zpl_meaning.specs.Regions.{computed_of, current_for, name_in, region_
 use Rattle.zpl_meaning.specs.Store.{Store}
 use Rattle.lower_places.specs.of_zpl_lowering.Where.{Where}
 use Rattle.lower_places.specs.of_zpl_lowering.Bracket.{constant_name, constant_region, within}
-use Rattle.array_stops.specs.Answer.{Computes}
+use Rattle.interpreter_store.specs.Answer.{Computes}
 
 -- ---- a value, or a fault
 

@@ -7,7 +7,7 @@ ghost use Rattle.zpl_tree.specs.Syntax.{NamedRegion, Rexpr as Expression};
 ghost use Rattle.zpl_tree.specs.View.{inner_of, name_of, posts_of, pre_of, rexpr_of};
 ghost use Rattle.lower_places.specs.of_zpl_lowering.Bracket as plain;
 ghost use Rattle.lower_places.specs.of_zpl_lowering.Where as slots;
-ghost use Rattle.array_regions.specs.Fit.{IsFitInner};
+ghost use Rattle.interpreter_regions.specs.Fit.{IsFitInner};
 ghost use Rattle.lower_places.specs.Sound.{IsPlace};
 ghost use Rattle.lower_places.specs.View.{slotted_of, where_of};
 ghost use Rattle.lower_regions.specs.Opened.{IsOpened, are_none, fixed_at, has_no, standing_at};

@@ -10,16 +10,16 @@ ghost use Rattle.zpl_tree.specs.Syntax.{Name as PlainName, Named, NamedRegion, N
 ghost use Rattle.zpl_tree.specs.Syntax.{Pre as Before, Rexpr, ThenDim};
 ghost use Rattle.zpl_tree.specs.View.{dim_of, dims_of, expr_of, inner_of, name_of};
 ghost use Rattle.lower_places.specs.of_zpl_lowering.Bracket as plain;
-ghost use Rattle.array_places.specs.Sound.{IsPlace as IsRunPlace};
-ghost use Rattle.array_places.specs.Things.{thing_in};
-ghost use Rattle.array_places.specs.View.{environment_of, place_of};
-ghost use Rattle.array_regions.specs.Fit.{IsFitInner};
+ghost use Rattle.interpreter_places.specs.Sound.{IsPlace as IsRunPlace};
+ghost use Rattle.interpreter_places.specs.Things.{thing_in};
+ghost use Rattle.interpreter_places.specs.View.{environment_of, place_of};
+ghost use Rattle.interpreter_regions.specs.Fit.{IsFitInner};
 ghost use Rattle.lower_places.specs.Sound.{IsPlace};
 ghost use Rattle.lower_places.specs.View.{where_of};
 
-use array_places::{Currents, Environment, Place as RunPlace, Thing};
-use array_regions::region_in;
-use array_store::Store;
+use interpreter_places::{Currents, Environment, Place as RunPlace, Thing};
+use interpreter_regions::region_in;
+use interpreter_store::Store;
 use lower_places::Place;
 use name_kinds::is_index;
 use std::alloc::Global;

@@ -7,7 +7,7 @@ ghost use Rattle.lower_regions.specs.Forms.{form_of, forms_in};
 ghost use Rattle.lower_regions.specs.Opened.{IsOpened, standing_at, with_opened};
 
 use crate::opened::Opened;
-use array_regions::vector_in;
+use interpreter_regions::vector_in;
 use lower_places::lower_draft::{Draft, FlatRow};
 use node_form::{Instr, RegionForm};
 use std::alloc::{AllocError, Global};

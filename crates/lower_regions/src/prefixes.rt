@@ -7,7 +7,7 @@ ghost use Rattle.zpl_tree.specs.Syntax.{Posts, Pre as Before, Rexpr as Expressio
 ghost use Rattle.zpl_tree.specs.View.{base_of, inner_of, mask_of, posts_of, pre_of, prefix_of};
 ghost use Rattle.name_kinds.specs.Reach.{scope_of};
 ghost use Rattle.lower_places.specs.of_zpl_lowering.Statement as plain;
-ghost use Rattle.array_regions.specs.Fit.{IsFitInner};
+ghost use Rattle.interpreter_regions.specs.Fit.{IsFitInner};
 ghost use Rattle.lower_places.specs.Sound.{IsPlace};
 ghost use Rattle.lower_places.specs.View.{edge_of, slotted_of, where_of};
 ghost use Rattle.lower_regions.specs.Opened.{IsOpened, standing_at, with_opened};
@@ -15,7 +15,7 @@ ghost use Rattle.lower_regions.specs.Prefix.{opened_under};
 
 use crate::brackets::{bracket, computed};
 use crate::opened::Opened;
-use array_regions::{mask_in, vector_in};
+use interpreter_regions::{mask_in, vector_in};
 use lower_places::lower_draft::Draft;
 use lower_places::{Place, SlotEdge, Slotted};
 use name_kinds::{Rank, Scope, array_rank, inner_rank};

@@ -6,4 +6,4 @@ pub mod ValueLemmas
 pub mod PrefixLemmas
 pub mod WriteLemmas
 pub mod ItemLemmas
-pub use Rattle.lower_points.proofs.of_array_regions as of_array_regions
+pub use Rattle.lower_points.proofs.of_interpreter_regions as of_interpreter_regions

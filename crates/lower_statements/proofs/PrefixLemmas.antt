@@ -9,7 +9,7 @@ use Rattle.zpl_lowering.specs.Statement.{Calling, Lowering, is_last, lowered_und
 use Rattle.zpl_lowering.specs.Where.{Next, Where}
 use Rattle.lower_draft.specs.Drafted.{Drafted, grown}
 use Rattle.lower_draft.proofs.GrowthLemmas.{both_grown}
-use Rattle.lower_points.specs.of_array_regions.Fit.{IsFitInner}
+use Rattle.lower_points.specs.of_interpreter_regions.Fit.{IsFitInner}
 use Rattle.lower_points.specs.Fit.{AreFitPrefixes}
 use Rattle.lower_points.specs.of_lower_regions.Prefix.{opened_under}
 use Rattle.lower_statements.specs.Prefixes.{in_place}

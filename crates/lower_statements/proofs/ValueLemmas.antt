@@ -15,7 +15,7 @@ use Rattle.flat_form.specs.Row.{Row, with_row, with_rows}
 use Rattle.zpl_lowering.specs.Slate.{Placed}
 use Rattle.zpl_lowering.specs.Statement.{value_exprs}
 use Rattle.zpl_lowering.specs.Where.{Where}
-use Rattle.lower_points.specs.of_array_settling.Fit.{AreFit}
+use Rattle.lower_points.specs.of_interpreter_settling.Fit.{AreFit}
 use Rattle.lower_draft.specs.Drafted.{Drafted, all_pushed, pushed, with_scalars}
 use Rattle.lower_statements.specs.Values.{set_rows}
 

@@ -7,7 +7,7 @@ ghost use Rattle.zpl_meaning.specs.Points.{assigned_expr};
 ghost use Rattle.zpl_meaning.specs.Store.{thing_of};
 ghost use Rattle.zpl_lowering.specs.Statement.{lowered_array, lowered_scalar, lowered_to};
 ghost use Rattle.zpl_lowering.specs.Statement.{placed_in};
-ghost use Rattle.lower_points.specs.of_array_settling.Fit.{IsFit};
+ghost use Rattle.lower_points.specs.of_interpreter_settling.Fit.{IsFit};
 ghost use Rattle.lower_draft.specs.Drafted.{grown};
 ghost use Rattle.lower_points.specs.of_lower_places.Numbers.{stored_of};
 ghost use Rattle.lower_points.specs.of_lower_places.Sound.{IsPlace};
@@ -15,7 +15,7 @@ ghost use Rattle.lower_points.specs.of_lower_places.View.{slotted_of, where_of};
 ghost use Rattle.lower_points.specs.of_lower_operators.View.{placed_of};
 
 use crate::tests::left_of;
-use array_places::{Thing, rank_of};
+use interpreter_places::{Thing, rank_of};
 use lower_draft::{Draft, FlatMember, FlatRow};
 use lower_points::lower_operators::{Placed, over_reference, reference_to};
 use lower_points::lower_places::{Place, Slotted, Stored};

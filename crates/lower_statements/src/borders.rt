@@ -11,7 +11,7 @@ ghost use Rattle.lower_points.specs.of_lower_places.Sound.{IsPlace};
 ghost use Rattle.lower_points.specs.of_lower_places.View.{edge_of, where_of};
 ghost use Rattle.lower_statements.specs.Borders.{each_at, rows_at, thing_at};
 
-use array_places::Thing;
+use interpreter_places::Thing;
 use lower_draft::{Draft, FlatRow};
 use lower_points::lower_places::{Place, SlotEdge, Stored};
 use node_form::{Instr, RegionForm};

@@ -6,14 +6,14 @@ ghost use Rattle.zpl_meaning.specs.Store.{thing_of};
 ghost use Rattle.zpl_lowering.specs.Lowered.{phased, rows_alone};
 ghost use Rattle.zpl_lowering.specs.Statement as plain;
 ghost use Rattle.lower_draft.specs.Drafted.{grown, pushed};
-ghost use Rattle.lower_points.specs.of_array_settling.Fit.{IsFit};
+ghost use Rattle.lower_points.specs.of_interpreter_settling.Fit.{IsFit};
 ghost use Rattle.lower_points.specs.of_lower_places.Sound.{IsPlace};
 ghost use Rattle.lower_points.specs.of_lower_places.View.{where_of};
 ghost use Rattle.lower_points.specs.Fit.{IsFitHead};
 ghost use Rattle.lower_statements.specs.Counters.{begun_at, begun_with, counter_of, limits};
 
 use crate::values::{push_alone, push_values};
-use array_places::Thing;
+use interpreter_places::Thing;
 use lower_draft::{Draft, FlatRow};
 use lower_points::lower_operators::phases;
 use lower_points::lower_places::Place;

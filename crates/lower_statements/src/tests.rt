@@ -3,7 +3,7 @@ ghost use Rattle.std.specs.Prelude.{◌≡◌, [], ◌∷◌, IfOk, OnOk, List, 
 ghost use Rattle.zpl_tree.specs.View.{expr_of};
 ghost use Rattle.node_form.specs.Expression.{Expression, words_of};
 ghost use Rattle.zpl_lowering.specs.Lowered.{first_left, phased_with};
-ghost use Rattle.lower_points.specs.of_array_settling.Fit.{IsFit};
+ghost use Rattle.lower_points.specs.of_interpreter_settling.Fit.{IsFit};
 ghost use Rattle.lower_draft.specs.Drafted.{grown, opened};
 ghost use Rattle.lower_points.specs.of_lower_places.Sound.{IsPlace};
 ghost use Rattle.lower_points.specs.of_lower_places.View.{where_of};

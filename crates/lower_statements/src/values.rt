@@ -4,7 +4,7 @@ ghost use Rattle.zpl_tree.specs.Syntax.{NoExpr, ThenExpr};
 ghost use Rattle.zpl_tree.specs.View.{expr_of, exprs_of};
 ghost use Rattle.zpl_lowering.specs.Statement.{value_exprs};
 ghost use Rattle.name_kinds.specs.Seen.{formal_of};
-ghost use Rattle.lower_points.specs.of_array_settling.Fit.{AreFit, IsFit};
+ghost use Rattle.lower_points.specs.of_interpreter_settling.Fit.{AreFit, IsFit};
 ghost use Rattle.lower_draft.specs.Drafted.{all_pushed, with_scalars};
 ghost use Rattle.lower_points.specs.of_lower_places.Sound.{IsPlace};
 ghost use Rattle.lower_points.specs.of_lower_places.View.{where_of};

@@ -11,15 +11,15 @@ use Rattle.zpl_tree.specs.Syntax.{Program}
 use Rattle.zpl_binding.specs.Settings.{Setting}
 use Rattle.zpl_binding.specs.Bound.{IsAcceptedWith}
 use Rattle.zpl_meaning.specs.Program.{mean_of}
-use Rattle.array_meaning.specs.MeanFault.{MeanFault}
-use Rattle.array_meaning.specs.MeanFault.TheVariants as fault
+use Rattle.array_meaning.specs.declared.faults.MeanFault.{MeanFault}
+use Rattle.array_meaning.specs.declared.faults.MeanFault.TheVariants as fault
 use Rattle.array_meaning.specs.Means.{Means}
-use Rattle.bound_texts.specs.of_call_answers.Answers.{answer_of}
-use Rattle.bound_texts.specs.of_call_answers.declared.answers.Answer.TheVariants as answers
-use Rattle.bound_texts.specs.of_call_answers.declared.refusals.Refusal.{Refusal}
-use Rattle.bound_texts.specs.of_call_answers.declared.refusals.Refusal.TheVariants.{Lex, Parse, Judge, Bind}
-use Rattle.bound_texts.specs.of_call_answers.declared.refusals.Refusal.TheVariants.{NoMemory}
-use Rattle.bound_texts.specs.Refused.{IsRefused, IsTreeless}
+use Rattle.mean_call.specs.Answers.{answer_of}
+use Rattle.mean_call.specs.declared.answers.Answer.TheVariants as answers
+use Rattle.mean_call.specs.declared.refusals.Refusal.{Refusal}
+use Rattle.mean_call.specs.declared.refusals.Refusal.TheVariants.{Lex, Parse, Judge, Bind}
+use Rattle.mean_call.specs.declared.refusals.Refusal.TheVariants.{NoMemory}
+use Rattle.mean_call.specs.Refused.{IsRefused, IsTreeless}
 use Rattle.call_claims.specs.Accepted.{IsAccepted, IsFaulty}
 use Rattle.mean_call.specs.Work.{answer_in, MeansText}
 

@@ -16,18 +16,18 @@ use Rattle.call_claims.specs.Texts.{no_memory_text, settings_text, too_long_text
 use Rattle.call_claims.specs.Texts.{unreadable_text}
 use Rattle.zpl_text.specs.declared.TheConstants.{MOST_SOURCE}
 use Rattle.call_claims.specs.declared.status.TheConstants.{UNREADABLE, TOO_LONG, UNBOUND, TRAPPED, NO_MEMORY}
-use Rattle.bound_texts.specs.of_call_answers.declared.answers.Answer.{Answer}
-use Rattle.bound_texts.specs.of_call_answers.declared.answers.Answer.TheVariants as answer
-use Rattle.bound_texts.specs.of_call_answers.Answers.{status_of, stop_status, stop_text, told_of}
-use Rattle.bound_texts.specs.of_call_answers.Fetched.{IsNoText}
-use Rattle.bound_texts.specs.of_call_answers.declared.answers.Stop.{Stop}
-use Rattle.bound_texts.specs.of_call_answers.declared.answers.Stop.TheVariants as stop
-use Rattle.bound_texts.proofs.of_call_answers.AnswerLemmas.{build_refuses, failed_or}
-use Rattle.bound_texts.specs.of_mean_claims.Answer.{IsEnd, TakesMeaning, TakesOutput, TakesPart}
-use Rattle.bound_texts.specs.of_mean_claims.Cause.{Cause, EndsSo, MeanCause, TextCause}
-use Rattle.bound_texts.specs.of_mean_claims.Cause.Cause.{mean, no_memory}
-use Rattle.bound_texts.specs.of_mean_claims.Cause.TextCause.{refused, unbound, done, trap, turn_limit}
-use Rattle.bound_texts.specs.of_mean_claims.Text.{HasMeaning}
+use Rattle.mean_call.specs.declared.answers.Answer.{Answer}
+use Rattle.mean_call.specs.declared.answers.Answer.TheVariants as answer
+use Rattle.mean_call.specs.Answers.{status_of, stop_status, stop_text, told_of}
+use Rattle.mean_call.specs.Fetched.{IsNoText}
+use Rattle.mean_call.specs.declared.answers.Stop.{Stop}
+use Rattle.mean_call.specs.declared.answers.Stop.TheVariants as stop
+use Rattle.mean_call.proofs.AnswerLemmas.{build_refuses, failed_or}
+use Rattle.mean_claims.specs.Answer.{IsEnd, TakesMeaning, TakesOutput, TakesPart}
+use Rattle.mean_claims.specs.Cause.{Cause, EndsSo, MeanCause, TextCause}
+use Rattle.mean_claims.specs.Cause.Cause.{mean, no_memory}
+use Rattle.mean_claims.specs.Cause.TextCause.{refused, unbound, done, trap, turn_limit}
+use Rattle.mean_claims.specs.Text.{HasMeaning}
 use Rattle.mean_call.specs.Work.{HasMeantText, IsMeanWork, MeansText, StopsText}
 
 -- a status that is none of a meaning

@@ -11,10 +11,10 @@ use Rattle.call_claims.specs.Ended.{IsStatusOf}
 use Rattle.call_claims.specs.Execution.{HasNoCounts}
 use Rattle.call_claims.specs.Stream.{Stream}
 use Rattle.call_claims.specs.declared.status.TheConstants.{PUT_FAILED}
-use Rattle.bound_texts.specs.of_mean_claims.Answer.{IsHalfAnswered, TakesOutput, TakesPart}
-use Rattle.bound_texts.specs.of_mean_claims.Cause.{Cause}
-use Rattle.bound_texts.specs.of_mean_claims.Decided.{IsExact}
-use Rattle.bound_texts.specs.of_mean_claims.Whole.{CanMean, meaning_in}
+use Rattle.mean_claims.specs.Answer.{IsHalfAnswered, TakesOutput, TakesPart}
+use Rattle.mean_claims.specs.Cause.{Cause}
+use Rattle.mean_claims.specs.Decided.{IsExact}
+use Rattle.mean_claims.specs.Whole.{CanMean, meaning_in}
 
 -- The status is that of the end of what the program means, and the sink took just its bytes.
 pub record HasMeant {call : Call} {file : List ℕ} {asked : Asked} (can : CanMean call file asked)

@@ -6,23 +6,23 @@ use Rattle.zpl_io.specs.Sink.{Takes, TakesFront}
 use Rattle.zpl_binding.specs.Outcome.{BindFault}
 use Rattle.zpl_binding.specs.Settings.{Setting}
 use Rattle.zpl_bind.specs.Fault.{fault_name}
-use Rattle.array_meaning.specs.MeanFault.{MeanFault}
-use Rattle.array_meaning.specs.MeanFault.TheVariants as fault
+use Rattle.array_meaning.specs.declared.faults.MeanFault.{MeanFault}
+use Rattle.array_meaning.specs.declared.faults.MeanFault.TheVariants as fault
 use Rattle.array_meaning.specs.Means.{HasMeant}
 use Rattle.call_claims.specs.Call.{Call}
 use Rattle.call_claims.specs.Decided.{IsDecided}
 use Rattle.call_claims.specs.Refusal.{IsFault}
 use Rattle.call_claims.specs.Texts.{bind_name, settings_text}
-use Rattle.bound_texts.specs.of_call_answers.declared.answers.Answer.{Answer}
-use Rattle.bound_texts.specs.of_call_answers.declared.answers.Answer.TheVariants as answer
-use Rattle.bound_texts.specs.of_call_answers.declared.answers.Stop.{Stop}
-use Rattle.bound_texts.specs.of_call_answers.declared.answers.Stop.TheVariants as stop
-use Rattle.bound_texts.specs.of_call_answers.Answers.{status_of, told_of}
-use Rattle.bound_texts.specs.of_call_answers.Refusals.{refusal_text}
-use Rattle.bound_texts.specs.of_mean_claims.Answer.{TakesOutput, TakesPart}
-use Rattle.bound_texts.specs.of_mean_claims.Cause.{Cause}
+use Rattle.mean_call.specs.declared.answers.Answer.{Answer}
+use Rattle.mean_call.specs.declared.answers.Answer.TheVariants as answer
+use Rattle.mean_call.specs.declared.answers.Stop.{Stop}
+use Rattle.mean_call.specs.declared.answers.Stop.TheVariants as stop
+use Rattle.mean_call.specs.Answers.{status_of, told_of}
+use Rattle.mean_call.specs.Refusals.{refusal_text}
+use Rattle.mean_claims.specs.Answer.{TakesOutput, TakesPart}
+use Rattle.mean_claims.specs.Cause.{Cause}
 use Rattle.call_claims.specs.Accepted.{IsFaulty}
-use Rattle.bound_texts.specs.of_mean_claims.Text.{HasMeaning, IsUnboundWith}
+use Rattle.mean_claims.specs.Text.{HasMeaning, IsUnboundWith}
 
 -- the answer of a meaning's end, or of what cut it off
 abbrev pub answer_in : Result End MeanFault → Answer

@@ -6,15 +6,14 @@ ghost use Rattle.call_claims.specs.Call.{call_of};
 ghost use Rattle.call_claims.specs.Command.{IsMean};
 ghost use Rattle.call_claims.specs.Stream.{stream_of};
 ghost use Rattle.call_claims.specs.declared.status.TheConstants.{USAGE};
-ghost use Rattle.call_words.specs.Reading.{asked_in};
-ghost use Rattle.bound_texts.specs.of_call_answers.Stops.{CallStopsAtFault};
+ghost use Rattle.call_claims.specs.Reading.{asked_in};
+ghost use Rattle.mean_call.specs.Stops.{CallStopsAtFault};
 ghost use Rattle.mean_call.specs.Call.{IsMeant};
 
 use crate::files::mean_file;
-use bound_texts::call_answers::{Work, answered};
-use bound_texts::mean_claims::{accepted_programs_are_meant, mean_statuses_are_exact};
-use call_claims::Ran;
-use call_words::FileCommand;
+use crate::work::{Work, answered};
+use call_claims::{FileCommand, Ran};
+use mean_claims::{accepted_programs_are_meant, mean_statuses_are_exact};
 use std::alloc::Global;
 use zpl_io::{Files, Sink};
 

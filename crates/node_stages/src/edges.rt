@@ -7,7 +7,7 @@ ghost use Rattle.grid_meaning.specs.State.{IsSlot};
 ghost use Rattle.grid_meaning.specs.Stored.{arrangement_of};
 ghost use Rattle.node_stages.specs.Partners.{exchanging, taking};
 ghost use Rattle.node_stages.specs.Place.{IsNth};
-ghost use Rattle.reach_plan.specs.Reach.{IsReach, LiesInReach};
+ghost use Rattle.move_plan.specs.Reach.{IsReach, LiesInReach};
 ghost use Rattle.node_stages.specs.Slots.{at_slots};
 ghost use Rattle.node_stages.specs.Stage.{staged};
 ghost use Rattle.reduce_plan.specs.of_zpl_region.Dim.{IsUpTo};
@@ -17,8 +17,7 @@ use crate::partners::Place;
 use crate::stages::Stage;
 use grid_meaning::grid_layout::Layout;
 use grid_meaning::node_form::NodeProgram;
-use reach_plan::move_plan::{border_piece, border_pieces_go_by_sources};
-use reach_plan::{Reach, sources_for, targets_of};
+use move_plan::{Reach, border_piece, border_pieces_go_by_sources, sources_for, targets_of};
 use reduce_plan::zpl_nums::Border;
 use reduce_plan::zpl_region::{Region, Vec3};
 

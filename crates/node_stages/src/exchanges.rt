@@ -9,7 +9,7 @@ ghost use Rattle.grid_meaning.specs.State.{IsSlot};
 ghost use Rattle.grid_meaning.specs.Stored.{arrangement_of};
 ghost use Rattle.node_stages.specs.Known.{AreRoutes};
 ghost use Rattle.node_stages.specs.Partners.{receivers_from, sending, senders_to, taking};
-ghost use Rattle.reach_plan.specs.Reach.{IsReach, LiesInReach};
+ghost use Rattle.move_plan.specs.Reach.{IsReach, LiesInReach};
 ghost use Rattle.node_stages.specs.Slots.{at_slots};
 ghost use Rattle.node_stages.specs.Stage.{staged};
 
@@ -20,7 +20,7 @@ use crate::partners::Place;
 use crate::stages::Stage;
 use grid_meaning::grid_layout::Layout;
 use grid_meaning::node_form::{Item, NodeProgram};
-use reach_plan::{Reach, needers_of, owners_for};
+use move_plan::{Reach, needers_of, owners_for};
 use reduce_plan::zpl_region::Region;
 
 /// The places of an item that one processor owns and another needs, where these regions are in the

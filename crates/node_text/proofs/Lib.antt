@@ -7,3 +7,4 @@ pub mod Shorter
 pub mod TypedRows
 pub mod TypedTables
 pub mod Written
+pub mod RoomLemmas

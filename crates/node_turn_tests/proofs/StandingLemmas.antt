@@ -14,7 +14,7 @@ use Rattle.node_form.specs.declared.arrays.ArrayRow.{ArrayRow}
 use Rattle.node_form.specs.declared.tables.Tables.{Tables}
 use Rattle.grid_meaning.specs.Place.{held_value, values_at, where_held}
 use Rattle.grid_meaning.specs.State.{IsStore}
-use Rattle.node_messages.specs.Reading.{IsRead}
+use Rattle.fold_messages.specs.Reading.{IsRead}
 
 -- ---- values at places
 read_then : (a : Array) (t : List ℤ) (ts : List (List ℤ)) (words : List ℤ) (b : Bool) (found : Option (List ℤ))

@@ -8,10 +8,10 @@ ghost use Rattle.grid_meaning.specs.Stored.{arrangement_of};
 ghost use Rattle.node_local.specs.Standing.{array_in, entry_of, standing_local};
 ghost use Rattle.node_local.specs.Workplace.{IsReady};
 
+use fold_messages::push_values;
 use grid_layout::Layout;
 use grid_links::Words;
 use node_form::NodeProgram;
-use node_messages::push_values;
 use node_turn::{Kept, KeptWords, Local, Slots, Standing, Store, Stores};
 use std::alloc::{AllocError, Global};
 use zpl_region::{Dim, Region};

@@ -2,15 +2,15 @@
 use Rattle.std.proofs.Common.{◌≡◌, ℕ, List, Vec, sym, subst}
 use Rattle.std.specs.declared.alloc.Global.{Global}
 use Rattle.zpl_tree.specs.View.{syntax_of}
-use Rattle.call_heights.specs.Calls.{IsDeep, IsShallow, edges_at}
-use Rattle.call_heights.specs.Refutes.{Refutes}
-use Rattle.call_heights.specs.declared.graph.CallFault.{CallFault}
-use Rattle.call_heights.specs.declared.graph.CallFault.TheVariants.{Cycle, Deep, NoMemory}
-use Rattle.call_heights.specs.declared.graph.Edge.{Edge}
-use Rattle.text_routines.specs.of_routine_walks.Numbers.{node_of}
-use Rattle.text_routines.specs.of_routine_walks.Texts.{IsText, names_in}
-use Rattle.text_routines.specs.of_routine_walks.declared.texts.Text.{Text}
-use Rattle.text_routines.proofs.of_routine_walks.TextLemmas.{texts-in}
+use Rattle.rank_types.specs.HeightCalls.{IsDeep, IsShallow, edges_at}
+use Rattle.rank_types.specs.Refutes.{Refutes}
+use Rattle.rank_types.specs.declared.graph.CallFault.{CallFault}
+use Rattle.rank_types.specs.declared.graph.CallFault.TheVariants.{Cycle, Deep, NoMemory}
+use Rattle.rank_types.specs.declared.graph.Edge.{Edge}
+use Rattle.text_walks.specs.Numbers.{node_of}
+use Rattle.text_walks.specs.Texts.{IsText, names_in}
+use Rattle.text_walks.specs.declared.routine_texts.Text.{Text}
+use Rattle.text_walks.proofs.RoutineTextLemmas.{texts-in}
 use Rattle.rank_types.specs.Calls.{HasHeights, IsGraph}
 use Rattle.rank_types.specs.Faults.{Holds, call_for}
 use Rattle.rank_types.specs.Names.{AreDistinct}

@@ -9,11 +9,11 @@ use Rattle.zpl_names.specs.Declared.{Routine, routines_of, routine_named}
 use Rattle.zpl_names.specs.Sites.{CallSite}
 use Rattle.zpl_names.specs.Reached.{Alone, ByCall, IsChain, IsDeepCall, IsRecursion, Itself, Longer, Reaches, calls_in, calls_of, longest_chain}
 use Rattle.zpl_names.proofs.ListLemmas.{Among, among_from_Contains, Contains-from_among}
-use Rattle.call_heights.specs.declared.graph.Edge.{Edge}
-use Rattle.call_heights.specs.Calls as graph
-use Rattle.call_heights.specs.Calls.{IsCycle, IsDeep, IsInside, IsShallow, edges_at, items_of}
-use Rattle.text_routines.specs.of_routine_walks.Numbers.{node_of}
-use Rattle.text_routines.proofs.of_routine_walks.NodeLemmas.{found-node, node-within, same-node, texts_of}
+use Rattle.rank_types.specs.declared.graph.Edge.{Edge}
+use Rattle.rank_types.specs.HeightCalls as graph
+use Rattle.rank_types.specs.HeightCalls.{IsCycle, IsDeep, IsInside, IsShallow, edges_at, items_of}
+use Rattle.text_walks.specs.Numbers.{node_of}
+use Rattle.text_walks.proofs.NodeLemmas.{found-node, node-within, same-node, texts_of}
 use Rattle.rank_types.specs.Calls.{HasHeights, IsGraph, edge_for, edges_for}
 use Rattle.rank_types.specs.Names.{AreDistinct}
 use Rattle.rank_types.proofs.RowLemmas.{distinct-node}

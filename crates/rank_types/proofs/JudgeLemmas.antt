@@ -11,8 +11,8 @@ use borrow.Author.Tests.{eqb-true}
 use Rattle.zpl_tree.specs.View.{base_type_of, param_of}
 use Rattle.zpl_tree.specs.declared.declarations.Base.{Base as CodeBase}
 use Rattle.zpl_tree.specs.declared.declarations.Param.{Param as CodeParam}
-use Rattle.text_routines.specs.of_routine_walks.Texts.{routine_of}
-use Rattle.text_routines.specs.of_routine_walks.declared.texts.Routine.{Routine as CodeRoutine}
+use Rattle.text_walks.specs.Texts.{routine_of}
+use Rattle.text_walks.specs.declared.routine_texts.Routine.{Routine as CodeRoutine}
 use Rattle.zpl_names.specs.Declared.{Routine, entry_of, globals_of, own_names, with_decl, with_procedure}
 use Rattle.zpl_names.specs.Sites.{Site, AtProcedure, decl_sites, each_sites, head_sites, text_sites}
 use Rattle.zpl_names.specs.Faults.{at_if, repeated, twice_named}
@@ -24,9 +24,9 @@ use Rattle.zpl_names.proofs.FaultLemmas.{clean_is_faultless}
 use Rattle.site_faults.specs.Found.{kind_of}
 use Rattle.site_faults.specs.declared.findings.FaultKind.{FaultKind}
 use Rattle.site_faults.specs.declared.findings.FaultKind.TheVariants as found
-use Rattle.text_routines.specs.of_text_names.declared.stops.Stop.{Stop}
-use Rattle.text_routines.specs.of_text_names.declared.stops.Stop.TheVariants as stop
-use Rattle.text_routines.specs.Routines.{StopsText, own_seconds}
+use Rattle.text_walks.specs.declared.stops.Stop.{Stop}
+use Rattle.text_walks.specs.declared.stops.Stop.TheVariants as stop
+use Rattle.text_walks.specs.Routines.{StopsText, own_seconds}
 use Rattle.rank_types.specs.Calls.{HasHeights, HasNoTextFault, HasPairs}
 use Rattle.rank_types.specs.Faults.{Holds, fault_for, stop_for}
 use Rattle.rank_types.specs.Names.{AreDistinct, IsSecond}

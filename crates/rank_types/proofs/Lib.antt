@@ -7,3 +7,8 @@ pub mod RowLemmas
 pub mod StatementLemmas
 pub mod SymbolLemmas
 pub mod TextFaults
+pub mod ListLemmas
+pub mod WalkLemmas
+pub mod StepLemmas
+pub mod ChainLemmas
+pub mod LawLemmas

@@ -16,10 +16,10 @@ use Rattle.zpl_names.specs.Declared.{entry_for}
 use Rattle.zpl_names.specs.Faults.{repeated}
 use Rattle.zpl_names.proofs.NameLemmas.{found, kind_in-cons}
 use Rattle.name_kinds.proofs.NameLemmas.{bytes_eq-comm}
-use Rattle.text_routines.specs.of_text_names.Heads.{scalars}
-use Rattle.text_routines.specs.of_text_names.Stops.{second_names}
-use Rattle.text_routines.specs.of_text_names.declared.stops.Stop.TheVariants.{Twice}
-use Rattle.text_routines.proofs.of_text_names.StopLemmas.{once-more, scalars-append, scalars-second, stops-more, stops-there}
+use Rattle.text_walks.specs.Heads.{scalars}
+use Rattle.text_walks.specs.Stops.{second_names}
+use Rattle.text_walks.specs.declared.stops.Stop.TheVariants.{Twice}
+use Rattle.text_walks.proofs.StopLemmas.{once-more, scalars-append, scalars-second, stops-more, stops-there}
 use Rattle.rank_types.specs.declared.names.Row.{Row as CodeRow}
 use Rattle.rank_types.specs.declared.symbols.NameKind.{NameKind}
 use Rattle.rank_types.specs.Names.{Row, decl_rows, row_names, row_of, row_symbol, row_symbols, rows_for, var_rows, variable_kind}

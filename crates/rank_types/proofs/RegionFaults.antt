@@ -14,9 +14,9 @@ use Rattle.zpl_names.proofs.FaultlessLemmas.{flat_among, flat_parts}
 use Rattle.zpl_names.proofs.FaultLemmas.{region_has}
 use Rattle.zpl_names.proofs.WalkLemmas.{erase, routine-same}
 use Rattle.site_faults.specs.Findings.{Found, where_reached}
-use Rattle.text_routines.specs.of_text_walk.Meaning.{all_faults, faults_of}
-use Rattle.text_routines.proofs.of_text_names.TextLemmas.{statements_in_text}
-use Rattle.reached_regions.specs.Pairs.{IsHarmed, IsUnharmed}
+use Rattle.text_walks.specs.Meaning.{all_faults, faults_of}
+use Rattle.text_walks.proofs.NameTextLemmas.{statements_in_text}
+use Rattle.text_walks.specs.Pairs.{IsHarmed, IsUnharmed}
 use Rattle.rank_types.specs.Calls.{HasNoTextFault, HasPairs}
 
 -- ---- the faults that the text tells, but for those that also speak of current regions

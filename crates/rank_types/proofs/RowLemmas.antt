@@ -13,8 +13,8 @@ use Rattle.zpl_names.specs.Shapes as shapes
 use Rattle.zpl_names.specs.Declared.{Routine, declaring, entry_for, globals_of, routines_behind, routines_of, with_decl, with_define, with_direction, with_each, with_region, with_variables}
 use Rattle.zpl_names.specs.Faults.{at_if, repeated}
 use Rattle.zpl_names.proofs.NameLemmas.{empty_parts, no_place}
-use Rattle.text_routines.specs.of_routine_walks.Numbers.{node_of}
-use Rattle.text_routines.proofs.of_routine_walks.NodeLemmas.{node-first, node-later, texts_of}
+use Rattle.text_walks.specs.Numbers.{node_of}
+use Rattle.text_walks.proofs.NodeLemmas.{node-first, node-later, texts_of}
 use Rattle.rank_types.specs.Names.{AreDistinct, Row, decl_rows, define_rows, direction_rows, region_rows, row, row_names, row_symbol, row_symbols, rows_for, var_rows, variable_kind}
 use Rattle.rank_types.specs.Symbols.{name_kind, symbols_of}
 use Rattle.rank_types.specs.declared.symbols.NameKind.{NameKind}

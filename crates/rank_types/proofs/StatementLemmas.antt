@@ -10,11 +10,11 @@ use Rattle.zpl_names.specs.Sites.{Site, call_of}
 use Rattle.site_faults.specs.Findings.{Found, State, after}
 use Rattle.site_faults.specs.Reach.{call_site_of}
 use Rattle.site_faults.specs.declared.findings.Called.{Called}
-use Rattle.text_routines.proofs.of_text_walk.Meaning.{walked-calls}
-use Rattle.call_heights.specs.declared.graph.Edge.{Edge}
-use Rattle.text_routines.specs.of_routine_walks.declared.texts.Routine.{Routine}
-use Rattle.text_routines.specs.of_routine_walks.Texts.{routine_of, sites_over}
-use Rattle.text_routines.specs.of_routine_walks.Numbers.{node_of}
+use Rattle.text_walks.proofs.Meaning.{walked-calls}
+use Rattle.rank_types.specs.declared.graph.Edge.{Edge}
+use Rattle.text_walks.specs.declared.routine_texts.Routine.{Routine}
+use Rattle.text_walks.specs.Texts.{routine_of, sites_over}
+use Rattle.text_walks.specs.Numbers.{node_of}
 use Rattle.rank_types.specs.Calls.{edge_for}
 
 pub take-all : {A : Type 0} (xs : List A) (n : ℕ) → length xs ≤ n → take n xs ≡ xs

@@ -13,11 +13,11 @@ use Rattle.zpl_names.proofs.ListLemmas.{Among, among_from_Contains, Contains-fro
 use Rattle.zpl_names.proofs.FaultlessLemmas.{flat_among, flat_parts, split}
 use Rattle.zpl_names.proofs.FaultLemmas.{text_has}
 use Rattle.site_faults.specs.Findings.{Found, kept, where_reached}
-use Rattle.text_routines.specs.of_text_walk.Meaning.{IsOneOf, all_faults, faults_of}
-use Rattle.text_routines.proofs.of_text_walk.Meaning.{one_of}
-use Rattle.text_routines.specs.of_text_names.Found.{goes_on}
-use Rattle.text_routines.specs.of_text_names.Text.{declared_sites}
-use Rattle.text_routines.proofs.of_text_names.TextLemmas.{declared_in_text, statements_in_text, text_clean}
+use Rattle.text_walks.specs.Meaning.{IsOneOf, all_faults, faults_of}
+use Rattle.text_walks.proofs.Meaning.{one_of}
+use Rattle.text_walks.specs.Found.{goes_on}
+use Rattle.text_walks.specs.Text.{declared_sites}
+use Rattle.text_walks.proofs.NameTextLemmas.{declared_in_text, statements_in_text, text_clean}
 use Rattle.rank_types.specs.Calls.{HasNoTextFault, statement_sites}
 
 -- ---- a walk over a text alone finds what the text tells

@@ -7,8 +7,8 @@ use Rattle.zpl_names.specs.Declared.{Routine, routines_of}
 use Rattle.zpl_names.specs.Sites.{CallSite, Site, calls_under, routine_sites, text_sites}
 use Rattle.zpl_names.specs.Reached.{IsClosed, IsHeight, longest_chain, sites_at}
 use Rattle.zpl_names.specs.Accepted.{region_faults, site_faults}
-use Rattle.call_heights.specs.declared.graph.Edge.{Edge}
-use Rattle.text_routines.specs.of_routine_walks.Numbers.{node_of}
+use Rattle.rank_types.specs.declared.graph.Edge.{Edge}
+use Rattle.text_walks.specs.Numbers.{node_of}
 
 -- the sites of all procedures' statements
 abbrev pub statement_sites : Program → List Site

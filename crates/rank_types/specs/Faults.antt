@@ -5,10 +5,10 @@ use Rattle.zpl_names.specs.Accepted as kind
 use Rattle.zpl_names.specs.Accepted.{HasFault}
 use Rattle.site_faults.specs.declared.findings.FaultKind.{FaultKind}
 use Rattle.site_faults.specs.declared.findings.FaultKind.TheVariants as found
-use Rattle.text_routines.specs.of_text_names.declared.stops.Stop.{Stop}
-use Rattle.text_routines.specs.of_text_names.declared.stops.Stop.TheVariants as stop
-use Rattle.call_heights.specs.declared.graph.CallFault.{CallFault}
-use Rattle.call_heights.specs.declared.graph.CallFault.TheVariants as calls
+use Rattle.text_walks.specs.declared.stops.Stop.{Stop}
+use Rattle.text_walks.specs.declared.stops.Stop.TheVariants as stop
+use Rattle.rank_types.specs.declared.graph.CallFault.{CallFault}
+use Rattle.rank_types.specs.declared.graph.CallFault.TheVariants as calls
 use Rattle.rank_types.specs.declared.faults.Fault.{Fault}
 use Rattle.rank_types.specs.declared.faults.Fault.TheVariants.{UnknownName, TwiceNamed, UnknownType, TypeClash, RankClash, NoRegion, FloodClash, ShatterBody, NotAssignable, Arguments, Recursion, ReturnPlace, CallPlace, MaskPlace, BorderForm, NoEntry, RankUnknown, DeepCalls, NoMemory}
 

@@ -4,8 +4,8 @@ use Rattle.zpl_tree.specs.View.{syntax_of}
 use Rattle.zpl_tree.specs.declared.declarations.Program.{Program}
 use Rattle.zpl_names.specs.Accepted.{IsFaultless}
 use Rattle.site_faults.specs.Findings.{Found}
-use Rattle.text_routines.specs.of_text_names.Found.{goes_on}
-use Rattle.text_routines.specs.of_text_names.Text.{declared_sites}
+use Rattle.text_walks.specs.Found.{goes_on}
+use Rattle.text_walks.specs.Text.{declared_sites}
 use Rattle.rank_types.specs.Faults.{Holds}
 use Rattle.rank_types.specs.Names.{AreDistinct}
 use Rattle.rank_types.specs.declared.faults.Fault.{Fault}

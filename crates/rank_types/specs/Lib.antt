@@ -4,3 +4,6 @@ pub mod Judges
 pub mod Names
 pub mod Symbols
 pub mod Typed
+pub mod HeightCalls
+pub mod Refutes
+pub mod Walk

@@ -2,8 +2,8 @@
 use Rattle.std.specs.Prelude.{◌≡◌}
 use Rattle.std.specs.Borrow.{Bor}
 use Rattle.zpl_tree.specs.declared.declarations.Program.{Program}
-use Rattle.text_routines.specs.of_routine_walks.Texts.{IsText}
-use Rattle.text_routines.specs.of_routine_walks.declared.texts.Text.{Text}
+use Rattle.text_walks.specs.Texts.{IsText}
+use Rattle.text_walks.specs.declared.routine_texts.Text.{Text}
 use Rattle.rank_types.specs.declared.typed.Typed.{Typed}
 
 -- the names and the procedures are those of the program

@@ -4,21 +4,21 @@ ghost use Rattle.zpl_tree.specs.View.{syntax_of};
 ghost use Rattle.zpl_names.specs.Accepted.{IsFaultless, is_entry, no_entry};
 ghost use Rattle.zpl_names.specs.Declared.{entry_of};
 ghost use Rattle.site_faults.specs.Found.{found_in};
-ghost use Rattle.text_routines.specs.of_text_names.Found.{goes_on};
-ghost use Rattle.text_routines.specs.of_text_names.Text.{declared_sites};
-ghost use Rattle.text_routines.specs.of_routine_walks.Texts.{IsText, names_in};
+ghost use Rattle.text_walks.specs.Found.{goes_on};
+ghost use Rattle.text_walks.specs.Text.{declared_sites};
+ghost use Rattle.text_walks.specs.Texts.{IsText, names_in};
 ghost use Rattle.rank_types.specs.Calls.{HasHeights, HasNoTextFault, HasPairs, IsGraph};
 ghost use Rattle.rank_types.specs.Faults.{Holds, call_for, fault_for};
 ghost use Rattle.rank_types.specs.Judges.{HasDistinctNames, IsFoundDeclared, Judges};
 ghost use Rattle.rank_types.specs.Names.{AreDistinct};
 
 use crate::faults::Fault;
+use crate::graph::{CallFault, Edge};
+use crate::heights::heights_of;
 use crate::statements::statements_of;
-use call_heights::{CallFault, Edge, heights_of};
-use reached_regions::region_fault;
 use site_faults::{FaultKind, Found};
 use std::alloc::Global;
-use text_routines::routine_walks::Text;
+use text_walks::{Text, region_fault};
 
 /// The most procedures that a chain of calls from the entry procedure on may have.
 const LONGEST_CHAIN: usize = 32;

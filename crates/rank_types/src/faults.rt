@@ -4,7 +4,7 @@ ghost use Rattle.rank_types.specs.declared.faults.Fault.TheVariants.{NoMemory};
 ghost use Rattle.rank_types.specs.Faults.{judge_name, judge_offset, stop_for};
 
 use std::alloc::{AllocError, AllocFailed};
-use text_routines::text_names::Stop;
+use text_walks::Stop;
 
 /// What is wrong with a program, with the offset of the place, counted in bytes from 0.
 #[derive(Clone, Copy, Debug, PartialEq, Eq)]

@@ -3,7 +3,7 @@ ghost use Rattle.std.specs.Prelude.{◌≡◌, IfErr, IfOk, OnOk};
 ghost use Rattle.zpl_tree.specs.View.{syntax_of};
 ghost use Rattle.zpl_names.specs.Accepted.{IsFaultless};
 ghost use Rattle.site_faults.specs.Found.{found_in};
-ghost use Rattle.text_routines.specs.of_routine_walks.Texts.{IsText};
+ghost use Rattle.text_walks.specs.Texts.{IsText};
 ghost use Rattle.rank_types.specs.Faults.{Holds};
 ghost use Rattle.rank_types.specs.Judges.{HasDistinctNames, IsFoundDeclared};
 ghost use Rattle.rank_types.specs.Typed.{HasText, IsTextOf};
@@ -15,8 +15,7 @@ use crate::typed::Typed;
 use bumpalo::Bump;
 use site_faults::Found;
 use std::alloc::Global;
-use text_routines::routine_walks::Text;
-use text_routines::text_of;
+use text_walks::{Text, text_of};
 use zpl_tree::Program;
 
 // Tests a text, which is kept in the arena.

@@ -5,17 +5,16 @@ ghost use Rattle.zpl_names.specs.Shapes.{unknown_shapes};
 ghost use Rattle.zpl_names.specs.Sites.{call_of};
 ghost use Rattle.site_faults.specs.Found.{found_in};
 ghost use Rattle.site_faults.specs.Reach.{call_site_of};
-ghost use Rattle.text_routines.specs.of_text_names.Found.{goes_on};
-ghost use Rattle.text_routines.specs.of_routine_walks.Texts.{routine_of};
-ghost use Rattle.text_routines.specs.of_routine_walks.Texts.{IsText, names_in, sites_over};
+ghost use Rattle.text_walks.specs.Found.{goes_on};
+ghost use Rattle.text_walks.specs.Texts.{routine_of};
+ghost use Rattle.text_walks.specs.Texts.{IsText, names_in, sites_over};
 ghost use Rattle.rank_types.specs.Calls.{IsGraph, edge_for, statement_sites};
 
-use call_heights::Edge;
+use crate::graph::Edge;
 use name_kinds::{Current, Shapes};
 use site_faults::{Called, Found};
 use std::alloc::{AllocError, Global};
-use text_routines::routine_walks::{Routine, Text, walk_under};
-use text_routines::text_names::resumed;
+use text_walks::{Routine, Text, resumed, walk_under};
 
 // Calls by the numbers of procedures. A name that is no procedure's has the number behind these.
 fn edges_of(alloc: Global, text: &Text<'_>, calls: &[Called<'_>]) -> Result<Vec<Edge>, AllocError>

@@ -7,7 +7,7 @@ ghost use Rattle.zpl_names.specs.Accepted.{IsFaultless};
 ghost use Rattle.rank_types.specs.Symbols.{symbols_of};
 
 use crate::symbols::Symbols;
-use text_routines::routine_walks::Text;
+use text_walks::Text;
 use zpl_tree::Program;
 
 /// A program without faults, its global names, and what was found of its text on the way.

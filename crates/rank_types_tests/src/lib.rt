@@ -1,5 +1,4 @@
-//! Tests of the checker of names, ranks and types over texts, with what other crates can name
-//! alone.
+//! Tests of `rank_types`, with what other crates can name alone.
 #![tactic(auto)]
 
 #[cfg(test)]
@@ -16,5 +15,7 @@ mod names;
 mod ranks;
 #[cfg(test)]
 mod regions;
+#[cfg(test)]
+mod tests;
 #[cfg(test)]
 mod types;

@@ -5,10 +5,10 @@ use Rattle.zpl_io.specs.Sink.{Takes}
 use Rattle.grid_meaning.specs.Grid.{Grid, processors}
 use Rattle.grid_order.specs.Reading.{reading}
 use Rattle.grid_runs.specs.Run.{Run, grid_at}
-use Rattle.call_words.specs.of_call_claims.declared.ran.Ran.{Ran}
-use Rattle.call_words.specs.of_call_claims.Call.{Call}
-use Rattle.call_words.specs.of_call_claims.Command.{Asked, IsResume, ResumeTakes}
-use Rattle.call_words.specs.of_call_claims.Execution.{HasNoCounts, execution_of}
+use Rattle.call_claims.specs.declared.ran.Ran.{Ran}
+use Rattle.call_claims.specs.Call.{Call}
+use Rattle.call_claims.specs.Command.{Asked, IsResume, ResumeTakes}
+use Rattle.call_claims.specs.Execution.{HasNoCounts, execution_of}
 use Rattle.call_claims.proofs.OneLemmas.{of_given}
 use Rattle.exec_call.specs.of_exec_claims.Decided.{IsOrderText}
 use Rattle.exec_call.specs.of_resume_claims.of_grid_save.Saved.{IsSaved}

@@ -8,12 +8,12 @@ use Rattle.grid_order.specs.Reading.{reading}
 use Rattle.grid_runs.specs.Run.{GoesOnTo, Run, grid_at}
 use Rattle.grid_runs.proofs.TurnLemmas.{turns_at}
 use Rattle.exec_call.specs.of_resume_claims.of_grid_save.Saved.{IsSaved}
-use Rattle.call_words.specs.of_call_claims.declared.ran.Ran.{Ran}
-use Rattle.call_words.specs.of_call_claims.Call.{Call}
-use Rattle.call_words.specs.of_call_claims.Command.{Asked, ExecTakes, limit_of}
-use Rattle.call_words.specs.of_call_claims.Execution.{execution_of}
-use Rattle.call_words.specs.of_call_claims.Stream.{Stream}
-use Rattle.call_words.specs.of_call_claims.declared.status.TheConstants.{TURN_LIMIT}
+use Rattle.call_claims.specs.declared.ran.Ran.{Ran}
+use Rattle.call_claims.specs.Call.{Call}
+use Rattle.call_claims.specs.Command.{Asked, ExecTakes, limit_of}
+use Rattle.call_claims.specs.Execution.{execution_of}
+use Rattle.call_claims.specs.Stream.{Stream}
+use Rattle.call_claims.specs.declared.status.TheConstants.{TURN_LIMIT}
 use Rattle.call_claims.proofs.OneLemmas.{of_given}
 use Rattle.exec_call.specs.of_exec_claims.Answer.{TakesPrinted as TakesRun}
 use Rattle.exec_call.specs.of_exec_claims.Cause.{RunCause, run_of}

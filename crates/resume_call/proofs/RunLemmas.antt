@@ -14,15 +14,15 @@ use Rattle.exec_call.specs.of_grid_sim.declared.counts.Counts.{Counts}
 use Rattle.exec_call.specs.of_grid_sim.declared.faults.SimFault.{SimFault}
 use Rattle.exec_call.specs.of_grid_sim.declared.faults.SimFault.TheVariants as fault
 use Rattle.exec_call.specs.of_grid_sim.Turned.{kind_told}
-use Rattle.call_words.specs.of_call_claims.Decided.{IsDecided}
+use Rattle.call_claims.specs.Decided.{IsDecided}
 use Rattle.exec_call.specs.of_exec_claims.Cause.{RunCause}
 use Rattle.exec_call.specs.of_exec_claims.Cause.RunCause.{done, trap, turn_limit, stuck, idle}
-use Rattle.exec_call.specs.of_call_answers.Answers.{counts_text, status_of, stop_status, stop_text, told_of}
-use Rattle.exec_call.specs.of_grid_call.Ended.{answer_in, counts_for}
-use Rattle.exec_call.specs.of_call_answers.declared.answers.Answer.{Answer}
-use Rattle.exec_call.specs.of_call_answers.declared.answers.Answer.TheVariants as answer
-use Rattle.exec_call.specs.of_call_answers.declared.answers.Stop.{Stop}
-use Rattle.exec_call.specs.of_call_answers.declared.answers.Stop.TheVariants as stop
+use Rattle.exec_call.specs.of_mean_call.Answers.{counts_text, status_of, stop_status, stop_text, told_of}
+use Rattle.exec_call.specs.Ended.{answer_in, counts_for}
+use Rattle.exec_call.specs.of_mean_call.declared.answers.Answer.{Answer}
+use Rattle.exec_call.specs.of_mean_call.declared.answers.Answer.TheVariants as answer
+use Rattle.exec_call.specs.of_mean_call.declared.answers.Stop.{Stop}
+use Rattle.exec_call.specs.of_mean_call.declared.answers.Stop.TheVariants as stop
 use Rattle.exec_call.specs.of_resume_claims.Cause.{OnwardCause, report_from}
 use Rattle.resume_call.specs.Work.{IsOnwardOn}
 

@@ -19,35 +19,35 @@ use Rattle.exec_call.specs.of_resume_claims.of_grid_save.Saved.{IsSaved}
 use Rattle.exec_call.specs.of_resume_claims.of_grid_save.Fault.{Explains}
 use Rattle.exec_call.specs.of_resume_claims.of_grid_save.declared.faults.SaveFault.{SaveFault}
 use Rattle.exec_call.specs.of_resume_claims.of_grid_save.declared.faults.SaveFault.TheVariants as wanting
-use Rattle.call_words.specs.of_call_claims.Call.{Call, call_of}
-use Rattle.call_words.specs.of_call_claims.Command.{Asked, IsResume}
-use Rattle.call_words.specs.of_call_claims.Decided.{IsDecided}
-use Rattle.call_words.specs.of_call_claims.Execution.{Execution, HasNoCounts, HasNoRun}
-use Rattle.call_words.specs.of_call_claims.Stream.{Stream}
-use Rattle.call_words.specs.of_call_claims.Texts.{too_long_text, unreadable_text}
-use Rattle.call_words.specs.of_call_claims.declared.status.TheConstants.{DONE, TOO_LONG, TRAPPED, TURN_LIMIT, UNREADABLE}
+use Rattle.call_claims.specs.Call.{Call, call_of}
+use Rattle.call_claims.specs.Command.{Asked, IsResume}
+use Rattle.call_claims.specs.Decided.{IsDecided}
+use Rattle.call_claims.specs.Execution.{Execution, HasNoCounts, HasNoRun}
+use Rattle.call_claims.specs.Stream.{Stream}
+use Rattle.call_claims.specs.Texts.{too_long_text, unreadable_text}
+use Rattle.call_claims.specs.declared.status.TheConstants.{DONE, TOO_LONG, TRAPPED, TURN_LIMIT, UNREADABLE}
 use Rattle.exec_call.specs.Work.{IsTextTold}
 use Rattle.exec_call.specs.declared.telling.Telling.{Telling}
-use Rattle.exec_call.specs.of_call_answers.Answers.{IsUnrun, status_of, told_of}
-use Rattle.exec_call.specs.of_call_answers.Fetched.{IsNoText, IsWholeText}
-use Rattle.exec_call.specs.of_call_answers.Refusals.{build_status}
-use Rattle.exec_call.specs.of_call_answers.Told.{IsAnswerOf}
-use Rattle.exec_call.specs.of_call_answers.Work.{execution_in, no_counts, ran_of}
-use Rattle.exec_call.specs.of_call_answers.declared.answers.Answer.{Answer}
-use Rattle.exec_call.specs.of_call_answers.declared.answers.Answer.TheVariants as answer
-use Rattle.exec_call.specs.of_call_answers.declared.refusals.BuildFault.{BuildFault}
-use Rattle.exec_call.specs.of_call_answers.declared.refusals.BuildFault.TheVariants as build
-use Rattle.exec_call.specs.of_call_answers.declared.work.Work.{Work}
+use Rattle.exec_call.specs.of_mean_call.Answers.{IsUnrun, status_of, told_of}
+use Rattle.exec_call.specs.of_mean_call.Fetched.{IsNoText, IsWholeText}
+use Rattle.exec_call.specs.of_mean_call.Refusals.{build_status}
+use Rattle.exec_call.specs.of_mean_call.Told.{IsAnswerOf}
+use Rattle.exec_call.specs.of_mean_call.AnswerWork.{execution_in, no_counts, ran_of}
+use Rattle.exec_call.specs.of_mean_call.declared.answers.Answer.{Answer}
+use Rattle.exec_call.specs.of_mean_call.declared.answers.Answer.TheVariants as answer
+use Rattle.exec_call.specs.of_mean_call.declared.refusals.BuildFault.{BuildFault}
+use Rattle.exec_call.specs.of_mean_call.declared.refusals.BuildFault.TheVariants as build
+use Rattle.exec_call.specs.of_mean_call.declared.work.Work.{Work}
 use Rattle.exec_call.specs.of_exec_claims.Cause.{OrderFileCause, RunCause}
 use Rattle.exec_call.specs.of_exec_claims.Cause.OrderCause.{bad_item as wrong_item, ran as run_under}
 use Rattle.exec_call.specs.of_exec_claims.Cause.TextCause.{too_long as long_text, unreadable as no_text, work as of_text}
 use Rattle.exec_call.specs.of_exec_claims.declared.status.TheConstants.{SAVE_REFUSED, STUCK}
-use Rattle.exec_call.specs.of_grid_call.Work.{HasNoTurns, IsOrderOf, OrderFails}
+use Rattle.exec_call.specs.CodeWork.{HasNoTurns, IsOrderOf, OrderFails}
 use Rattle.exec_call.specs.of_grid_sim.Counting.{AreCounted}
 use Rattle.exec_call.specs.of_grid_sim.Simulation.{counts_of}
 use Rattle.exec_call.specs.of_grid_sim.declared.counts.Counts.{Counts}
 use Rattle.exec_call.proofs.ToldLemmas.{IsToldSo, answer_told, text_told}
-use Rattle.exec_call.proofs.of_grid_call.WorkLemmas.{AreFew, none_counted, order_back, source_back, text_few}
+use Rattle.exec_call.proofs.CodeWorkLemmas.{AreFew, none_counted, order_back, source_back, text_few}
 use Rattle.exec_call.specs.of_resume_claims.Answer.{HasSavedCounts, IsReadFor, TakesPrinted}
 use Rattle.exec_call.specs.of_resume_claims.Cause.{Cause, GridCause, GridFileCause, ResumeCause, SavesNone, Source}
 use Rattle.exec_call.specs.of_resume_claims.Cause.GridCause.{bad_item, ran as went}

@@ -8,14 +8,14 @@ use Rattle.zpl_io.specs.Faults.{Rose}
 use Rattle.zpl_io.specs.Sink.{Takes}
 use Rattle.node_form.specs.declared.tables.Tables.{Tables}
 use Rattle.grid_runs.specs.Run.{IsCutOff, IsLimitedAt, grid_at}
-use Rattle.call_words.specs.of_call_claims.declared.ran.Ran.{Ran}
-use Rattle.call_words.specs.of_call_claims.Answer.{IsAnswered, IsHalfAnswered}
-use Rattle.call_words.specs.of_call_claims.Call.{Call}
-use Rattle.call_words.specs.of_call_claims.Command.{Asked, IsResume}
-use Rattle.call_words.specs.of_call_claims.Decided.{IsSettled}
-use Rattle.call_words.specs.of_call_claims.Execution.{execution_of, HasNoCounts}
-use Rattle.call_words.specs.of_call_claims.Stream.{Stream}
-use Rattle.call_words.specs.of_call_claims.declared.status.TheConstants.{DONE, PUT_FAILED, TOO_LONG, TRAPPED, TURN_LIMIT}
+use Rattle.call_claims.specs.declared.ran.Ran.{Ran}
+use Rattle.call_claims.specs.Answer.{IsAnswered, IsHalfAnswered}
+use Rattle.call_claims.specs.Call.{Call}
+use Rattle.call_claims.specs.Command.{Asked, IsResume}
+use Rattle.call_claims.specs.Decided.{IsSettled}
+use Rattle.call_claims.specs.Execution.{execution_of, HasNoCounts}
+use Rattle.call_claims.specs.Stream.{Stream}
+use Rattle.call_claims.specs.declared.status.TheConstants.{DONE, PUT_FAILED, TOO_LONG, TRAPPED, TURN_LIMIT}
 use Rattle.exec_call.specs.of_exec_claims.Decided.{IsDoneAt, IsStuckOrIdleAt, IsTrapAt}
 use Rattle.exec_call.specs.of_exec_claims.declared.status.TheConstants.{ORDER_REFUSED, SAVE_REFUSED, STUCK}
 use Rattle.exec_call.specs.of_resume_claims.Answer.{GoesOn, IsReadFor, TakesPrinted}

@@ -14,13 +14,13 @@ use Rattle.grid_meaning.specs.Grid.{processors, start_grid}
 use Rattle.grid_meaning.specs.Order.{given}
 use Rattle.grid_order.specs.Reading.{reading}
 use Rattle.grid_runs.specs.Run.{Run, grid_at, GoesOnTo}
-use Rattle.call_words.specs.of_call_claims.declared.ran.Ran.{Ran}
-use Rattle.call_words.specs.of_call_claims.Call.{Call}
-use Rattle.call_words.specs.of_call_claims.Command.{Asked, IsExec, IsResume, limit_of}
-use Rattle.call_words.specs.of_call_claims.Decided.{IsSettled}
-use Rattle.call_words.specs.of_call_claims.Execution.{execution_of}
-use Rattle.call_words.specs.of_call_claims.Stream.{Stream}
-use Rattle.call_words.specs.of_call_claims.declared.status.TheConstants.{TURN_LIMIT}
+use Rattle.call_claims.specs.declared.ran.Ran.{Ran}
+use Rattle.call_claims.specs.Call.{Call}
+use Rattle.call_claims.specs.Command.{Asked, IsExec, IsResume, limit_of}
+use Rattle.call_claims.specs.Decided.{IsSettled}
+use Rattle.call_claims.specs.Execution.{execution_of}
+use Rattle.call_claims.specs.Stream.{Stream}
+use Rattle.call_claims.specs.declared.status.TheConstants.{TURN_LIMIT}
 use Rattle.exec_call.specs.Call.{IsExecuted}
 use Rattle.exec_call.specs.of_exec_claims.Cause.{RunCause, run_of}
 use Rattle.exec_call.specs.of_exec_claims.Decided.{IsOrderText}

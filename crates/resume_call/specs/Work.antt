@@ -12,16 +12,16 @@ use Rattle.grid_meaning.specs.Grid.{Grid}
 use Rattle.grid_runs.specs.Run.{Run, grid_at, turns_in, GoesOnTo, IsCutOff}
 use Rattle.exec_call.specs.of_resume_claims.of_grid_save.Saved.{IsSaved}
 use Rattle.exec_call.specs.of_resume_claims.of_grid_save.declared.faults.SaveFault.{SaveFault}
-use Rattle.call_words.specs.of_call_claims.Call.{Call}
-use Rattle.call_words.specs.of_call_claims.Command.{Asked}
-use Rattle.call_words.specs.of_call_claims.Decided.{IsDecided}
+use Rattle.call_claims.specs.Call.{Call}
+use Rattle.call_claims.specs.Command.{Asked}
+use Rattle.call_claims.specs.Decided.{IsDecided}
 use Rattle.exec_call.specs.declared.telling.Telling.{Telling}
-use Rattle.exec_call.specs.of_call_answers.Answers.{status_of, told_of}
-use Rattle.exec_call.specs.of_call_answers.Fetched.{IsNoText}
-use Rattle.exec_call.specs.of_call_answers.declared.answers.Answer.{Answer}
-use Rattle.exec_call.specs.of_call_answers.declared.answers.Answer.TheVariants as answer
-use Rattle.exec_call.specs.of_call_answers.declared.work.Work.{Work}
-use Rattle.exec_call.specs.of_grid_call.Work.{HasNoTurns, IsOrderOf}
+use Rattle.exec_call.specs.of_mean_call.Answers.{status_of, told_of}
+use Rattle.exec_call.specs.of_mean_call.Fetched.{IsNoText}
+use Rattle.exec_call.specs.of_mean_call.declared.answers.Answer.{Answer}
+use Rattle.exec_call.specs.of_mean_call.declared.answers.Answer.TheVariants as answer
+use Rattle.exec_call.specs.of_mean_call.declared.work.Work.{Work}
+use Rattle.exec_call.specs.CodeWork.{HasNoTurns, IsOrderOf}
 use Rattle.exec_call.specs.of_grid_sim.Simulation.{counts_of}
 use Rattle.exec_call.specs.of_grid_sim.declared.counts.Counts.{Counts}
 use Rattle.exec_call.specs.of_resume_claims.Cause.{GridFileCause, IsRefused, OnwardCause, Source, onward_run}

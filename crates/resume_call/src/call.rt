@@ -1,19 +1,18 @@
 //! The call.
 ghost use Rattle.std.specs.Prelude.{◌≡◌, ◌≢◌, ℕ, List};
-ghost use Rattle.call_words.specs.of_call_claims.Answer.{CountsFetches, CountsPuts};
-ghost use Rattle.call_words.specs.of_call_claims.Call.{call_of};
-ghost use Rattle.call_words.specs.of_call_claims.Command.{IsResume};
-ghost use Rattle.call_words.specs.of_call_claims.Stream.{stream_of};
-ghost use Rattle.call_words.specs.of_call_claims.declared.status.TheConstants.{USAGE};
-ghost use Rattle.call_words.specs.Reading.{asked_in};
-ghost use Rattle.exec_call.specs.of_call_answers.Stops.{CallStopsAtFault};
+ghost use Rattle.call_claims.specs.Answer.{CountsFetches, CountsPuts};
+ghost use Rattle.call_claims.specs.Call.{call_of};
+ghost use Rattle.call_claims.specs.Command.{IsResume};
+ghost use Rattle.call_claims.specs.Stream.{stream_of};
+ghost use Rattle.call_claims.specs.declared.status.TheConstants.{USAGE};
+ghost use Rattle.call_claims.specs.Reading.{asked_in};
+ghost use Rattle.exec_call.specs.of_mean_call.Stops.{CallStopsAtFault};
 ghost use Rattle.zpl_io.specs.Files.{SameTexts};
 ghost use Rattle.resume_call.specs.Call.{IsResumed};
 
 use crate::texts::work_for;
-use call_claims::Ran;
-use call_words::FileCommand;
-use exec_call::grid_call::exec_claims::status::SAVE_REFUSED;
+use call_claims::{FileCommand, Ran};
+use exec_call::exec_claims::status::SAVE_REFUSED;
 use exec_call::resume_claims::grid_save::texts_tell_one_grid;
 use exec_call::resume_claims::{resume_statuses_are_exact, saved_grids_are_resumed};
 use exec_call::tell;

@@ -2,9 +2,9 @@
 //!
 //! A law is the contract of a function that does nothing: a call brings the law into a proof.
 ghost use Rattle.std.specs.Prelude.{◌≡◌, ℕ, List};
-ghost use Rattle.call_words.specs.of_call_claims.Call.{call_of};
-ghost use Rattle.call_words.specs.of_call_claims.Stream.{stream_of};
-ghost use Rattle.call_words.specs.of_call_claims.declared.ran.Ran.{Ran};
+ghost use Rattle.call_claims.specs.Call.{call_of};
+ghost use Rattle.call_claims.specs.Stream.{stream_of};
+ghost use Rattle.call_claims.specs.declared.ran.Ran.{Ran};
 ghost use Rattle.resume_call.specs.Parts.{AreOneRun, AsksSaved, IsFirstPart};
 
 use zpl_io::{Files, Sink};

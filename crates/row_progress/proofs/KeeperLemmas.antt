@@ -13,8 +13,8 @@ use Rattle.grid_meaning.specs.Local.{Local}
 use Rattle.grid_meaning.specs.Owner.{region_in, tuples_of}
 use Rattle.grid_meaning.specs.Stored.{no_places}
 use Rattle.node_local.specs.Workplace.{Workplace}
-use Rattle.scan_messages.specs.declared.rows.ScanRow.{ScanRow}
-use Rattle.scan_messages.specs.Row.{scan_row}
+use Rattle.scan_messages.specs.declared.scan_rows.ScanRow.{ScanRow}
+use Rattle.scan_messages.specs.ScanRow.{scan_row}
 use Rattle.row_turn.proofs.StandLemmas.{slot_within}
 use Rattle.row_turn.specs.Together.{OfRow}
 use Rattle.row_progress.specs.Walk.{IsAlong}

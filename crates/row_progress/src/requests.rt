@@ -22,8 +22,8 @@ use grid_layout::Layout;
 use grid_links::{Message, Words};
 use node_form::{Instr, NodeProgram, rows_fit};
 use node_local::{Kept, Local};
-use row_steps::other;
 use row_turn::{Receipt, take_message};
+use scan_messages::other;
 use std::alloc::{AllocError, Global};
 
 /// Whether a message was taken.

@@ -17,12 +17,12 @@ use Rattle.zpl_arrays.specs.Array.{Array, place_among}
 use Rattle.zpl_arrays.proofs.ArrayLemmas.{only_place}
 use Rattle.node_form.specs.declared.arrays.Item.{Item}
 use Rattle.node_form.specs.declared.tables.Tables.{Tables}
-use Rattle.edge_messages.specs.of_exchange_messages.Held.{items_held}
+use Rattle.delivery_messages.specs.Held.{items_held}
 use Rattle.grid_meaning.specs.Delivery.{each_word}
 use Rattle.grid_meaning.specs.Exchange.{places_of, words_between}
 use Rattle.grid_meaning.specs.Local.{Local}
 use Rattle.grid_meaning.specs.Place.{value_at, values_at}
-use Rattle.gather_messages.proofs.of_node_messages.ReadLemmas.{IsReading, left, reading_step}
+use Rattle.fold_messages.proofs.ReadLemmas.{IsReading, left, reading_step}
 
 -- ---- values that were read
 pub one_more : (stores : List Array) (array : ℕ) (r : Region) (t : List ℤ) (next : Option (List ℤ)) (value : ℤ)

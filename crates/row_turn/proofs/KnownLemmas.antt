@@ -6,8 +6,8 @@ use Rattle.node_form.specs.declared.arrays.Item.{Item}
 use Rattle.node_form.specs.declared.instructions.Instr.TheVariants.{Start, Finish}
 use Rattle.node_form.specs.declared.tables.Tables.{Tables}
 use Rattle.grid_meaning.specs.Local.{Local}
-use Rattle.edge_messages.specs.of_node_stages.Known.{Known}
-use Rattle.edge_messages.specs.of_node_stages.Partners.{receivers_from, senders_to}
+use Rattle.delivery_messages.specs.of_node_stages.Known.{Known}
+use Rattle.delivery_messages.specs.of_node_stages.Partners.{receivers_from, senders_to}
 use Rattle.row_turn.specs.Known.{Knows, partners_at, partners_of}
 
 pub in_start : (code : Tables) (p : ℕ) (local : Local) (e : ℕ) (items : List Item) → slice_get code.code local.at ≡ Some (Start e)

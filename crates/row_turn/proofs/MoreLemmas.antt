@@ -12,7 +12,7 @@ use Rattle.grid_meaning.specs.Delivery.{flood_targets, flooded, part_targets, pa
 use Rattle.grid_meaning.specs.Local.{Local}
 use Rattle.grid_meaning.specs.Owner.{region_in}
 use Rattle.node_local.specs.Workplace.{Workplace}
-use Rattle.edge_messages.specs.of_node_stages.Slots.{at_slots}
+use Rattle.delivery_messages.specs.of_node_stages.Slots.{at_slots}
 use Rattle.row_turn.proofs.StageLemmas.{in_slot}
 use Rattle.row_turn.proofs.StandLemmas.{stands_at}
 use Rattle.row_turn.specs.Placed.{IsAtRow}

@@ -10,8 +10,8 @@ use Rattle.node_form.specs.declared.tables.Tables.{Tables}
 use Rattle.node_form.specs.Fits.{FitsRemap}
 use Rattle.grid_meaning.specs.Collective.{Collective}
 use Rattle.node_local.specs.Workplace.{Workplace}
-use Rattle.remap_messages.specs.declared.rows.RemapRow.{RemapRow}
-use Rattle.remap_messages.specs.Row.{ReadsFit, remap_row}
+use Rattle.scan_messages.specs.declared.remap_rows.RemapRow.{RemapRow}
+use Rattle.scan_messages.specs.RemapRow.{ReadsFit, remap_row}
 use Rattle.row_turn.proofs.ScanLemmas.{one_rank}
 use Rattle.row_turn.proofs.StageLemmas.{in_found}
 use Rattle.row_turn.proofs.StandLemmas.{slot_within, stands_at}

@@ -8,8 +8,8 @@ use Rattle.node_form.specs.declared.tables.Tables.{Tables}
 use Rattle.grid_meaning.specs.Collective.{Collective, InLast}
 use Rattle.grid_meaning.specs.State.{KeepsWords}
 use Rattle.node_local.specs.Workplace.{Workplace}
-use Rattle.scan_messages.specs.declared.rows.ScanRow.{ScanRow}
-use Rattle.scan_messages.specs.Row.{scan_row}
+use Rattle.scan_messages.specs.declared.scan_rows.ScanRow.{ScanRow}
+use Rattle.scan_messages.specs.ScanRow.{scan_row}
 use Rattle.row_turn.proofs.StandLemmas.{slot_within, stands_at}
 use Rattle.row_turn.specs.Placed.{IsAtRow}
 use Rattle.row_turn.specs.Together.{OfRow}

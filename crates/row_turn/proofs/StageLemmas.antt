@@ -17,7 +17,7 @@ use Rattle.grid_meaning.specs.Collective.{Kin, folded, star, tree, voted}
 use Rattle.grid_meaning.specs.State.{IsIn}
 use Rattle.node_form.specs.declared.instructions.Instr.TheVariants as instr
 use Rattle.node_local.specs.Workplace.{Workplace}
-use Rattle.edge_messages.specs.of_node_stages.Slots.{at_slots}
+use Rattle.delivery_messages.specs.of_node_stages.Slots.{at_slots}
 use Rattle.row_turn.proofs.StandLemmas.{stands_at}
 use Rattle.row_turn.specs.Placed.{IsAtRow}
 use Rattle.row_turn.specs.Together.{IsTogether, OfRow}

@@ -9,8 +9,8 @@ use Rattle.node_form.specs.declared.instructions.Instr.{Instr}
 use Rattle.node_form.specs.declared.instructions.Instr.TheVariants.{Start, Finish}
 use Rattle.node_form.specs.declared.tables.Tables.{Tables}
 use Rattle.grid_meaning.specs.Local.{Local}
-use Rattle.edge_messages.specs.of_node_stages.Known.{AreRoutes, Known}
-use Rattle.edge_messages.specs.of_node_stages.Partners.{receivers_from, senders_to}
+use Rattle.delivery_messages.specs.of_node_stages.Known.{AreRoutes, Known}
+use Rattle.delivery_messages.specs.of_node_stages.Partners.{receivers_from, senders_to}
 
 abbrev pub partners_at : Tables → ℕ → List Region → Instr → Option (List ℕ)
 partners_at code p slots (Start exchange) =

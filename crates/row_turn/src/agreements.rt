@@ -3,10 +3,10 @@ ghost use Rattle.std.specs.Prelude.{◌≡◌, ◌<◌};
 ghost use Rattle.grid_meaning.specs.Local.{processors};
 ghost use Rattle.grid_meaning.specs.State.{IsLocal};
 ghost use Rattle.grid_meaning.specs.Stored.{arrangement_of};
-ghost use Rattle.gather_messages.specs.of_node_messages.Agreement.{HasSmallFlag};
+ghost use Rattle.fold_messages.specs.Agreement.{HasSmallFlag};
 ghost use Rattle.row_turn.specs.Together.{kin_over};
 
-use edge_messages::node_stages::Kin;
+use delivery_messages::node_stages::Kin;
 use grid_layout::Layout;
 use node_form::NodeProgram;
 use node_local::Local;

@@ -5,12 +5,12 @@ ghost use Rattle.grid_meaning.specs.Collective.{stage_of};
 ghost use Rattle.grid_meaning.specs.Delivery.{edged};
 ghost use Rattle.grid_meaning.specs.Local.{processors};
 ghost use Rattle.grid_meaning.specs.Stored.{arrangement_of};
-ghost use Rattle.edge_messages.specs.of_node_stages.Stage.{staged};
+ghost use Rattle.delivery_messages.specs.of_node_stages.Stage.{staged};
 ghost use Rattle.row_turn.specs.Placed.{IsAtRow};
 
 use crate::slots::{region_in, tuples};
-use edge_messages::node_stages::{Stage, edge_piece, edge_stage};
-use edge_messages::{edge_alone, edge_taken, edge_words};
+use delivery_messages::node_stages::{Stage, edge_piece, edge_stage};
+use delivery_messages::{edge_alone, edge_taken, edge_words};
 use grid_layout::Layout;
 use grid_links::Words;
 use node_form::{Instr, NodeProgram};

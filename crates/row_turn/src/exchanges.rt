@@ -8,17 +8,17 @@ ghost use Rattle.grid_meaning.specs.Local.{processors};
 ghost use Rattle.grid_meaning.specs.State.{IsSlot};
 ghost use Rattle.grid_meaning.specs.Stored.{arrangement_of};
 ghost use Rattle.node_form.specs.Fits.{FitsItem};
-ghost use Rattle.edge_messages.specs.of_node_stages.Known.{AreRoutes};
-ghost use Rattle.edge_messages.specs.of_node_stages.Stage.{staged};
+ghost use Rattle.delivery_messages.specs.of_node_stages.Known.{AreRoutes};
+ghost use Rattle.delivery_messages.specs.of_node_stages.Stage.{staged};
 ghost use Rattle.row_turn.specs.Known.{Knows, partners_of};
 ghost use Rattle.row_turn.specs.Placed.{IsAtRow};
 ghost use Rattle.row_turn.specs.Together.{OfRow};
 
 use crate::slots::tuples;
-use edge_messages::exchange_messages::{finish_taken, start_words};
-use edge_messages::node_stages::{
+use delivery_messages::node_stages::{
     Partners, Stage, finish_stage, item_piece, learn_receivers, learn_senders, start_stage,
 };
+use delivery_messages::{finish_taken, start_words};
 use grid_layout::Layout;
 use grid_links::Words;
 use node_form::{Instr, Item, NodeProgram, rows_fit};

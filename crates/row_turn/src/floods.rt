@@ -5,12 +5,12 @@ ghost use Rattle.grid_meaning.specs.Collective.{stage_of};
 ghost use Rattle.grid_meaning.specs.Delivery.{flooded};
 ghost use Rattle.grid_meaning.specs.Local.{processors};
 ghost use Rattle.grid_meaning.specs.Stored.{arrangement_of};
-ghost use Rattle.edge_messages.specs.of_node_stages.Stage.{staged};
+ghost use Rattle.delivery_messages.specs.of_node_stages.Stage.{staged};
 ghost use Rattle.row_turn.specs.Placed.{IsAtRow};
 
 use crate::slots::{region_in, tuples};
-use edge_messages::node_stages::Stage;
-use flood_messages::{
+use delivery_messages::node_stages::Stage;
+use delivery_messages::{
     flood_alone, flood_stage, flood_taken, flood_tuples, flood_words, flood_words_held,
 };
 use grid_layout::Layout;

@@ -5,15 +5,14 @@ ghost use Rattle.grid_meaning.specs.Gather.{gathered};
 ghost use Rattle.grid_meaning.specs.Local.{processors};
 ghost use Rattle.grid_meaning.specs.Stored.{arrangement_of};
 ghost use Rattle.node_control.specs.Moving.{MovesOn};
-ghost use Rattle.edge_messages.specs.of_node_stages.Stage.{staged};
+ghost use Rattle.delivery_messages.specs.of_node_stages.Stage.{staged};
 ghost use Rattle.row_turn.specs.Own.{IsOwn};
 ghost use Rattle.row_turn.specs.Placed.{IsAtRow};
 
 use crate::answers::OwnTurn;
 use crate::slots::{leave, region_in, tuples};
-use edge_messages::node_stages::{Stage, gather_stage, own_tuples};
-use gather_messages::gather_words;
-use gather_text::gather_text;
+use delivery_messages::node_stages::{Stage, gather_stage, own_tuples};
+use fold_messages::{gather_text, gather_words};
 use grid_layout::Layout;
 use grid_links::Words;
 use node_form::{Instr, NodeProgram};

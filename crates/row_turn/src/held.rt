@@ -1,7 +1,7 @@
 //! Whether the words of a message are there, told without memory.
 ghost use Rattle.std.specs.Prelude.{◌≡◌, ◌<◌, All, is_some};
 ghost use Rattle.std.specs.List.{AllZip};
-ghost use Rattle.edge_messages.specs.of_exchange_messages.Held.{are_held, items_held};
+ghost use Rattle.delivery_messages.specs.Held.{are_held, items_held};
 ghost use Rattle.grid_meaning.specs.Delivery.{each_word, edged};
 ghost use Rattle.grid_meaning.specs.Gather.{gathered};
 ghost use Rattle.grid_meaning.specs.Local.{processors};
@@ -20,7 +20,7 @@ use crate::parts::held_in_part;
 use crate::remaps::held_in_remap;
 use crate::scans::held_in_scan;
 use crate::slots::region_in;
-use edge_messages::node_stages::{edge_piece, item_piece, own_tuples};
+use delivery_messages::node_stages::{edge_piece, item_piece, own_tuples};
 use grid_layout::Layout;
 use node_form::{Instr, Item, NodeProgram};
 use node_local::Local;

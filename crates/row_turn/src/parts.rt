@@ -5,16 +5,18 @@ ghost use Rattle.grid_meaning.specs.Collective.{stage_of};
 ghost use Rattle.grid_meaning.specs.Delivery.{parted};
 ghost use Rattle.grid_meaning.specs.Local.{processors};
 ghost use Rattle.grid_meaning.specs.Stored.{arrangement_of};
-ghost use Rattle.edge_messages.specs.of_node_stages.Stage.{staged};
+ghost use Rattle.delivery_messages.specs.of_node_stages.Stage.{staged};
 ghost use Rattle.row_turn.specs.Placed.{IsAtRow};
 
 use crate::slots::region_in;
-use edge_messages::node_stages::Stage;
+use delivery_messages::node_stages::Stage;
+use delivery_messages::{
+    part_alone, part_count, part_stage, part_taken, part_words, part_words_held,
+};
 use grid_layout::Layout;
 use grid_links::Words;
 use node_form::{Instr, NodeProgram};
 use node_local::Local;
-use part_messages::{part_alone, part_count, part_stage, part_taken, part_words, part_words_held};
 use std::alloc::{AllocError, Global};
 use zpl_nums::Fold;
 

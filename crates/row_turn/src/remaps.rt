@@ -4,17 +4,17 @@ ghost use Rattle.std.specs.Prelude.{if◌then◌else◌, is_some};
 ghost use Rattle.grid_meaning.specs.Collective.{stage_of};
 ghost use Rattle.grid_meaning.specs.Local.{processors};
 ghost use Rattle.grid_meaning.specs.Stored.{arrangement_of};
-ghost use Rattle.edge_messages.specs.of_node_stages.Stage.{staged};
+ghost use Rattle.delivery_messages.specs.of_node_stages.Stage.{staged};
 ghost use Rattle.row_turn.specs.Placed.{IsAtRow};
 ghost use Rattle.row_turn.specs.Together.{IsRemap, OfRow};
 
 use crate::slots::region_in;
-use edge_messages::node_stages::Stage;
+use delivery_messages::node_stages::Stage;
 use grid_layout::Layout;
 use grid_links::Words;
 use node_form::{Instr, NodeProgram};
 use node_local::Local;
-use remap_messages::{
+use scan_messages::{
     RemapRow, remap_alone, remap_awaits, remap_stage, remap_taken, remap_words, remap_words_held,
 };
 use std::alloc::{AllocError, Global};

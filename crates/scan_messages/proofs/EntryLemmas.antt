@@ -1,8 +1,8 @@
 -- The words that are kept, one entry after another.
 use Rattle.std.proofs.Common.{◌≡◌, ℕ, zero, suc, ◌<◌, List, [], ◌∷◌, All, length, map, get_or, sym, subst, ℤ, arith}
 use Rattle.std.proofs.lemmas.List.Elements.{All-head, All-tail}
-use Rattle.row_steps.specs.of_node_local.declared.standings.Kept.{Kept}
-use Rattle.row_steps.specs.of_node_local.Standing.{entry_of}
+use Rattle.node_local.specs.declared.standings.Kept.{Kept}
+use Rattle.node_local.specs.Standing.{entry_of}
 
 pub kept_at : (n : ℕ) (words : List Kept) (i : ℕ) (item : Kept) → i < length words → item ≡ get_or words i item
     → All (λ (entry : ℕ × List ℤ). entry.0 < n) (map entry_of words) → item.from < n

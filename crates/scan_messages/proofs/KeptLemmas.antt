@@ -9,10 +9,10 @@ use Rattle.grid_meaning.specs.Local.{Local, processors}
 use Rattle.grid_meaning.specs.Owner.{region_in}
 use Rattle.grid_meaning.specs.State.{IsPart, KeepsWords, ascending, placed, senders}
 use Rattle.grid_meaning.proofs.RemapLemmas.{placed-last}
-use Rattle.row_steps.specs.of_node_stages.Partners.{taking}
-use Rattle.scan_messages.specs.Row.{scan_row}
-use Rattle.scan_messages.proofs.StageLemmas.{lines_of}
-use Rattle.scan_messages.specs.declared.rows.ScanRow.{ScanRow}
+use Rattle.node_stages.specs.Partners.{taking}
+use Rattle.scan_messages.specs.ScanRow.{scan_row}
+use Rattle.scan_messages.proofs.ScanStageLemmas.{lines_of}
+use Rattle.scan_messages.specs.declared.scan_rows.ScanRow.{ScanRow}
 
 -- ---- some of a list's elements
 pub part_filter : (test : ℕ → Bool) (xs : List ℕ) → IsPart (filter test xs) xs

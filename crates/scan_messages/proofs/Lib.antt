@@ -1,3 +1,8 @@
+mod ListLemmas
+pub mod HeldLemmas
+pub mod PartnerLemmas
+pub mod StepStageLemmas
+pub mod WalkLemmas
 mod BeforeLemmas
 mod BoxLemmas
 mod EntryLemmas
@@ -5,6 +10,13 @@ mod KeptLemmas
 mod LastLemmas
 mod LineLemmas
 mod RowLemmas
-mod StageLemmas
-mod TurnLemmas
+mod ScanStageLemmas
+mod ScanTurnLemmas
 mod ValueLemmas
+mod AnswerLemmas
+mod CountLemmas
+mod SourceLemmas
+mod RemapStageLemmas
+mod RemapTurnLemmas
+mod WantLemmas
+pub use Rattle.node_stages.proofs as of_node_stages

@@ -25,8 +25,8 @@ use Rattle.grid_meaning.specs.Scan as meaning
 use Rattle.grid_meaning.specs.State.{IsSlot}
 use Rattle.grid_meaning.specs.Stored.{arrangement_of}
 use Rattle.grid_meaning.proofs.WorldLemmas.{processors_alike}
-use Rattle.row_steps.proofs.of_node_stages.OwnLemmas.{IsShaped-slot, own_tuples}
-use Rattle.row_steps.proofs.of_node_stages.PieceLemmas.{IsRegion-slot}
+use Rattle.node_stages.proofs.OwnLemmas.{IsShaped-slot, own_tuples}
+use Rattle.node_stages.proofs.PieceLemmas.{IsRegion-slot}
 use Rattle.scan_plan.specs.Line.{head_of, heads, is_along, line_dim, line_total, totals_of, value_at}
 use Rattle.scan_plan.proofs.OwnedLemmas.{owned_region}
 use Rattle.scan_messages.specs.Line.{on_line}

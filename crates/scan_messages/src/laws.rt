@@ -6,8 +6,8 @@ ghost use Rattle.grid_meaning.specs.Collective.{InLast, others};
 ghost use Rattle.grid_meaning.specs.Local.{Local as State};
 ghost use Rattle.grid_meaning.specs.State.{IsPart, KeepsWords};
 ghost use Rattle.node_form.specs.declared.tables.Tables.{Tables as Code};
-ghost use Rattle.scan_messages.specs.Row.{scan_row};
-ghost use Rattle.scan_messages.specs.declared.rows.ScanRow.{ScanRow as Row};
+ghost use Rattle.scan_messages.specs.ScanRow.{scan_row};
+ghost use Rattle.scan_messages.specs.declared.scan_rows.ScanRow.{ScanRow as Row};
 
 /// Words that are kept in a `scan` are those of other processors, at most once of each.
 pub fn kept_totals_are_of_others()

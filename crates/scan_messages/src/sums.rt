@@ -10,10 +10,10 @@ ghost use Rattle.scan_plan.specs.Line.{line_dim, totals_of, value_at};
 ghost use Rattle.scan_plan.specs.Scan.{block_scan};
 ghost use Rattle.zpl_region.specs.Region.{IsRegion, members};
 
-use crate::rows::ScanRow;
+use crate::scan_rows::ScanRow;
 use grid_layout::Layout;
 use node_form::NodeProgram;
-use row_steps::node_local::Local;
+use node_local::Local;
 use scan_plan::{Totals, scan_block, totals};
 use std::alloc::{AllocError, Global};
 use zpl_region::Region;

@@ -4,8 +4,8 @@ ghost use Rattle.std.specs.Option.{option_map};
 ghost use Rattle.grid_meaning.specs.Scan.{scan_value, scan_values};
 ghost use Rattle.zpl_region.specs.Region.{IsRegion, members};
 
-use crate::rows::ScanRow;
-use row_steps::node_local::Local;
+use crate::scan_rows::ScanRow;
+use node_local::Local;
 use std::alloc::{AllocError, Global};
 use zpl_region::{Region, Vec3};
 

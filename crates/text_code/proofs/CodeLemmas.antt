@@ -32,11 +32,11 @@ use Rattle.list_claims.specs.of_zpl_compile.Compile.{compiled}
 use Rattle.program_code.specs.declared.faults.CompileFault.{CompileFault}
 use Rattle.program_code.specs.declared.faults.CompileFault.TheVariants as compile
 use Rattle.code_layout.specs.Room.{HasRoom}
-use Rattle.bound_texts.specs.of_call_answers.declared.refusals.Refusal.{Refusal}
-use Rattle.bound_texts.specs.of_call_answers.declared.refusals.Refusal.TheVariants.{Lex, Parse, Judge, Bind}
-use Rattle.bound_texts.specs.of_call_answers.declared.refusals.Refusal.TheVariants.{NoMemory}
-use Rattle.bound_texts.specs.Refused.{IsOnlyTree, IsRejected, IsTreeless, IsUnread}
-use Rattle.bound_texts.specs.of_call_answers.declared.refusals.BuildFault.TheVariants as unbuilt
+use Rattle.mean_call.specs.declared.refusals.Refusal.{Refusal}
+use Rattle.mean_call.specs.declared.refusals.Refusal.TheVariants.{Lex, Parse, Judge, Bind}
+use Rattle.mean_call.specs.declared.refusals.Refusal.TheVariants.{NoMemory}
+use Rattle.mean_call.specs.Refused.{IsOnlyTree, IsRejected, IsTreeless, IsUnread}
+use Rattle.mean_call.specs.declared.refusals.BuildFault.TheVariants as unbuilt
 use Rattle.text_code.specs.Refusals.{of_compile, Refuses, RefusesText}
 use Rattle.text_code.specs.declared.compiling.Uncoded.{Uncoded}
 use Rattle.text_code.specs.declared.compiling.Uncoded.TheVariants.{Refused, Unbuilt}

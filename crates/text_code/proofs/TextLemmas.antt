@@ -5,17 +5,17 @@ use Rattle.zpl_claims.specs.Build.{Build}
 use Rattle.list_claims.specs.Cause.{TextFault}
 use Rattle.list_claims.specs.Cause.TextFault.{refused, unbound}
 use Rattle.call_claims.specs.declared.status.TheConstants.{UNREADABLE}
-use Rattle.bound_texts.specs.of_call_answers.Answers.{status_of}
-use Rattle.bound_texts.specs.of_call_answers.Fetched.{FailsToFetch}
-use Rattle.bound_texts.proofs.of_call_answers.FetchLemmas.{unread_is_decided}
+use Rattle.mean_call.specs.Answers.{status_of}
+use Rattle.mean_call.specs.Fetched.{FailsToFetch}
+use Rattle.mean_call.proofs.FetchLemmas.{unread_is_decided}
 use Rattle.text_code.specs.Refusals.{answer_for, IsUncoded, Refuses}
 use Rattle.text_code.specs.declared.compiling.Uncoded.{Uncoded}
 use Rattle.text_code.specs.declared.compiling.Uncoded.TheVariants.{Refused, Unbuilt}
-use Rattle.bound_texts.specs.of_call_answers.declared.answers.Answer.{Answer}
-use Rattle.bound_texts.specs.of_call_answers.declared.answers.Answer.TheVariants as answer
-use Rattle.bound_texts.specs.of_call_answers.declared.refusals.BuildFault.TheVariants as unbuilt
-use Rattle.bound_texts.specs.of_call_answers.declared.refusals.Refusal.TheVariants.{Lex, Parse, Judge, Bind}
-use Rattle.bound_texts.specs.of_call_answers.declared.refusals.Refusal.TheVariants.{NoMemory}
+use Rattle.mean_call.specs.declared.answers.Answer.{Answer}
+use Rattle.mean_call.specs.declared.answers.Answer.TheVariants as answer
+use Rattle.mean_call.specs.declared.refusals.BuildFault.TheVariants as unbuilt
+use Rattle.mean_call.specs.declared.refusals.Refusal.TheVariants.{Lex, Parse, Judge, Bind}
+use Rattle.mean_call.specs.declared.refusals.Refusal.TheVariants.{NoMemory}
 
 -- ---- why a text has no code is the fault of its answer
 pub uncoded : (text : List ℕ) (build : Build) (why : Uncoded)

@@ -6,16 +6,16 @@ use Rattle.program_code.specs.declared.faults.CompileFault.TheVariants as compil
 use Rattle.call_claims.specs.Decided.{IsDecided}
 use Rattle.list_claims.specs.Cause.{TextFault}
 use Rattle.list_claims.specs.Refusal.{IsRefusal, IsUnbound}
-use Rattle.bound_texts.specs.of_call_answers.Answers.{answer_of, status_of}
-use Rattle.bound_texts.specs.of_call_answers.Answers as answers
-use Rattle.bound_texts.specs.of_call_answers.Refusals.{build_text, told_of}
-use Rattle.bound_texts.specs.of_call_answers.declared.answers.Answer.{Answer}
-use Rattle.bound_texts.specs.of_call_answers.declared.answers.Answer.TheVariants as answer
-use Rattle.bound_texts.specs.of_call_answers.declared.refusals.BuildFault.{BuildFault}
-use Rattle.bound_texts.specs.of_call_answers.declared.refusals.BuildFault.TheVariants as unbuilt
-use Rattle.bound_texts.specs.of_call_answers.declared.refusals.Refusal.{Refusal}
-use Rattle.bound_texts.specs.of_call_answers.declared.refusals.Refusal.TheVariants.{Lex, Parse, Judge, Bind}
-use Rattle.bound_texts.specs.of_call_answers.declared.refusals.Refusal.TheVariants.{NoMemory}
+use Rattle.mean_call.specs.Answers.{answer_of, status_of}
+use Rattle.mean_call.specs.Answers as answers
+use Rattle.mean_call.specs.Refusals.{build_text, told_of}
+use Rattle.mean_call.specs.declared.answers.Answer.{Answer}
+use Rattle.mean_call.specs.declared.answers.Answer.TheVariants as answer
+use Rattle.mean_call.specs.declared.refusals.BuildFault.{BuildFault}
+use Rattle.mean_call.specs.declared.refusals.BuildFault.TheVariants as unbuilt
+use Rattle.mean_call.specs.declared.refusals.Refusal.{Refusal}
+use Rattle.mean_call.specs.declared.refusals.Refusal.TheVariants.{Lex, Parse, Judge, Bind}
+use Rattle.mean_call.specs.declared.refusals.Refusal.TheVariants.{NoMemory}
 use Rattle.text_code.specs.declared.compiling.Uncoded.{Uncoded}
 use Rattle.text_code.specs.declared.compiling.Uncoded.TheVariants.{Refused, Unbuilt}
 

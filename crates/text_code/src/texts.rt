@@ -4,12 +4,12 @@ ghost use Rattle.zpl_text.specs.declared.TheConstants.{MOST_SOURCE};
 ghost use Rattle.code_layout.specs.Room.{HasRoom};
 ghost use Rattle.call_claims.specs.Command.{build_of};
 ghost use Rattle.list_claims.specs.Code.{IsCodeOf};
-ghost use Rattle.call_words.specs.Reading.{asked_in};
+ghost use Rattle.call_claims.specs.Reading.{asked_in};
 ghost use Rattle.text_code.specs.Refusals.{IsUncoded};
 
 use crate::compiling::compile;
-use bound_texts::call_answers::Answer;
-use call_words::Asked;
+use call_claims::Asked;
+use mean_call::Answer;
 use node_form::NodeProgram;
 use std::alloc::Global;
 

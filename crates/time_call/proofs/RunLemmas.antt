@@ -6,13 +6,13 @@ use Rattle.zpl_nums.specs.declared.ends.End.TheVariants as ending
 use Rattle.grid_meaning.specs.Grid.{EndsAs, start_grid}
 use Rattle.grid_meaning.specs.Action.{WrongTag, WrongLength, Unheld}
 use Rattle.grid_runs.specs.Run.{Run, grid_at}
-use Rattle.listing_code.specs.of_grid_sim.StuckKind.{StuckKind}
-use Rattle.listing_code.specs.of_grid_sim.StuckKind.TheVariants as kind
-use Rattle.listing_code.specs.of_grid_sim.Run.{IsStuckOrIdle}
-use Rattle.listing_code.specs.of_grid_sim.Simulation.{Simulation, counts_of}
-use Rattle.listing_code.specs.of_grid_sim.Turned.{kind_told}
-use Rattle.listing_code.specs.of_grid_sim.declared.counts.Counts.{Counts}
-use Rattle.listing_code.specs.of_grid_sim.declared.faults.SimFault.TheVariants as fault
+use Rattle.exec_call.specs.of_grid_sim.StuckKind.{StuckKind}
+use Rattle.exec_call.specs.of_grid_sim.StuckKind.TheVariants as kind
+use Rattle.exec_call.specs.of_grid_sim.Run.{IsStuckOrIdle}
+use Rattle.exec_call.specs.of_grid_sim.Simulation.{Simulation, counts_of}
+use Rattle.exec_call.specs.of_grid_sim.Turned.{kind_told}
+use Rattle.exec_call.specs.of_grid_sim.declared.counts.Counts.{Counts}
+use Rattle.exec_call.specs.of_grid_sim.declared.faults.SimFault.TheVariants as fault
 use Rattle.time_claims.specs.of_grid_time.Timed.{EndsTimed, IsPastMoves, IsTimedRun, history_at, moves_at}
 use Rattle.time_claims.specs.of_grid_time.declared.faults.TimeFault.{TimeFault}
 use Rattle.time_claims.specs.of_grid_time.declared.faults.TimeFault.TheVariants as time
@@ -26,12 +26,12 @@ use Rattle.time_claims.specs.of_exec_claims.Cause.{RunCause}
 use Rattle.time_claims.specs.of_exec_claims.Cause.RunCause.{done, trap, turn_limit, stuck, idle}
 use Rattle.time_claims.specs.of_exec_claims.Texts.{too_many_moves_text}
 use Rattle.time_claims.specs.of_exec_claims.declared.status.TheConstants.{TOO_MANY_MOVES}
-use Rattle.listing_code.specs.of_call_answers.Answers.{status_of, stop_status, told_of}
-use Rattle.listing_code.specs.of_call_answers.declared.answers.Answer.{Answer}
-use Rattle.listing_code.specs.of_call_answers.declared.answers.Answer.TheVariants as answer
-use Rattle.listing_code.specs.of_call_answers.declared.answers.Stop.{Stop}
-use Rattle.listing_code.specs.of_call_answers.declared.answers.Stop.TheVariants as stop
-use Rattle.listing_code.proofs.of_grid_call.RunLemmas.{TurnsCount}
+use Rattle.exec_call.specs.of_mean_call.Answers.{status_of, stop_status, told_of}
+use Rattle.exec_call.specs.of_mean_call.declared.answers.Answer.{Answer}
+use Rattle.exec_call.specs.of_mean_call.declared.answers.Answer.TheVariants as answer
+use Rattle.exec_call.specs.of_mean_call.declared.answers.Stop.{Stop}
+use Rattle.exec_call.specs.of_mean_call.declared.answers.Stop.TheVariants as stop
+use Rattle.exec_call.proofs.RunLemmas.{TurnsCount}
 use Rattle.time_claims.specs.Answer.{TellsTime}
 use Rattle.time_call.specs.Work.{HasTimeText, IsEndTold, IsPutAs, IsTimedOn, TakesTold, TimeRunCause, cut_in}
 use Rattle.time_call.specs.Work.IsPutAs.{whole, cut, wanting}

@@ -5,7 +5,7 @@ use Rattle.zpl_io.specs.Sink.{Takes, TakesFront}
 use Rattle.node_form.specs.declared.tables.Tables.{Tables}
 use Rattle.grid_meaning.specs.Grid.{processors}
 use Rattle.grid_runs.specs.Run.{Run}
-use Rattle.listing_code.specs.of_grid_sim.declared.counts.Counts.{Counts}
+use Rattle.exec_call.specs.of_grid_sim.declared.counts.Counts.{Counts}
 use Rattle.call_claims.specs.Call.{Call, call_of}
 use Rattle.call_claims.specs.Command.{Asked, IsTime, latency_of}
 use Rattle.call_claims.specs.Decided.{IsDecided}
@@ -19,23 +19,23 @@ use Rattle.time_claims.specs.of_exec_claims.Cause.RunCause.{done, trap, turn_lim
 use Rattle.time_claims.specs.of_exec_claims.Cause.TextCause.{too_long, unreadable, work as of_text}
 use Rattle.time_claims.specs.of_exec_claims.Cause.ListingCause.{bad_line, bad_table, listed}
 use Rattle.time_claims.specs.of_exec_claims.Decided.{HasRun}
-use Rattle.listing_code.specs.of_call_answers.Answers.{IsUnrun, status_of, told_of}
-use Rattle.listing_code.specs.of_call_answers.Told.{IsAnswerOf}
-use Rattle.listing_code.specs.of_call_answers.Work.{execution_in, ran_of}
-use Rattle.listing_code.specs.of_call_answers.declared.answers.Answer.{Answer}
-use Rattle.listing_code.specs.of_call_answers.declared.refusals.BuildFault.{BuildFault}
-use Rattle.listing_code.specs.of_call_answers.declared.refusals.BuildFault.TheVariants as unbuilt
-use Rattle.listing_code.specs.of_call_answers.declared.answers.Answer.TheVariants as answer
-use Rattle.listing_code.specs.of_call_answers.declared.answers.Stop.TheVariants as stop
-use Rattle.listing_code.specs.of_call_answers.declared.work.Work.{Work}
-use Rattle.listing_code.proofs.of_call_answers.AnswerLemmas.{kind_of}
-use Rattle.listing_code.proofs.of_call_answers.AnswerLemmas.Kind.{is_failed, is_wanting, is_decided}
-use Rattle.listing_code.proofs.of_call_answers.CallLemmas.{told_as, work_other}
-use Rattle.listing_code.specs.Code.{ReadsNone}
-use Rattle.listing_code.proofs.CodeLemmas.{with_work}
-use Rattle.listing_code.proofs.of_grid_call.of_exec_claims.CheckLemmas.{passes_unasked}
-use Rattle.listing_code.specs.of_grid_call.Work.{HasNoTurns, IsOrderOf}
-use Rattle.listing_code.proofs.of_grid_call.WorkLemmas.{cause_back, none_counted, order_back}
+use Rattle.exec_call.specs.of_mean_call.Answers.{IsUnrun, status_of, told_of}
+use Rattle.exec_call.specs.of_mean_call.Told.{IsAnswerOf}
+use Rattle.exec_call.specs.of_mean_call.AnswerWork.{execution_in, ran_of}
+use Rattle.exec_call.specs.of_mean_call.declared.answers.Answer.{Answer}
+use Rattle.exec_call.specs.of_mean_call.declared.refusals.BuildFault.{BuildFault}
+use Rattle.exec_call.specs.of_mean_call.declared.refusals.BuildFault.TheVariants as unbuilt
+use Rattle.exec_call.specs.of_mean_call.declared.answers.Answer.TheVariants as answer
+use Rattle.exec_call.specs.of_mean_call.declared.answers.Stop.TheVariants as stop
+use Rattle.exec_call.specs.of_mean_call.declared.work.Work.{Work}
+use Rattle.exec_call.proofs.of_mean_call.AnswerLemmas.{kind_of}
+use Rattle.exec_call.proofs.of_mean_call.AnswerLemmas.Kind.{is_failed, is_wanting, is_decided}
+use Rattle.exec_call.proofs.of_mean_call.CallLemmas.{told_as, work_other}
+use Rattle.exec_call.specs.Code.{ReadsNone}
+use Rattle.exec_call.proofs.CodeLemmas.{with_work}
+use Rattle.exec_call.proofs.of_exec_claims.CheckLemmas.{passes_unasked}
+use Rattle.exec_call.specs.CodeWork.{HasNoTurns, IsOrderOf}
+use Rattle.exec_call.proofs.CodeWorkLemmas.{cause_back, none_counted, order_back}
 use Rattle.time_claims.specs.Answer.{IsOverStatus, IsReadFor, TakesOutput, TakesTime, TakesTimeFront, TellsTime}
 use Rattle.time_claims.specs.Cause.{Cause, IsRunEnd, TimeCause}
 use Rattle.time_claims.specs.Cause.Cause.{time}

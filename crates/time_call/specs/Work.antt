@@ -12,9 +12,9 @@ use Rattle.zpl_nums.specs.declared.ends.End.TheVariants as ending
 use Rattle.zpl_io.specs.Sink.{Takes, TakesFront}
 use Rattle.node_form.specs.declared.tables.Tables.{Tables}
 use Rattle.grid_runs.specs.Run.{Run, GoesOnTo, grid_at, turns_in}
-use Rattle.listing_code.specs.of_grid_sim.declared.counts.Counts.{Counts}
-use Rattle.listing_code.specs.of_grid_sim.declared.faults.SimFault.{SimFault}
-use Rattle.listing_code.specs.of_grid_sim.declared.faults.SimFault.TheVariants as fault
+use Rattle.exec_call.specs.of_grid_sim.declared.counts.Counts.{Counts}
+use Rattle.exec_call.specs.of_grid_sim.declared.faults.SimFault.{SimFault}
+use Rattle.exec_call.specs.of_grid_sim.declared.faults.SimFault.TheVariants as fault
 use Rattle.time_claims.specs.of_grid_time.Timed.{IsPastMoves, moves_at}
 use Rattle.time_claims.specs.of_grid_time.declared.faults.TimeFault.{TimeFault}
 use Rattle.time_claims.specs.of_grid_time.declared.faults.TimeFault.TheVariants as time
@@ -27,14 +27,14 @@ use Rattle.time_claims.specs.of_exec_claims.Answer.{IsListedIn}
 use Rattle.time_claims.specs.of_exec_claims.Cause.{RunCause, run_of}
 use Rattle.time_claims.specs.of_exec_claims.Texts.{too_many_moves_text}
 use Rattle.time_claims.specs.of_exec_claims.declared.status.TheConstants.{TOO_MANY_MOVES}
-use Rattle.listing_code.specs.of_call_answers.Answers.{IsUnrun, status_of, told_of}
-use Rattle.listing_code.specs.of_call_answers.declared.answers.Answer.{Answer}
-use Rattle.listing_code.specs.of_call_answers.declared.answers.Answer.TheVariants as answer
-use Rattle.listing_code.specs.of_call_answers.declared.answers.Stop.{Stop}
-use Rattle.listing_code.specs.of_call_answers.declared.answers.Stop.TheVariants as stop
-use Rattle.listing_code.specs.of_call_answers.declared.work.Work.{Work}
-use Rattle.listing_code.specs.of_grid_call.Work.{HasNoTurns, IsOrderOf, OrderFails}
-use Rattle.listing_code.specs.Code.{ReadsNone}
+use Rattle.exec_call.specs.of_mean_call.Answers.{IsUnrun, status_of, told_of}
+use Rattle.exec_call.specs.of_mean_call.declared.answers.Answer.{Answer}
+use Rattle.exec_call.specs.of_mean_call.declared.answers.Answer.TheVariants as answer
+use Rattle.exec_call.specs.of_mean_call.declared.answers.Stop.{Stop}
+use Rattle.exec_call.specs.of_mean_call.declared.answers.Stop.TheVariants as stop
+use Rattle.exec_call.specs.of_mean_call.declared.work.Work.{Work}
+use Rattle.exec_call.specs.CodeWork.{HasNoTurns, IsOrderOf, OrderFails}
+use Rattle.exec_call.specs.Code.{ReadsNone}
 use Rattle.time_claims.specs.Answer.{IsTimeText, TellsTime}
 
 -- ---- a table's text

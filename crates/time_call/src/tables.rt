@@ -8,8 +8,8 @@ ghost use Rattle.grid_timetable.specs.Trace.{IsSomeTable};
 ghost use Rattle.time_claims.specs.Answer.{IsTimeText};
 ghost use Rattle.time_call.specs.Work.{IsPutAs};
 
+use exec_call::mean_call::{Answer, Stop};
 use grid_timetable::Table;
-use listing_code::call_answers::{Answer, Stop};
 use std::alloc::{AllocError, Global};
 use time_text::time_text;
 use zpl_io::{PutFailed, Sink, put_piece};

@@ -15,12 +15,12 @@ use Rattle.call_claims.specs.Source.{Source}
 use Rattle.call_claims.specs.Texts.{too_long_text, unreadable_text}
 use Rattle.call_claims.specs.declared.status.TheConstants.{DONE, TOO_LONG, UNREADABLE}
 use Rattle.zpl_text.specs.declared.TheConstants.{MOST_SOURCE}
-use Rattle.mean_call.specs.of_call_answers.Answers.{status_of, told_of}
-use Rattle.mean_call.specs.of_call_answers.Fetched.{IsNoText}
+use Rattle.mean_call.specs.Answers.{status_of, told_of}
+use Rattle.mean_call.specs.Fetched.{IsNoText}
 use Rattle.gen_call.specs.of_text_code.Refusals.{IsUncoded}
 use Rattle.top_call.specs.Work.{HasNoCode}
-use Rattle.mean_call.specs.of_call_answers.declared.answers.Answer.{Answer}
-use Rattle.mean_call.specs.of_call_answers.declared.answers.Answer.TheVariants as answer
+use Rattle.mean_call.specs.declared.answers.Answer.{Answer}
+use Rattle.mean_call.specs.declared.answers.Answer.TheVariants as answer
 
 -- ---- a fault of a text is told of its file
 pub no_code : (call : Call) (file : List ℕ) (build : Build) (source : Source call file)

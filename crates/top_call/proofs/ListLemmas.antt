@@ -14,13 +14,13 @@ use Rattle.call_claims.specs.Decided.{IsDecided}
 use Rattle.call_claims.specs.Execution.{Execution, HasNoRun}
 use Rattle.gen_call.specs.of_list_claims.Listing.{IsMadeOf, TakesListing, TakesListingFront}
 use Rattle.call_claims.specs.declared.status.TheConstants.{DONE}
-use Rattle.mean_call.specs.of_call_answers.Answers.{status_of, told_of}
-use Rattle.mean_call.specs.of_call_answers.Work.{execution_in, no_counts}
+use Rattle.mean_call.specs.Answers.{status_of, told_of}
+use Rattle.mean_call.specs.AnswerWork.{execution_in, no_counts}
 use Rattle.top_call.specs.Work.{HasNoCode, IsListOn, IsOfListing}
-use Rattle.mean_call.specs.of_call_answers.declared.answers.Answer.{Answer}
-use Rattle.mean_call.specs.of_call_answers.declared.answers.Answer.TheVariants as answer
-use Rattle.mean_call.specs.of_call_answers.declared.answers.Stop.TheVariants as stop
-use Rattle.mean_call.specs.of_call_answers.declared.work.Work.{Work}
+use Rattle.mean_call.specs.declared.answers.Answer.{Answer}
+use Rattle.mean_call.specs.declared.answers.Answer.TheVariants as answer
+use Rattle.mean_call.specs.declared.answers.Stop.TheVariants as stop
+use Rattle.mean_call.specs.declared.work.Work.{Work}
 use Rattle.top_call.proofs.FileLemmas.{none_caused}
 
 pub no_turns : (work : Work) → work.counts ≡ no_counts → work.counts.turns ≡ 0

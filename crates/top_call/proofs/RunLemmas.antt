@@ -9,16 +9,16 @@ use Rattle.call_claims.specs.Command.{Asked, IsRun, build_of}
 use Rattle.call_claims.specs.Decided.{IsDecided}
 use Rattle.call_claims.specs.Execution.{HasNoCounts}
 use Rattle.mean_call.specs.of_exec_claims.Cause.{OrderFileCause}
-use Rattle.gen_call.specs.of_grid_call.Work.{IsCodeWork}
-use Rattle.gen_call.specs.of_grid_call.Work.IsCodeWork.{unordered, ran}
-use Rattle.gen_call.proofs.of_grid_call.WorkLemmas.{none_counted, of_code, run_counted}
+use Rattle.gen_call.specs.of_exec_call.CodeWork.{IsCodeWork}
+use Rattle.gen_call.specs.of_exec_call.CodeWork.IsCodeWork.{unordered, ran}
+use Rattle.gen_call.proofs.of_exec_call.CodeWorkLemmas.{none_counted, of_code, run_counted}
 use Rattle.gen_call.specs.of_run_claims.Answer.{IsMadeFor, IsOutputCut, TakesPrinted}
 use Rattle.gen_call.specs.of_run_claims.Cause.{Cause}
 use Rattle.gen_call.specs.of_run_claims.Cause.Cause.{run}
-use Rattle.mean_call.specs.of_call_answers.Answers.{status_of, told_of}
-use Rattle.mean_call.specs.of_call_answers.Work.{execution_in, ran_of}
-use Rattle.mean_call.specs.of_call_answers.declared.answers.Answer.TheVariants as answer
-use Rattle.mean_call.specs.of_call_answers.declared.work.Work.{Work}
+use Rattle.mean_call.specs.Answers.{status_of, told_of}
+use Rattle.mean_call.specs.AnswerWork.{execution_in, ran_of}
+use Rattle.mean_call.specs.declared.answers.Answer.TheVariants as answer
+use Rattle.mean_call.specs.declared.work.Work.{Work}
 use Rattle.top_call.specs.Work.{IsRunWork}
 use Rattle.top_call.specs.Work.IsRunWork.{unmade, made}
 use Rattle.top_call.proofs.FileLemmas.{none_caused}

@@ -6,11 +6,11 @@ use Rattle.call_claims.specs.Answer.{CountsFetches}
 use Rattle.call_claims.specs.Stream.{Stream}
 use Rattle.call_claims.specs.Texts.{usage_text}
 use Rattle.call_claims.specs.declared.status.TheConstants.{PUT_FAILED, UNREADABLE, USAGE}
-use Rattle.mean_call.specs.of_call_answers.Answers.{status_of, told_of, NeedsNoMemory}
-use Rattle.mean_call.specs.of_call_answers.Told.{IsAnswerOf}
-use Rattle.mean_call.specs.of_call_answers.declared.answers.Answer.{Answer}
-use Rattle.mean_call.specs.of_call_answers.declared.answers.Answer.TheVariants as answer
-use Rattle.mean_call.proofs.of_call_answers.AnswerLemmas.{failed_or}
+use Rattle.mean_call.specs.Answers.{status_of, told_of, NeedsNoMemory}
+use Rattle.mean_call.specs.Told.{IsAnswerOf}
+use Rattle.mean_call.specs.declared.answers.Answer.{Answer}
+use Rattle.mean_call.specs.declared.answers.Answer.TheVariants as answer
+use Rattle.mean_call.proofs.AnswerLemmas.{failed_or}
 
 abbrev pub TellsUsage : ℕ → Stream → Type 0
 TellsUsage status errs = ((status ≡ USAGE) × Takes errs.before usage_text errs.after)

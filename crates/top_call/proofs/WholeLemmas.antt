@@ -16,10 +16,10 @@ use Rattle.call_claims.specs.Stream.{Stream}
 use Rattle.call_claims.specs.declared.ran.Ran.{Ran}
 use Rattle.call_claims.specs.declared.status.TheConstants.{NO_MEMORY, PUT_FAILED, UNREADABLE}
 use Rattle.call_claims.proofs.OneLemmas.{of_given}
-use Rattle.call_words.specs.Reading.{IsRead}
-use Rattle.call_words.specs.declared.commands.Command.{Command}
+use Rattle.call_claims.specs.Reading.{IsRead}
+use Rattle.call_claims.specs.declared.commands.Command.{Command}
 use Rattle.mean_call.specs.Call.{HasMeant, IsMeant}
-use Rattle.mean_call.specs.of_call_answers.Stops.{CallStopsAtFault}
+use Rattle.mean_call.specs.Stops.{CallStopsAtFault}
 use Rattle.mean_call.specs.of_mean_claims.Whole.{CanMean}
 use Rattle.mean_call.proofs.of_exec_claims.OneCause.{same_order}
 use Rattle.time_call.specs.Call.{IsTimed}

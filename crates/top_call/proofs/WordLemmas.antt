@@ -3,9 +3,9 @@ use Rattle.std.proofs.Common.{◌≡◌, ◌≢◌, ℕ, ◌+◌, ◌*◌, List,
 use Rattle.call_claims.specs.Call.{Call}
 use Rattle.call_claims.specs.Stream.{Stream}
 use Rattle.call_claims.specs.declared.ran.Ran.{Ran}
-use Rattle.call_words.specs.Reading.{asked_in, IsRead}
-use Rattle.call_words.specs.declared.commands.Command.{Command}
-use Rattle.call_words.specs.declared.commands.Command.TheVariants as command
+use Rattle.call_claims.specs.Reading.{asked_in, IsRead}
+use Rattle.call_claims.specs.declared.commands.Command.{Command}
+use Rattle.call_claims.specs.declared.commands.Command.TheVariants as command
 use Rattle.check_call.specs.Call.{IsValidated}
 use Rattle.resume_call.specs.of_exec_call.Call.{IsExecuted}
 use Rattle.gen_call.specs.Call.{IsGenerated}

@@ -14,13 +14,13 @@ use Rattle.call_claims.specs.Command.{Asked, build_of}
 use Rattle.call_claims.specs.Decided.{IsDecided}
 use Rattle.call_claims.specs.Execution.{Execution, HasNoRun}
 use Rattle.gen_call.specs.of_list_claims.Listing.{IsMadeOf}
-use Rattle.gen_call.specs.of_grid_call.Work.{HasNoTurns, IsCodeWork}
-use Rattle.mean_call.specs.of_call_answers.Answers.{status_of, told_of}
-use Rattle.mean_call.specs.of_call_answers.Work.{execution_in}
-use Rattle.mean_call.specs.of_call_answers.declared.answers.Answer.{Answer}
-use Rattle.mean_call.specs.of_call_answers.declared.answers.Answer.TheVariants as answer
-use Rattle.mean_call.specs.of_call_answers.declared.answers.Stop.TheVariants as stop
-use Rattle.mean_call.specs.of_call_answers.declared.work.Work.{Work}
+use Rattle.gen_call.specs.of_exec_call.CodeWork.{HasNoTurns, IsCodeWork}
+use Rattle.mean_call.specs.Answers.{status_of, told_of}
+use Rattle.mean_call.specs.AnswerWork.{execution_in}
+use Rattle.mean_call.specs.declared.answers.Answer.{Answer}
+use Rattle.mean_call.specs.declared.answers.Answer.TheVariants as answer
+use Rattle.mean_call.specs.declared.answers.Stop.TheVariants as stop
+use Rattle.mean_call.specs.declared.work.Work.{Work}
 
 -- ---- no code: the answer has its cause, unless memory was wanting
 abbrev pub HasNoCode : Call → List ℕ → Build → Answer → Type 0

@@ -5,14 +5,13 @@ ghost use Rattle.call_claims.specs.Answer.{CountsFetches, CountsPuts};
 ghost use Rattle.call_claims.specs.Call.{call_of};
 ghost use Rattle.call_claims.specs.Stream.{stream_of};
 ghost use Rattle.call_claims.specs.declared.status.TheConstants.{USAGE};
-ghost use Rattle.call_words.specs.Reading.{IsRead};
-ghost use Rattle.mean_call.specs.of_call_answers.Stops.{CallStopsAtFault};
+ghost use Rattle.call_claims.specs.Reading.{IsRead};
+ghost use Rattle.mean_call.specs.Stops.{CallStopsAtFault};
 ghost use Rattle.top_call.specs.Done.{IsDone};
 
 use crate::lists::list;
 use crate::runs::run;
-use call_claims::Ran;
-use call_words::Command;
+use call_claims::{Command, Ran};
 use check_call::check;
 use gen_call::generate;
 use mean_call::mean;

@@ -6,13 +6,13 @@ ghost use Rattle.code_layout.specs.Room.{HasRoom};
 ghost use Rattle.call_claims.specs.Call.{call_of};
 ghost use Rattle.call_claims.specs.Command.{build_of};
 ghost use Rattle.gen_call.specs.of_list_claims.Listing.{IsMadeOf};
-ghost use Rattle.mean_call.specs.of_call_answers.Fetched.{FailsToFetch};
-ghost use Rattle.call_words.specs.Reading.{asked_in};
+ghost use Rattle.mean_call.specs.Fetched.{FailsToFetch};
+ghost use Rattle.call_claims.specs.Reading.{asked_in};
 ghost use Rattle.top_call.specs.Work.{HasNoCode};
 
-use call_words::Asked;
+use call_claims::Asked;
 use gen_call::text_code::code_of_text;
-use mean_call::call_answers::{Answer, text_of_file};
+use mean_call::{Answer, text_of_file};
 use node_form::NodeProgram;
 use std::alloc::Global;
 use zpl_io::Files;

@@ -12,4 +12,4 @@ mod runs;
 pub use call::zplgrid;
 pub use call_claims::Ran;
 pub use laws::kept_files_are_sure;
-pub use mean_call::call_answers;
+pub use mean_call;

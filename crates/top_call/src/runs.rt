@@ -10,18 +10,17 @@ ghost use Rattle.call_claims.specs.Command.{IsRun};
 ghost use Rattle.call_claims.specs.Met.{CanBeMet};
 ghost use Rattle.call_claims.specs.Stream.{stream_of};
 ghost use Rattle.call_claims.specs.declared.status.TheConstants.{UNREADABLE, USAGE};
-ghost use Rattle.mean_call.specs.of_call_answers.Answers.{status_of};
-ghost use Rattle.mean_call.specs.of_call_answers.Stops.{CallStopsAtFault};
-ghost use Rattle.call_words.specs.Reading.{asked_in};
+ghost use Rattle.mean_call.specs.Answers.{status_of};
+ghost use Rattle.mean_call.specs.Stops.{CallStopsAtFault};
+ghost use Rattle.call_claims.specs.Reading.{asked_in};
 ghost use Rattle.top_call.specs.Call.{IsRan};
 ghost use Rattle.top_call.specs.Work.{IsRunWork};
 
 use crate::fetches::code_of_file;
-use call_claims::Ran;
-use call_words::FileCommand;
-use gen_call::grid_call::run_code;
+use call_claims::{FileCommand, Ran};
+use gen_call::exec_call::run_code;
 use gen_call::run_claims::{run_causes_are_exact, runs_print_what_is_meant};
-use mean_call::call_answers::{Answer, Work, answered};
+use mean_call::{Answer, Work, answered};
 use std::alloc::Global;
 use zpl_io::{Files, Sink};
 

@@ -20,14 +20,14 @@ use Rattle.grid_meaning.specs.Turn.{Turn, act, fed}
 use Rattle.node_stages.specs.Stage.{staged}
 use Rattle.node_stages.specs.declared.stages.Stage.{Stage}
 use Rattle.node_stages.specs.declared.stages.Stage.TheVariants as stage
-use Rattle.listing_code.specs.of_row_turn.Placed.{IsAtRow}
-use Rattle.listing_code.specs.of_row_turn.Together.{IsTogether, OfRow}
-use Rattle.listing_code.proofs.of_row_turn.RecordLemmas.{is_row, of_row}
-use Rattle.listing_code.specs.of_grid_sim.Simulation.{IsTold, Simulation, counts_of, links_of, receiver_in, sender_in, turn_given, turn_in, turned_by}
-use Rattle.listing_code.specs.of_grid_sim.declared.counts.Counts.{Counts}
-use Rattle.listing_code.specs.of_grid_sim.declared.turns.Told.{Told}
-use Rattle.listing_code.specs.of_grid_sim.declared.turns.Turned.{Turned}
-use Rattle.listing_code.specs.of_grid_sim.declared.turns.Turned.TheVariants as turned
+use Rattle.exec_call.specs.of_row_turn.Placed.{IsAtRow}
+use Rattle.exec_call.specs.of_row_turn.Together.{IsTogether, OfRow}
+use Rattle.exec_call.proofs.of_row_turn.RecordLemmas.{is_row, of_row}
+use Rattle.exec_call.specs.of_grid_sim.Simulation.{IsTold, Simulation, counts_of, links_of, receiver_in, sender_in, turn_given, turn_in, turned_by}
+use Rattle.exec_call.specs.of_grid_sim.declared.counts.Counts.{Counts}
+use Rattle.exec_call.specs.of_grid_sim.declared.turns.Told.{Told}
+use Rattle.exec_call.specs.of_grid_sim.declared.turns.Turned.{Turned}
+use Rattle.exec_call.specs.of_grid_sim.declared.turns.Turned.TheVariants as turned
 use Rattle.trace_call.proofs.NameLemmas.{named_as}
 use Rattle.trace_call.specs.Line.{line_at, line_of, line_with, move_text, turn_text, wait_text, words_in, words_of}
 use Rattle.trace_call.specs.Stages.{IsHeadOf, NamesAs, stage_at, stage_running}

@@ -7,16 +7,16 @@ use Rattle.grid_meaning.specs.Local.{processors}
 use Rattle.grid_meaning.specs.Order.{turn_number}
 use Rattle.grid_runs.specs.Run.{IsStopped, IsStuckAt, Run, grid_at, next_processor}
 use Rattle.grid_runs.proofs.TurnLemmas.{turns_at}
-use Rattle.listing_code.specs.of_grid_sim.Run.{IsRun, IsStuckOrIdle, run_in, run_to}
-use Rattle.listing_code.specs.of_grid_sim.Simulation.{IsStuckTurn, Simulation, turn_in}
-use Rattle.listing_code.specs.of_grid_sim.Stop.{IsAtEnd, IsStop, IsTurnAt}
-use Rattle.listing_code.specs.of_grid_sim.StuckKind.{StuckKind as Kind}
-use Rattle.listing_code.specs.of_grid_sim.StuckKind.TheVariants as kind
-use Rattle.listing_code.specs.of_grid_sim.Turned.{kind_told}
-use Rattle.listing_code.specs.of_grid_sim.declared.faults.SimFault.{SimFault}
-use Rattle.listing_code.specs.of_grid_sim.declared.faults.SimFault.TheVariants as fault
-use Rattle.listing_code.specs.of_grid_sim.declared.runs.Rounds.{Rounds}
-use Rattle.listing_code.proofs.of_grid_sim.RunLemmas.{HasGiven, given_more, given_none, run_limited, run_refused, run_stopped}
+use Rattle.exec_call.specs.of_grid_sim.Run.{IsRun, IsStuckOrIdle, run_in, run_to}
+use Rattle.exec_call.specs.of_grid_sim.Simulation.{IsStuckTurn, Simulation, turn_in}
+use Rattle.exec_call.specs.of_grid_sim.Stop.{IsAtEnd, IsStop, IsTurnAt}
+use Rattle.exec_call.specs.of_grid_sim.StuckKind.{StuckKind as Kind}
+use Rattle.exec_call.specs.of_grid_sim.StuckKind.TheVariants as kind
+use Rattle.exec_call.specs.of_grid_sim.Turned.{kind_told}
+use Rattle.exec_call.specs.of_grid_sim.declared.faults.SimFault.{SimFault}
+use Rattle.exec_call.specs.of_grid_sim.declared.faults.SimFault.TheVariants as fault
+use Rattle.exec_call.specs.of_grid_sim.declared.runs.Rounds.{Rounds}
+use Rattle.exec_call.proofs.of_grid_sim.RunLemmas.{HasGiven, given_more, given_none, run_limited, run_refused, run_stopped}
 use Rattle.trace_call.specs.Line.{line_of}
 use Rattle.trace_call.specs.Telling.{HasFlushed, IsBuffered, IsLined, IsPutLast, WasGiven}
 use Rattle.trace_call.specs.Telling.IsPutLast.{cut, whole}

@@ -9,11 +9,11 @@ use Rattle.node_form.specs.declared.tables.Tables.{Tables}
 use Rattle.grid_meaning.specs.Grid.{EndsAs, processors, start_grid}
 use Rattle.grid_order.specs.Reading.{reading}
 use Rattle.grid_runs.specs.Run.{GoesOnTo, Run, grid_at}
-use Rattle.listing_code.specs.of_grid_sim.Run.{EndsRun, IsRun, TakesRun, items_taken, run_to}
-use Rattle.listing_code.specs.of_grid_sim.Simulation.{Simulation, counts_of}
-use Rattle.listing_code.specs.of_grid_sim.declared.counts.Counts.{Counts}
-use Rattle.listing_code.specs.of_grid_sim.declared.faults.SimFault.{SimFault}
-use Rattle.listing_code.specs.of_grid_sim.declared.faults.SimFault.TheVariants as fault
+use Rattle.exec_call.specs.of_grid_sim.Run.{EndsRun, IsRun, TakesRun, items_taken, run_to}
+use Rattle.exec_call.specs.of_grid_sim.Simulation.{Simulation, counts_of}
+use Rattle.exec_call.specs.of_grid_sim.declared.counts.Counts.{Counts}
+use Rattle.exec_call.specs.of_grid_sim.declared.faults.SimFault.{SimFault}
+use Rattle.exec_call.specs.of_grid_sim.declared.faults.SimFault.TheVariants as fault
 use Rattle.call_claims.specs.Call.{Call, call_of}
 use Rattle.call_claims.specs.Command.{Asked, IsExec}
 use Rattle.call_claims.specs.Decided.{IsDecided}
@@ -29,18 +29,18 @@ use Rattle.exec_claims.specs.Cause.ListingCause.{listed}
 use Rattle.exec_claims.specs.Cause.OrderCause.{ran as under_order}
 use Rattle.exec_claims.specs.Cause.RunCause.{done, trap, turn_limit, stuck, idle}
 use Rattle.exec_claims.specs.Cause.TextCause.{work as of_text}
-use Rattle.listing_code.specs.of_call_answers.Answers.{status_of, told_of}
-use Rattle.listing_code.specs.of_call_answers.Told.{IsAnswerOf}
-use Rattle.listing_code.specs.of_call_answers.Work.{execution_in, no_counts, ran_of}
-use Rattle.listing_code.specs.of_call_answers.declared.answers.Answer.{Answer}
-use Rattle.listing_code.specs.of_call_answers.declared.answers.Answer.TheVariants as answer
-use Rattle.listing_code.specs.of_call_answers.declared.work.Work.{Work}
-use Rattle.listing_code.specs.of_grid_call.Ended.{answer_in, counts_for}
-use Rattle.listing_code.specs.of_grid_call.Work.{IsOrderOf, IsRunOn}
-use Rattle.listing_code.proofs.CodeLemmas.{with_work}
-use Rattle.listing_code.proofs.of_call_answers.CallLemmas.{told_as, work_other}
-use Rattle.listing_code.proofs.of_grid_call.RunLemmas.{TurnsCount, run_is_on}
-use Rattle.listing_code.proofs.of_grid_call.WorkLemmas.{cause_back, none_counted, order_back}
+use Rattle.exec_call.specs.of_mean_call.Answers.{status_of, told_of}
+use Rattle.exec_call.specs.of_mean_call.Told.{IsAnswerOf}
+use Rattle.exec_call.specs.of_mean_call.AnswerWork.{execution_in, no_counts, ran_of}
+use Rattle.exec_call.specs.of_mean_call.declared.answers.Answer.{Answer}
+use Rattle.exec_call.specs.of_mean_call.declared.answers.Answer.TheVariants as answer
+use Rattle.exec_call.specs.of_mean_call.declared.work.Work.{Work}
+use Rattle.exec_call.specs.Ended.{answer_in, counts_for}
+use Rattle.exec_call.specs.CodeWork.{IsOrderOf, IsRunOn}
+use Rattle.exec_call.proofs.CodeLemmas.{with_work}
+use Rattle.exec_call.proofs.of_mean_call.CallLemmas.{told_as, work_other}
+use Rattle.exec_call.proofs.RunLemmas.{TurnsCount, run_is_on}
+use Rattle.exec_call.proofs.CodeWorkLemmas.{cause_back, none_counted, order_back}
 use Rattle.trace_call.specs.Call.{TakesAs, TakesByStatus}
 use Rattle.trace_call.specs.Trace.{EndsBy, IsTracedRun, TakesLines, TakesSome, TakesTrace}
 use Rattle.trace_call.specs.Work.{IsCodeWork, IsTracedOn, IsWorkOn, TakesTold}

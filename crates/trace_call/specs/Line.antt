@@ -14,7 +14,7 @@ use Rattle.grid_meaning.specs.Action.{Action}
 use Rattle.grid_meaning.specs.Grid.{Grid, next_turn, sent_in}
 use Rattle.grid_meaning.specs.Local.{Local, processors}
 use Rattle.grid_meaning.specs.Turn.{Turn, act}
-use Rattle.listing_code.specs.of_grid_sim.Simulation.{receiver_in, sender_in}
+use Rattle.exec_call.specs.of_grid_sim.Simulation.{receiver_in, sender_in}
 use Rattle.exec_claims.specs.Texts.{kind_name}
 
 -- ---- what a turn comes to

@@ -17,7 +17,7 @@ use Rattle.grid_meaning.specs.Rows as rows
 use Rattle.node_stages.specs.Stage.{staged}
 use Rattle.node_stages.specs.declared.stages.Stage.{Stage}
 use Rattle.node_stages.specs.declared.stages.Stage.TheVariants as stage
-use Rattle.listing_code.specs.of_row_turn.Together.{NamesOne}
+use Rattle.exec_call.specs.of_row_turn.Together.{NamesOne}
 use Rattle.trace_call.specs.Line.{words_of}
 
 -- ---- where a processor is

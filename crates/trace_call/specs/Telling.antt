@@ -11,13 +11,13 @@ use Rattle.zpl_nums.specs.declared.ends.End.{End}
 use Rattle.node_stages.specs.declared.stages.Stage.{Stage}
 use Rattle.node_stages.specs.declared.stages.Stage.TheVariants as stage
 use Rattle.grid_runs.specs.Run.{Run}
-use Rattle.listing_code.specs.of_grid_sim.Simulation.{IsStuckTurn, Simulation, turn_given, turn_in, turned_by}
-use Rattle.listing_code.specs.of_grid_sim.declared.faults.SimFault.{SimFault}
-use Rattle.listing_code.specs.of_grid_sim.declared.faults.SimFault.TheVariants as fault
-use Rattle.listing_code.specs.of_grid_sim.declared.turns.Told.{Told}
-use Rattle.listing_code.specs.of_grid_sim.declared.turns.Turned.{Turned}
-use Rattle.listing_code.specs.of_grid_sim.declared.turns.Turned.TheVariants as turned
-use Rattle.listing_code.specs.of_call_answers.Answers.{kind_text}
+use Rattle.exec_call.specs.of_grid_sim.Simulation.{IsStuckTurn, Simulation, turn_given, turn_in, turned_by}
+use Rattle.exec_call.specs.of_grid_sim.declared.faults.SimFault.{SimFault}
+use Rattle.exec_call.specs.of_grid_sim.declared.faults.SimFault.TheVariants as fault
+use Rattle.exec_call.specs.of_grid_sim.declared.turns.Told.{Told}
+use Rattle.exec_call.specs.of_grid_sim.declared.turns.Turned.{Turned}
+use Rattle.exec_call.specs.of_grid_sim.declared.turns.Turned.TheVariants as turned
+use Rattle.exec_call.specs.of_mean_call.Answers.{kind_text}
 use Rattle.trace_call.specs.Line.{line_of}
 use Rattle.trace_call.specs.Trace.{trace_of}
 use Rattle.trace_call.specs.declared.events.Event.{Event}

@@ -9,10 +9,10 @@ use Rattle.zpl_nums.specs.declared.ends.End.{End}
 use Rattle.zpl_io.specs.Sink.{Takes, TakesFront}
 use Rattle.grid_meaning.specs.Action.{StuckKind}
 use Rattle.grid_runs.specs.Run.{Run, GoesOnTo, IsStuckAt, grid_at, next_processor, turns_in}
-use Rattle.listing_code.specs.of_grid_sim.Run.{EndsRun, run_to}
-use Rattle.listing_code.specs.of_grid_sim.Simulation.{Simulation}
-use Rattle.listing_code.specs.of_grid_sim.declared.faults.SimFault.{SimFault}
-use Rattle.listing_code.specs.of_grid_sim.declared.faults.SimFault.TheVariants as fault
+use Rattle.exec_call.specs.of_grid_sim.Run.{EndsRun, run_to}
+use Rattle.exec_call.specs.of_grid_sim.Simulation.{Simulation}
+use Rattle.exec_call.specs.of_grid_sim.declared.faults.SimFault.{SimFault}
+use Rattle.exec_call.specs.of_grid_sim.declared.faults.SimFault.TheVariants as fault
 use Rattle.trace_call.specs.Line.{line_of}
 
 -- ---- the lines of a run

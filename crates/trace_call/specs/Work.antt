@@ -7,18 +7,18 @@
 use Rattle.std.specs.Prelude.{◌≡◌, ℕ, ◌≤◌, Bool, List, Some, None}
 use Rattle.node_form.specs.declared.tables.Tables.{Tables}
 use Rattle.grid_runs.specs.Run.{Run, GoesOnTo, grid_at, turns_in}
-use Rattle.listing_code.specs.of_grid_sim.declared.counts.Counts.{Counts}
+use Rattle.exec_call.specs.of_grid_sim.declared.counts.Counts.{Counts}
 use Rattle.call_claims.specs.Call.{Call}
 use Rattle.call_claims.specs.Command.{Asked}
 use Rattle.call_claims.specs.Decided.{IsDecided}
 use Rattle.exec_claims.specs.Answer.{IsListedIn}
 use Rattle.exec_claims.specs.Cause.{RunCause, run_of}
-use Rattle.listing_code.specs.of_call_answers.Answers.{status_of, told_of}
-use Rattle.listing_code.specs.of_call_answers.declared.answers.Answer.{Answer}
-use Rattle.listing_code.specs.of_call_answers.declared.answers.Answer.TheVariants as answer
-use Rattle.listing_code.specs.of_call_answers.declared.work.Work.{Work}
-use Rattle.listing_code.specs.of_grid_call.Work.{HasNoTurns, IsOrderOf, OrderFails}
-use Rattle.listing_code.specs.Code.{ReadsNone}
+use Rattle.exec_call.specs.of_mean_call.Answers.{status_of, told_of}
+use Rattle.exec_call.specs.of_mean_call.declared.answers.Answer.{Answer}
+use Rattle.exec_call.specs.of_mean_call.declared.answers.Answer.TheVariants as answer
+use Rattle.exec_call.specs.of_mean_call.declared.work.Work.{Work}
+use Rattle.exec_call.specs.CodeWork.{HasNoTurns, IsOrderOf, OrderFails}
+use Rattle.exec_call.specs.Code.{ReadsNone}
 use Rattle.trace_call.specs.Trace.{TakesLines, TakesSome, TakesTrace}
 
 -- ---- a run

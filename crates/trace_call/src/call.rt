@@ -9,19 +9,18 @@ ghost use Rattle.call_claims.specs.Command.{IsExec};
 ghost use Rattle.call_claims.specs.Met.{CanBeMet};
 ghost use Rattle.call_claims.specs.Stream.{stream_of};
 ghost use Rattle.call_claims.specs.declared.status.TheConstants.{UNREADABLE, USAGE};
-ghost use Rattle.listing_code.specs.of_call_answers.Answers.{status_of};
-ghost use Rattle.listing_code.specs.of_call_answers.Stops.{CallStopsAtFault};
-ghost use Rattle.call_words.specs.Reading.{asked_in};
+ghost use Rattle.exec_call.specs.of_mean_call.Answers.{status_of};
+ghost use Rattle.exec_call.specs.of_mean_call.Stops.{CallStopsAtFault};
+ghost use Rattle.call_claims.specs.Reading.{asked_in};
 ghost use Rattle.trace_call.specs.Call.{IsPlain, IsTraced};
 ghost use Rattle.trace_call.specs.Work.{IsWorkOn};
 
 use crate::codes::trace_code;
-use call_claims::Ran;
-use call_words::FileCommand;
+use call_claims::{FileCommand, Ran};
+use exec_call::fetch_code;
+use exec_call::mean_call::{Answer, Work, answered};
 use exec_claims::exec_statuses_are_exact;
-use listing_code::call_answers::{Answer, Work, answered};
-use listing_code::fetch_code;
-use listing_runs::listed_code_has_room;
+use node_text::listed_code_has_room;
 use std::alloc::Global;
 use zpl_io::{Files, Sink};
 

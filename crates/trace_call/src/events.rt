@@ -2,7 +2,7 @@
 ghost use Rattle.std.specs.Prelude.{◌≡◌};
 ghost use Rattle.trace_call.specs.Telling.{event_in, moved_in, waits_in};
 
-use listing_code::grid_sim::{StuckKind, Told, Turned};
+use exec_call::grid_sim::{StuckKind, Told, Turned};
 use node_stages::Stage;
 
 /// What a turn came to.

@@ -16,4 +16,4 @@ mod stages;
 mod turns;
 
 pub use call::trace;
-pub use listing_code::call_answers;
+pub use exec_call::mean_call;

@@ -1,13 +1,13 @@
 //! The lines of turns.
 ghost use Rattle.std.specs.Prelude.{◌≡◌, ◌++◌, OnOk};
 ghost use Rattle.std.specs.Fmt.{decimal};
-ghost use Rattle.listing_code.specs.of_call_answers.Answers.{kind_text};
+ghost use Rattle.exec_call.specs.of_mean_call.Answers.{kind_text};
 ghost use Rattle.trace_call.specs.Line.{line_with, word_of};
 ghost use Rattle.trace_call.specs.Telling.{event_text};
 
 use crate::events::Event;
+use exec_call::grid_sim::StuckKind;
 use itoa::Buffer;
-use listing_code::grid_sim::StuckKind;
 use std::alloc::AllocError;
 
 /// Appends the number in decimal digits, with no leading zero.

@@ -4,7 +4,7 @@ ghost use Rattle.zpl_io.specs.Faults.{CountsFaults};
 ghost use Rattle.zpl_io.specs.Sink.{StopsAtFault, TakesFront};
 ghost use Rattle.trace_call.specs.Telling.{HasFlushed, IsPutLast};
 
-use listing_code::grid_sim::SimFault;
+use exec_call::grid_sim::SimFault;
 use zpl_io::{PutFailed, Sink, put_piece, puts_join};
 use zpl_nums::End;
 

@@ -5,14 +5,14 @@ ghost use Rattle.zpl_io.specs.Sink.{StopsAtFault};
 ghost use Rattle.grid_meaning.specs.Local.{processors};
 ghost use Rattle.grid_meaning.specs.Order.{IsOrder};
 ghost use Rattle.grid_meaning.specs.Stored.{arrangement_of};
-ghost use Rattle.listing_code.specs.of_grid_sim.Run.{run_in};
+ghost use Rattle.exec_call.specs.of_grid_sim.Run.{run_in};
 ghost use Rattle.trace_call.specs.Trace.{IsTracedRun};
 
 use crate::puts::{put_last, put_many};
 use crate::turns::give_turn;
+use exec_call::grid_sim::{Rounds, Sim, SimFault, next_turn};
 use grid_layout::Layout;
 use grid_order::Order;
-use listing_code::grid_sim::{Rounds, Sim, SimFault, next_turn};
 use std::alloc::Global;
 use zpl_io::{Sink, puts_join};
 use zpl_nums::End;

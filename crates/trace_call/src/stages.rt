@@ -7,10 +7,10 @@ ghost use Rattle.node_local.specs.Workplace.{IsReady};
 ghost use Rattle.node_stages.specs.Stage.{staged};
 ghost use Rattle.trace_call.specs.Stages.{IsHeadOf, NamesOneOf, stage_at};
 
+use exec_call::grid_sim::Local;
+use exec_call::row_turn::{is_together, row_stage};
 use grid_layout::Layout;
 use grid_links::Links;
-use listing_code::grid_sim::Local;
-use listing_code::row_turn::{is_together, row_stage};
 use node_form::{NodeProgram, rows_fit};
 use node_stages::{Partners, Stage};
 

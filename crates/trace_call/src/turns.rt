@@ -7,8 +7,8 @@ ghost use Rattle.trace_call.specs.Telling.{IsLined};
 use crate::events::{Event, event_of};
 use crate::lines::append_line;
 use crate::stages::{stage_of, words_there};
+use exec_call::grid_sim::{Sim, SimFault};
 use grid_layout::Layout;
-use listing_code::grid_sim::{Sim, SimFault};
 use std::alloc::Global;
 use zpl_io::CountSink;
 

@@ -6,11 +6,11 @@ ghost use Rattle.zpl_bind.specs.Bound.{IsBoundBy};
 ghost use Rattle.zpl_bind.specs.Lists.{settings_of};
 ghost use Rattle.zpl_bound.specs.Faults.{Holds};
 
+use crate::copies::copies_within;
 use rank_types::Typed;
 use std::alloc::Global;
 use zpl_bind::{BindFault, Bound, Settings, bind_declarations};
 use zpl_binding::accepted_settings_bind;
-use zpl_copies::copies_within;
 
 /// What settings bind a program to: the values of configs and constants, the declared regions, the
 /// directions with the vectors in statements, and the storages of arrays, each in the order of the

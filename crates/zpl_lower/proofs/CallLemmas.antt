@@ -14,14 +14,14 @@ use Rattle.zpl_lowering.specs.Program.{Framed, body_code, call_code, in_call, ou
 use Rattle.zpl_lowering.specs.Program.{reads_round, routine_code}
 use Rattle.zpl_lowering.specs.Statement.{Calling, Given, Lowering, given_to, lowered_invoke}
 use Rattle.zpl_lowering.specs.Where.{Next, Numbers, SlotCurrents, Where}
-use Rattle.routine_walks.specs.Numbers.{number_of}
-use Rattle.routine_walks.specs.Texts as texts
-use Rattle.routine_walks.specs.Texts.{routine_of}
-use Rattle.routine_walks.specs.declared.texts.Routine.{Routine as CodeRoutine}
-use Rattle.routine_walks.proofs.TextLemmas.{found-within, named-none, named-some}
-use Rattle.array_frames.specs.Heads.{names_in, names_of}
-use Rattle.array_frames.specs.declared.heads.Head.{Head}
-use Rattle.array_places.specs.View.{setup_of}
+use Rattle.text_walks.specs.Numbers.{number_of}
+use Rattle.text_walks.specs.Texts as texts
+use Rattle.text_walks.specs.Texts.{routine_of}
+use Rattle.text_walks.specs.declared.routine_texts.Routine.{Routine as CodeRoutine}
+use Rattle.text_walks.proofs.RoutineTextLemmas.{found-within, named-none, named-some}
+use Rattle.interpreter_frames.specs.Heads.{names_in, names_of}
+use Rattle.interpreter_frames.specs.declared.heads.Head.{Head}
+use Rattle.interpreter_places.specs.View.{setup_of}
 use Rattle.lower_draft.specs.Call.{call_at, entered, left}
 use Rattle.lower_draft.specs.Drafted.{Drafted, grown}
 use Rattle.lower_draft.specs.declared.calls.Call.{Call}

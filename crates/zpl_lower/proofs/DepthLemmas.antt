@@ -10,7 +10,7 @@ use Rattle.zpl_tree.specs.declared.statements.Form.TheFolds.{the_lemmas}
 use Rattle.zpl_tree.specs.declared.statements.Form.TheVariants.{Block, While, Repeat, For, If}
 use Rattle.zpl_tree.specs.declared.statements.ForHead.{ForHead}
 use Rattle.zpl_tree.specs.declared.statements.Stmt.{Stmt, size-Stmt}
-use Rattle.routine_walks.specs.declared.texts.Routine.{Routine}
+use Rattle.text_walks.specs.declared.routine_texts.Routine.{Routine}
 use Rattle.zpl_lower.specs.declared.runs.Run.{Run}
 
 -- behind each size there is room for a number within a slice

@@ -33,8 +33,8 @@ use Rattle.zpl_names.specs.Sites.{stmts_sites, under_prefix, under_prefixes, val
 use Rattle.zpl_names.specs.Sites.{Actual, text_sites, whole_rank}
 use Rattle.zpl_binding.proofs.OutcomeLemmas.{empty-left, empty-right, no_member}
 use Rattle.zpl_meaning.specs.Statement.{step_expr}
-use Rattle.lower_statements.specs.of_array_regions.Fit.{IsFitInner}
-use Rattle.lower_statements.specs.of_array_settling.Fit.{AreFit, IsFit, IsFitBracket}
+use Rattle.lower_statements.specs.of_interpreter_regions.Fit.{IsFitInner}
+use Rattle.lower_statements.specs.of_interpreter_settling.Fit.{AreFit, IsFit, IsFitBracket}
 use Rattle.lower_statements.specs.of_lower_points.Fit.{AreFitArms, AreFitItems, AreFitPrefixes, AreFitStmts, IsFitElse}
 use Rattle.lower_statements.specs.of_lower_points.Fit.{IsFitForm, IsFitHead, IsFitStmt, actuals_in}
 

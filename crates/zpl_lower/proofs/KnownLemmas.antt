@@ -23,12 +23,12 @@ use Rattle.zpl_bind.specs.declared.known.Known.{Known}
 use Rattle.zpl_bind.specs.Known.{IsBuilt, IsKnown, known_in}
 use Rattle.zpl_bind.specs.Tables.{computed, listed}
 use Rattle.zpl_bind.proofs.RegionLemmas.{built-region}
-use Rattle.array_terms.specs.Sound.{IsSmall}
-use Rattle.array_places.specs.Sound.{IsRanked}
-use Rattle.lower_statements.specs.of_array_regions.Fit.{IsFitInner}
-use Rattle.lower_statements.proofs.of_array_regions.RegionLemmas.{small-within}
-use Rattle.array_frames.proofs.RankLemmas.{HasRank, behind-ranked, inner-ranked}
-use Rattle.array_frames.proofs.SmallLemmas.{has-count}
+use Rattle.interpreter_store.specs.Sound.{IsSmall}
+use Rattle.interpreter_places.specs.Sound.{IsRanked}
+use Rattle.lower_statements.specs.of_interpreter_regions.Fit.{IsFitInner}
+use Rattle.lower_statements.proofs.of_interpreter_regions.RegionLemmas.{small-within}
+use Rattle.interpreter_frames.proofs.RankLemmas.{HasRank, behind-ranked, inner-ranked}
+use Rattle.interpreter_frames.proofs.SmallLemmas.{has-count}
 use Rattle.zpl_lower.proofs.DeclLemmas.{HasFitRegions}
 
 -- ---- what was computed for names is what stands beside them

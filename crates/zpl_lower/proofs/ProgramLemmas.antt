@@ -25,14 +25,14 @@ use Rattle.zpl_lowering.specs.Statement as statement
 use Rattle.zpl_lowering.specs.Statement.{Calling}
 use Rattle.zpl_lowering.specs.Tables.{tables_of, unshared_tables}
 use Rattle.zpl_lowering.specs.Where.{Next, Numbers, SlotCurrents, no_slots}
-use Rattle.routine_walks.specs.Numbers.{number_of}
-use Rattle.routine_walks.specs.Texts as texts
-use Rattle.routine_walks.specs.Texts.{IsText, routine_of}
-use Rattle.routine_walks.specs.declared.texts.Routine.{Routine as CodeRoutine}
-use Rattle.routine_walks.specs.declared.texts.Text.{Text}
-use Rattle.array_frames.specs.Heads.{IsHead, names_in, names_of}
-use Rattle.array_places.specs.View as places
-use Rattle.array_places.specs.Sound.{IsRanked}
+use Rattle.text_walks.specs.Numbers.{number_of}
+use Rattle.text_walks.specs.Texts as texts
+use Rattle.text_walks.specs.Texts.{IsText, routine_of}
+use Rattle.text_walks.specs.declared.routine_texts.Routine.{Routine as CodeRoutine}
+use Rattle.text_walks.specs.declared.routine_texts.Text.{Text}
+use Rattle.interpreter_frames.specs.Heads.{IsHead, names_in, names_of}
+use Rattle.interpreter_places.specs.View as places
+use Rattle.interpreter_places.specs.Sound.{IsRanked}
 use Rattle.lower_draft.specs.Call.{call_at, entered, left}
 use Rattle.lower_draft.specs.Drafted.{Drafted, empty, finished, grown}
 use Rattle.lower_draft.specs.declared.calls.Call.{Call}

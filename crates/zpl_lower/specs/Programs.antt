@@ -21,10 +21,10 @@ use Rattle.zpl_lowering.specs.Lowered.{Lowered}
 use Rattle.zpl_lowering.specs.Program.{entry_calling, entry_code, global_numbers, reads_round}
 use Rattle.zpl_lowering.specs.Statement.{Calling}
 use Rattle.zpl_lowering.specs.Where.{Next, Numbers, no_slots}
-use Rattle.routine_walks.specs.Texts.{IsText, routine_of}
-use Rattle.routine_walks.specs.declared.texts.Text.{Text}
-use Rattle.array_frames.specs.Heads.{IsHead, names_in, names_of}
-use Rattle.array_places.specs.Sound.{IsRanked}
+use Rattle.text_walks.specs.Texts.{IsText, routine_of}
+use Rattle.text_walks.specs.declared.routine_texts.Text.{Text}
+use Rattle.interpreter_frames.specs.Heads.{IsHead, names_in, names_of}
+use Rattle.interpreter_places.specs.Sound.{IsRanked}
 use Rattle.lower_statements.specs.of_lower_points.Fit.{IsFitStmt}
 use Rattle.lower_frames.specs.declared.openings.Opening.{Opening}
 use Rattle.zpl_lower.specs.declared.faults.LowerFault.{LowerFault}

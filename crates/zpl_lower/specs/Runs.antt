@@ -8,10 +8,10 @@ use Rattle.zpl_lowering.specs.Lowered.{Lowered, phased}
 use Rattle.zpl_lowering.specs.Program.{call_code, reads_round}
 use Rattle.zpl_lowering.specs.Statement.{Lowering, value_exprs, with_values}
 use Rattle.zpl_lowering.specs.Where.{Next, Where}
-use Rattle.routine_walks.specs.Texts.{IsText, routine_of}
-use Rattle.array_frames.specs.Heads.{IsHead, names_in, names_of}
-use Rattle.array_places.specs.Sound.{IsRanked}
-use Rattle.array_places.specs.View.{setup_of}
+use Rattle.text_walks.specs.Texts.{IsText, routine_of}
+use Rattle.interpreter_frames.specs.Heads.{IsHead, names_in, names_of}
+use Rattle.interpreter_places.specs.Sound.{IsRanked}
+use Rattle.interpreter_places.specs.View.{setup_of}
 use Rattle.lower_frames.specs.of_lower_places.Sound.{IsIndex}
 use Rattle.lower_frames.specs.of_lower_places.View.{where_of}
 use Rattle.lower_frames.specs.of_lower_places.declared.places.Place.{Place}

@@ -1,10 +1,10 @@
 //! What the lowering of statements goes by.
 ghost use Rattle.std.specs.Prelude.{◌≡◌, ◌<◌, length, slice_index};
 
-use array_frames::Head;
-use array_places::Setup;
+use interpreter_frames::Head;
+use interpreter_places::Setup;
 use lower_frames::lower_places::{Index, Numbers, SlotCurrents};
-use routine_walks::Text;
+use text_walks::Text;
 
 /// What stays the same while the body of a procedure is lowered.
 #[derive(Clone, Copy)]

@@ -9,8 +9,8 @@ ghost use Rattle.zpl_lowering.specs.Program.{body_code, call_code};
 ghost use Rattle.zpl_meaning.specs.Statement.{arms_at};
 ghost use Rattle.zpl_lowering.specs.Statement as statement;
 ghost use Rattle.zpl_lowering.specs.Where.{reach_of};
-ghost use Rattle.array_places.specs.View.{setup_of};
-ghost use Rattle.lower_statements.specs.of_array_settling.Fit.{AreFit, IsFit};
+ghost use Rattle.interpreter_places.specs.View.{setup_of};
+ghost use Rattle.lower_statements.specs.of_interpreter_settling.Fit.{AreFit, IsFit};
 ghost use Rattle.lower_draft.specs.Drafted.{grown};
 ghost use Rattle.lower_frames.specs.of_lower_places.Sound.{IsPlace};
 ghost use Rattle.lower_frames.specs.of_lower_places.View.{where_of};
@@ -20,8 +20,8 @@ ghost use Rattle.lower_statements.specs.Counters.{counter_of};
 ghost use Rattle.lower_statements.specs.Tests.{test_at};
 ghost use Rattle.lower_frames.specs.of_lower_places.View.{currents_of};
 ghost use Rattle.lower_statements.specs.Prefixes.{in_place};
-ghost use Rattle.routine_walks.specs.Texts.{routine_of};
-ghost use Rattle.routine_walks.specs.declared.texts.Routine.{Routine as CodeRoutine};
+ghost use Rattle.text_walks.specs.Texts.{routine_of};
+ghost use Rattle.text_walks.specs.declared.routine_texts.Routine.{Routine as CodeRoutine};
 ghost use Rattle.zpl_lower.specs.Calls.{body_at, calling_in, calling_of};
 ghost use Rattle.lower_frames.specs.Frames.{IsGiven, framed_of};
 ghost use Rattle.zpl_lower.specs.Runs.{IsRunning, context_of};
@@ -29,7 +29,7 @@ ghost use Rattle.zpl_lower.specs.Turns.{target_in, turns_code};
 
 use crate::calls::{push_actuals, target_of};
 use crate::runs::{Run, Site, reads_at};
-use array_places::{Environment, Things};
+use interpreter_places::{Environment, Things};
 use lower_draft::Draft;
 use lower_frames::lower_places::{Numbers, Place};
 use lower_frames::{Entry, Framed, Given, enter};
@@ -41,8 +41,8 @@ use lower_statements::{
     lower_to, lower_write, open_test, push_step, set_counter, test_words,
 };
 use name_kinds::{Scope, is_above_zero};
-use routine_walks::Routine;
 use std::alloc::AllocError;
+use text_walks::Routine;
 use zpl_nums::Op;
 use zpl_tree::{Arm, Expr, ExprForm, ForHead, Form, Name, Stmt, nodes_are_seen_with_their_lists};
 

@@ -6,7 +6,7 @@ use std::io::ErrorKind;
 use std::process::ExitCode;
 use std::rt::Env;
 use std::{env, io};
-use top_call::call_answers::{Answer, told};
+use top_call::mean_call::{Answer, told};
 use top_call::zplgrid;
 use zpl_io::{DiskFiles, StdSink};
 

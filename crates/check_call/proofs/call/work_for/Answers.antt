@@ -1,6 +1,6 @@
 use Rattle.std.proofs.Common.{sym, ◌∙◌, ap, subst}
-use Rattle.listing_code.specs.of_call_answers.Answers.{status_of}
-use Rattle.listing_code.proofs.of_call_answers.FetchLemmas.{not_fetched}
+use Rattle.exec_call.specs.of_mean_call.Answers.{status_of}
+use Rattle.exec_call.proofs.of_mean_call.FetchLemmas.{not_fetched}
 use Rattle.check_call.specs.Work.{IsCheckWork}
 use Rattle.check_call.specs.Work.IsWorkOn.{read}
 use Rattle.check_call.proofs.WorkLemmas.{check_fetches}

@@ -1,4 +1,4 @@
-use Rattle.listing_code.proofs.CodeLemmas.{failed_not_put, not_risen, not_stopped}
+use Rattle.exec_call.proofs.CodeLemmas.{failed_not_put, not_risen, not_stopped}
 use Rattle.check_call.proofs.WorkLemmas.{not_checked, put_checked}
 use Rattle.check_call.proofs.puts.put_check.Goals as goal
 

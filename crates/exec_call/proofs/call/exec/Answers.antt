@@ -3,8 +3,8 @@ use Rattle.call_claims.specs.Call.{call_of}
 use Rattle.call_claims.specs.Stream.{stream_of}
 use Rattle.call_claims.specs.declared.status.TheConstants.{PUT_FAILED}
 use Rattle.call_claims.proofs.MetLemmas.{is_met}
-use Rattle.listing_code.specs.of_call_answers.Work.{execution_in}
-use Rattle.call_words.specs.Reading.{asked_in}
+use Rattle.mean_call.specs.AnswerWork.{execution_in}
+use Rattle.call_claims.specs.Reading.{asked_in}
 use Rattle.exec_call.specs.Call.{IsExecuted}
 use Rattle.exec_call.proofs.SaveLemmas.{none_failed, told_so}
 use Rattle.exec_call.proofs.ToldLemmas.{stops_so}

@@ -1,9 +1,9 @@
 use Rattle.std.proofs.Common.{sym, ◌∙◌, ap}
 use Rattle.call_claims.specs.Call.{call_of}
-use Rattle.listing_code.specs.of_call_answers.Answers.{status_of}
-use Rattle.call_words.specs.Reading.{asked_in}
+use Rattle.mean_call.specs.Answers.{status_of}
+use Rattle.call_claims.specs.Reading.{asked_in}
 use Rattle.exec_call.specs.Work.IsListedWork.{passes}
-use Rattle.listing_code.proofs.CodeLemmas.{failed_fetches, failed_not_put, not_risen, not_stopped}
+use Rattle.exec_call.proofs.CodeLemmas.{failed_fetches, failed_not_put, not_risen, not_stopped}
 use Rattle.exec_call.proofs.WorkLemmas.{failed_work}
 use Rattle.exec_call.proofs.call.run_listed.Goals as goal
 

@@ -1,7 +1,7 @@
 use Rattle.std.proofs.Common.{sym, subst}
 use Rattle.call_claims.specs.Call.{call_of}
-use Rattle.call_words.specs.Reading.{asked_in}
-use Rattle.listing_code.specs.of_call_answers.declared.work.Work.{Work}
+use Rattle.call_claims.specs.Reading.{asked_in}
+use Rattle.mean_call.specs.declared.work.Work.{Work}
 use Rattle.exec_call.specs.Work.{IsListedWork}
 use Rattle.exec_call.specs.Work.IsListedWork.{passes}
 use Rattle.exec_call.proofs.SaveLemmas.{passes_unchecked}

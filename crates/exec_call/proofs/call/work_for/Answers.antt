@@ -1,6 +1,6 @@
 use Rattle.std.proofs.Common.{[]}
 use Rattle.call_claims.specs.Call.{call_of}
-use Rattle.call_words.specs.Reading.{asked_in}
+use Rattle.call_claims.specs.Reading.{asked_in}
 use Rattle.exec_call.specs.Work.IsWorkOn.{read}
 use Rattle.exec_call.proofs.SaveLemmas.{answer_unrun, saved_back, saved_listed, unrun_other, unsaved_listed}
 use Rattle.exec_call.proofs.WorkLemmas.{listed_back}

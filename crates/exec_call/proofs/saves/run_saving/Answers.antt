@@ -2,12 +2,12 @@ use Rattle.std.proofs.Common.{Bool, [], sym, subst}
 use Rattle.grid_meaning.specs.Local.{processors}
 use Rattle.call_claims.specs.Call.{call_of}
 use Rattle.call_claims.specs.Command.{limit_of}
-use Rattle.call_words.specs.Reading.{asked_in}
-use Rattle.listing_code.specs.of_grid_call.Work.{IsRunOn}
-use Rattle.listing_code.specs.of_grid_call.Work.IsCodeWork.{ran}
-use Rattle.listing_code.specs.of_exec_claims.Cause.{run_of}
-use Rattle.listing_code.proofs.of_call_answers.FetchLemmas.{not_fetched}
-use Rattle.listing_code.proofs.of_grid_call.WorkLemmas.{run_fetches_none}
+use Rattle.call_claims.specs.Reading.{asked_in}
+use Rattle.exec_call.specs.CodeWork.{IsRunOn}
+use Rattle.exec_call.specs.CodeWork.IsCodeWork.{ran}
+use Rattle.mean_call.specs.of_exec_claims.Cause.{run_of}
+use Rattle.mean_call.proofs.FetchLemmas.{not_fetched}
+use Rattle.exec_call.proofs.CodeWorkLemmas.{run_fetches_none}
 use Rattle.exec_call.proofs.SaveLemmas.{answer_unrun, saved_code, turns_few, unrun_other, unsaved_code}
 use Rattle.exec_call.proofs.saves.run_saving.Goals as goal
 

@@ -1,14 +1,14 @@
 use Rattle.std.proofs.Common.{None, false, refl, sym, ◌∙◌, ap, subst}
 use Rattle.zpl_nums.specs.declared.ends.End.TheVariants.{More}
-use Rattle.call_words.specs.Reading.{asked_in}
-use Rattle.listing_code.specs.of_grid_call.Work.{IsRunOn}
-use Rattle.listing_code.specs.of_call_answers.Answers.{status_of}
-use Rattle.listing_code.specs.of_call_answers.declared.work.Work.{Work}
-use Rattle.listing_code.specs.of_exec_claims.Cause.{run_of}
-use Rattle.listing_code.specs.of_grid_sim.Run.{EndsRun}
-use Rattle.listing_code.specs.of_grid_sim.Simulation.{Simulation}
-use Rattle.listing_code.proofs.of_grid_call.RunLemmas.{run_is_on}
-use Rattle.listing_code.specs.Code.{IsListed}
+use Rattle.call_claims.specs.Reading.{asked_in}
+use Rattle.exec_call.specs.CodeWork.{IsRunOn}
+use Rattle.mean_call.specs.Answers.{status_of}
+use Rattle.mean_call.specs.declared.work.Work.{Work}
+use Rattle.mean_call.specs.of_exec_claims.Cause.{run_of}
+use Rattle.mean_call.specs.of_grid_sim.Run.{EndsRun}
+use Rattle.mean_call.specs.of_grid_sim.Simulation.{Simulation}
+use Rattle.exec_call.proofs.RunLemmas.{run_is_on}
+use Rattle.exec_call.specs.Code.{IsListed}
 use Rattle.exec_call.proofs.SaveLemmas.{can_be_saved, few_after, limit_answer, limit_at, other_answer, run_begun}
 use Rattle.exec_call.proofs.SaveLemmas.{saved_after, saved_ran, turns_at, unsaved_run}
 use Rattle.exec_call.proofs.saves.save_run.Goals as goal

@@ -1,11 +1,11 @@
 use Rattle.std.proofs.Common.{false, sym, subst}
 use Rattle.grid_meaning.specs.Local.{processors}
 use Rattle.grid_meaning.specs.Order.{IsOrder}
-use Rattle.call_words.specs.Reading.{asked_in}
-use Rattle.listing_code.specs.of_grid_call.Work.{IsRunOn}
-use Rattle.listing_code.specs.of_exec_claims.Cause.{run_of}
-use Rattle.listing_code.specs.of_grid_sim.Simulation.{Simulation}
-use Rattle.listing_code.specs.Code.{IsListed}
+use Rattle.call_claims.specs.Reading.{asked_in}
+use Rattle.exec_call.specs.CodeWork.{IsRunOn}
+use Rattle.mean_call.specs.of_exec_claims.Cause.{run_of}
+use Rattle.mean_call.specs.of_grid_sim.Simulation.{Simulation}
+use Rattle.exec_call.specs.Code.{IsListed}
 use Rattle.exec_call.specs.Work.{IsSavedRun}
 use Rattle.exec_call.proofs.saves.save_under.Goals as goal
 

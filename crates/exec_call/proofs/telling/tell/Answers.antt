@@ -1,6 +1,6 @@
 use Rattle.std.proofs.Common.{◌≢◌, subst}
 use Rattle.std.specs.Prelude.{IfSome}
-use Rattle.listing_code.specs.of_call_answers.declared.answers.Answer.TheVariants.{PutFailed}
+use Rattle.mean_call.specs.declared.answers.Answer.TheVariants.{PutFailed}
 use Rattle.exec_call.proofs.telling.tell.Goals as goal
 
 -- the answer wasn't that of a failed put

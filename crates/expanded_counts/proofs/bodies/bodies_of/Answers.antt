@@ -1,7 +1,7 @@
 use Rattle.std.proofs.Common.{◌≡◌, ◌≤◌, ℕ, zero, suc, List, [], ◌∷◌, ◌++◌, drop, length, map, refl, sym, ◌∙◌, ap, append-nil, arith}
 use Rattle.std.proofs.lemmas.Simd.{map-map}
 use Rattle.zpl_tree.specs.View.{syntax_of}
-use Rattle.routine_walks.specs.Texts.{names_in, routine_of}
+use Rattle.text_walks.specs.Texts.{names_in, routine_of}
 use Rattle.expanded_counts.specs.Bodies.{counted_body}
 use Rattle.expanded_counts.proofs.CountLemmas.{drop_past}
 use Rattle.expanded_counts.proofs.bodies.bodies_of.Goals as goal

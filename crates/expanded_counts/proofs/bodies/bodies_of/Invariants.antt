@@ -1,7 +1,7 @@
 use Rattle.std.proofs.Common.{◌≡◌, ◌++◌, drop, map}
 use Rattle.zpl_tree.specs.View.{syntax_of}
-use Rattle.routine_walks.specs.of_zpl_names.Declared.{routines_of}
-use Rattle.routine_walks.specs.Texts.{names_in, routine_of}
+use Rattle.text_walks.specs.of_zpl_names.Declared.{routines_of}
+use Rattle.text_walks.specs.Texts.{names_in, routine_of}
 use Rattle.expanded_counts.specs.Bodies.{body_in, counted_body}
 use Rattle.expanded_counts.proofs.bodies.bodies_of.Given as goal
 

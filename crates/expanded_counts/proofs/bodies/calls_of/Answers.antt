@@ -1,14 +1,14 @@
 use Rattle.std.proofs.Common.{◌≡◌, List, [], ◌++◌, None, false, ap, map, ◌∙◌}
 use Rattle.std.specs.List.{filter_map, fold}
 use Rattle.zpl_tree.specs.View.{syntax_of}
-use Rattle.routine_walks.specs.of_zpl_names.Shapes.{unknown_shapes}
-use Rattle.routine_walks.specs.of_zpl_names.Sites.{CallSite, Site, call_of, routine_sites}
-use Rattle.routine_walks.specs.of_site_faults.Findings.{State, after}
-use Rattle.routine_walks.specs.of_site_faults.Walk.{state_of}
-use Rattle.routine_walks.proofs.of_text_walk.Meaning.{walked-calls}
-use Rattle.routine_walks.specs.Numbers.{node_of}
-use Rattle.routine_walks.specs.Texts.{names_in, routine_of, sites_over}
-use Rattle.routine_walks.proofs.TextLemmas.{sites-are}
+use Rattle.text_walks.specs.of_zpl_names.Shapes.{unknown_shapes}
+use Rattle.text_walks.specs.of_zpl_names.Sites.{CallSite, Site, call_of, routine_sites}
+use Rattle.text_walks.specs.of_site_faults.Findings.{State, after}
+use Rattle.text_walks.specs.of_site_faults.Walk.{state_of}
+use Rattle.text_walks.proofs.Meaning.{walked-calls}
+use Rattle.text_walks.specs.Numbers.{node_of}
+use Rattle.text_walks.specs.Texts.{names_in, routine_of, sites_over}
+use Rattle.text_walks.proofs.RoutineTextLemmas.{sites-are}
 use Rattle.expanded_counts.proofs.bodies.calls_of.Goals as goal
 
 calls_are : (old new : State) (sites : List Site) (calls : List CallSite) →

@@ -1,7 +1,7 @@
 use Rattle.std.proofs.Common.{◌≡◌, ◌++◌, drop, map}
-use Rattle.routine_walks.specs.of_site_faults.Reach.{call_site_of}
-use Rattle.routine_walks.specs.Numbers.{node_of}
-use Rattle.routine_walks.specs.Texts.{names_in}
+use Rattle.text_walks.specs.of_site_faults.Reach.{call_site_of}
+use Rattle.text_walks.specs.Numbers.{node_of}
+use Rattle.text_walks.specs.Texts.{names_in}
 use Rattle.expanded_counts.proofs.bodies.numbers_of.Given as goal
 
 -- the numbers so far, and those of the rest

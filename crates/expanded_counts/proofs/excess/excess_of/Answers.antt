@@ -1,9 +1,9 @@
 use Rattle.std.proofs.Common.{ap, ap₂, map, slice_get, ◌∙◌}
 use Rattle.zpl_tree.specs.View.{syntax_of}
-use Rattle.routine_walks.specs.of_zpl_names.Reached.{longest_chain}
-use Rattle.routine_walks.specs.Numbers.{node_of}
-use Rattle.routine_walks.specs.Texts.{names_in}
-use Rattle.routine_walks.proofs.TextLemmas.{named-node}
+use Rattle.text_walks.specs.of_zpl_names.Reached.{longest_chain}
+use Rattle.text_walks.specs.Numbers.{node_of}
+use Rattle.text_walks.specs.Texts.{names_in}
+use Rattle.text_walks.proofs.RoutineTextLemmas.{named-node}
 use Rattle.expanded_counts.specs.Bodies.{body_in, size_or, sizes_down}
 use Rattle.expanded_counts.proofs.SizeLemmas.{all_right, exceeds}
 use Rattle.expanded_counts.proofs.excess.excess_of.Goals as goal

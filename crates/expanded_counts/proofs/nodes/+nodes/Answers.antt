@@ -1,7 +1,7 @@
 use Rattle.std.proofs.Common.{refl, sym, ◌∙◌, ap}
 use Rattle.zpl_tree.specs.View.{dim_of, dims_of, dir_of, expr_of, exprs_of, inner_of, posts_of}
 use Rattle.zpl_tree.proofs.Views.{rexpr_of-parts}
-use Rattle.routine_walks.specs.of_zpl_names.Counts.{dim_nodes, dims_nodes, dir_nodes, expr_nodes, exprs_nodes, inner_nodes, posts_nodes}
+use Rattle.text_walks.specs.of_zpl_names.Counts.{dim_nodes, dims_nodes, dir_nodes, expr_nodes, exprs_nodes, inner_nodes, posts_nodes}
 use Rattle.expanded_counts.specs.Counts.{more}
 use Rattle.expanded_counts.proofs.CountLemmas.{counted_all, counted_on}
 use Rattle.expanded_counts.proofs.nodes.+nodes.Goals as goal

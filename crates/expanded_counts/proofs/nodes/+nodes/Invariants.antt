@@ -2,7 +2,7 @@
 -- same. The count so far with the rest is the whole count.
 use Rattle.std.proofs.Common.{◌≡◌, ◌+◌, ◌*◌, drop}
 use Rattle.zpl_tree.specs.View.{exprs_of, dims_of, posts_of}
-use Rattle.routine_walks.specs.of_zpl_names.Counts.{dims_nodes, exprs_nodes, posts_nodes}
+use Rattle.text_walks.specs.of_zpl_names.Counts.{dims_nodes, exprs_nodes, posts_nodes}
 use Rattle.expanded_counts.specs.Counts.{more}
 use Rattle.expanded_counts.proofs.nodes.+nodes.Given as goal
 

@@ -1,7 +1,7 @@
 use Rattle.std.proofs.Common.{refl, ◌∙◌, ap, map}
 use Rattle.std.proofs.lemmas.List.Sums.{sum_by-cons}
 use Rattle.zpl_tree.specs.View.{inner_of, prefix_of}
-use Rattle.routine_walks.specs.of_zpl_names.Counts.{inner_nodes, prefixes_nodes}
+use Rattle.text_walks.specs.of_zpl_names.Counts.{inner_nodes, prefixes_nodes}
 use Rattle.expanded_counts.specs.Counts.{more}
 use Rattle.expanded_counts.proofs.CountLemmas.{counted_all, counted_on}
 use Rattle.expanded_counts.proofs.nodes.count_prefixes.Goals as goal

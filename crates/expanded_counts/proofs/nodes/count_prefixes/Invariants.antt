@@ -1,6 +1,6 @@
 use Rattle.std.proofs.Common.{◌≡◌, drop, map}
 use Rattle.zpl_tree.specs.View.{prefix_of}
-use Rattle.routine_walks.specs.of_zpl_names.Counts.{prefixes_nodes}
+use Rattle.text_walks.specs.of_zpl_names.Counts.{prefixes_nodes}
 use Rattle.expanded_counts.specs.Counts.{more}
 use Rattle.expanded_counts.proofs.nodes.count_prefixes.Given as goal
 

@@ -3,7 +3,7 @@ use Rattle.zpl_tree.specs.Syntax as plain
 use Rattle.zpl_tree.specs.View.{arm_of, arms_of, else_of, expr_of, head_of, prefix_of, statement_of, stmt_of, stmts_of}
 use Rattle.zpl_tree.specs.declared.statements.Arm.{out-Arm}
 use Rattle.zpl_tree.proofs.Views.{arm_of-parts}
-use Rattle.routine_walks.specs.of_zpl_names.Counts.{arm_nodes, arms_nodes, expr_nodes, form_nodes, own_nodes, prefixes_nodes, stmt_nodes, stmts_nodes}
+use Rattle.text_walks.specs.of_zpl_names.Counts.{arm_nodes, arms_nodes, expr_nodes, form_nodes, own_nodes, prefixes_nodes, stmt_nodes, stmts_nodes}
 use Rattle.expanded_counts.specs.Counts.{more}
 use Rattle.expanded_counts.proofs.CountLemmas.{counted_all, counted_on, more_more, one_none}
 use Rattle.expanded_counts.proofs.statements.+statement_nodes.Goals as goal

@@ -1,6 +1,6 @@
 use Rattle.std.proofs.Common.{◌≡◌, ◌+◌, ◌*◌, drop}
 use Rattle.zpl_tree.specs.View.{arms_of, stmts_of}
-use Rattle.routine_walks.specs.of_zpl_names.Counts.{arms_nodes, stmts_nodes}
+use Rattle.text_walks.specs.of_zpl_names.Counts.{arms_nodes, stmts_nodes}
 use Rattle.expanded_counts.specs.Counts.{more}
 use Rattle.expanded_counts.proofs.statements.+statement_nodes.Given as goal
 

@@ -2,7 +2,7 @@ use Rattle.std.proofs.Common.{refl, ◌∙◌, ap, map}
 use Rattle.std.specs.Prelude.{sum_by}
 use Rattle.std.proofs.lemmas.List.Sums.{sum_by-cons}
 use Rattle.zpl_tree.specs.View.{item_of}
-use Rattle.routine_walks.specs.of_zpl_names.Counts.{item_nodes}
+use Rattle.text_walks.specs.of_zpl_names.Counts.{item_nodes}
 use Rattle.expanded_counts.specs.Counts.{more}
 use Rattle.expanded_counts.proofs.CountLemmas.{counted_all, counted_on}
 use Rattle.expanded_counts.proofs.statements.count_items.Goals as goal

@@ -1,7 +1,7 @@
 use Rattle.std.proofs.Common.{◌≡◌, drop, map}
 use Rattle.std.specs.Prelude.{sum_by}
 use Rattle.zpl_tree.specs.View.{item_of}
-use Rattle.routine_walks.specs.of_zpl_names.Counts.{item_nodes}
+use Rattle.text_walks.specs.of_zpl_names.Counts.{item_nodes}
 use Rattle.expanded_counts.specs.Counts.{more}
 use Rattle.expanded_counts.proofs.statements.count_items.Given as goal
 

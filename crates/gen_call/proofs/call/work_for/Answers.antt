@@ -1,7 +1,7 @@
 use Rattle.std.proofs.Common.{◌≡◌, ◌≢◌, ◌≤◌, [], length, sym, ◌∙◌, subst, arith}
 use Rattle.zpl_text.specs.declared.TheConstants.{MOST_SOURCE}
-use Rattle.grid_call.specs.of_call_answers.declared.answers.Answer.TheVariants as answer
-use Rattle.call_words.specs.Reading.{asked_in}
+use Rattle.exec_call.specs.of_mean_call.declared.answers.Answer.TheVariants as answer
+use Rattle.call_claims.specs.Reading.{asked_in}
 use Rattle.program_texts.specs.Text.{drawn_program}
 use Rattle.gen_call.proofs.RunLemmas.{quiet_puts, quiet_stops}
 use Rattle.gen_call.proofs.WorkLemmas.{none_counted, not_drawn, nothing_came, of_done, of_none}

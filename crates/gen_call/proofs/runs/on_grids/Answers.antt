@@ -1,6 +1,6 @@
 use Rattle.std.proofs.Common.{◌≡◌, ◌++◌, ◌∷◌, [], refl, sym, subst}
 use Rattle.std.proofs.lemmas.List.{append_assoc}
-use Rattle.call_words.specs.Reading.{asked_in}
+use Rattle.call_claims.specs.Reading.{asked_in}
 use Rattle.gen_claims.specs.Grids.{IsNext, five, grids, one, three_by_one, two_by_two}
 use Rattle.gen_call.proofs.RunLemmas.{comes_join, puts_join, stops_join}
 use Rattle.gen_call.proofs.runs.on_grids.Goals as goal

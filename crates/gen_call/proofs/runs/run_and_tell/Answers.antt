@@ -1,5 +1,5 @@
 use Rattle.std.proofs.Common.{◌≡◌, [], false, true, sym, ◌∙◌}
-use Rattle.call_words.specs.Reading.{asked_in}
+use Rattle.call_claims.specs.Reading.{asked_in}
 use Rattle.text_code.specs.of_exec_claims.Cause.{run_of}
 use Rattle.gen_call.proofs.RunLemmas.{counts_of_run, never_fails, quiet_puts, quiet_stops}
 use Rattle.gen_call.proofs.RunLemmas.{told_line, told_otherwise}

@@ -1,7 +1,7 @@
 use Rattle.std.proofs.Common.{◌≡◌, refl, sym, ◌∙◌, ap, subst}
 use Rattle.call_claims.specs.Command.{Asked}
 use Rattle.call_claims.specs.Met.{CanBeMet}
-use Rattle.call_words.specs.Reading.{asked_in}
+use Rattle.call_claims.specs.Reading.{asked_in}
 use Rattle.gen_call.specs.Work.{seen}
 use Rattle.gen_call.proofs.RunLemmas.{quiet_puts, quiet_stops, ran_step, uncoded_step}
 use Rattle.gen_call.proofs.runs.run_next.Goals as goal

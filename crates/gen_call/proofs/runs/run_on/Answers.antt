@@ -1,5 +1,5 @@
 use Rattle.std.proofs.Common.{◌≡◌, ◌++◌, ◌∷◌, [], false, true, sym, ◌∙◌}
-use Rattle.call_words.specs.Reading.{asked_in}
+use Rattle.call_claims.specs.Reading.{asked_in}
 use Rattle.gen_call.specs.Work.{seen}
 use Rattle.gen_call.proofs.RunLemmas.{going_comes, puts_kept, puts_step, step_counted}
 use Rattle.gen_call.proofs.RunLemmas.{stopped_comes, stops_kept, stops_step}

@@ -1,5 +1,5 @@
 use Rattle.std.proofs.Common.{ap, sym, ◌∙◌}
-use Rattle.array_frames.specs.Variables.{named}
+use Rattle.interpreter_frames.specs.Variables.{named}
 use Rattle.zpl_lowering.specs.Program.{given_code}
 use Rattle.lower_draft.specs.Drafted.{grown}
 use Rattle.lower_places.specs.Numbers.{stored_of}

@@ -1,6 +1,6 @@
 use Rattle.std.proofs.Common.{map, [], ap, ap₂, ◌∙◌}
-use Rattle.array_frames.specs.Heads.{names_in}
-use Rattle.array_frames.specs.Variables.{variable_in}
+use Rattle.interpreter_frames.specs.Heads.{names_in}
+use Rattle.interpreter_frames.specs.Variables.{variable_in}
 use Rattle.lower_draft.specs.Drafted.{grown}
 use Rattle.lower_frames.specs.Frames.{entry_of, framed_of, given_of}
 use Rattle.lower_frames.specs.Rows.{all_declared_code, named_givens}

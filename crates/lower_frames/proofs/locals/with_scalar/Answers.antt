@@ -1,4 +1,4 @@
-use Rattle.array_frames.specs.Variables.{named}
+use Rattle.interpreter_frames.specs.Variables.{named}
 use Rattle.lower_frames.specs.Frames.{entry_of, framed_of}
 use Rattle.lower_frames.proofs.FrameLemmas.{scalar_with}
 use Rattle.lower_frames.proofs.locals.with_scalar.Goals as goal

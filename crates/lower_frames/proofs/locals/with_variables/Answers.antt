@@ -1,5 +1,5 @@
 use Rattle.std.proofs.Common.{map, arith}
-use Rattle.array_frames.specs.Variables.{variable_in}
+use Rattle.interpreter_frames.specs.Variables.{variable_in}
 use Rattle.lower_frames.specs.Frames.{entry_of, framed_of}
 use Rattle.lower_frames.specs.Rows.{all_declared_code}
 use Rattle.lower_frames.proofs.FrameLemmas.{variable_next, variables_end}

@@ -2,7 +2,7 @@ use Rattle.std.proofs.Common.{◌≡◌, drop, map}
 use Rattle.zpl_lowering.specs.Lowered.{Lowered}
 use Rattle.zpl_lowering.specs.Program.{Framed}
 use Rattle.zpl_lowering.specs.Where.{Next}
-use Rattle.array_frames.specs.Variables.{variable_in}
+use Rattle.interpreter_frames.specs.Variables.{variable_in}
 use Rattle.lower_draft.specs.Drafted.{grown}
 use Rattle.lower_frames.specs.Frames.{entry_of, framed_of}
 use Rattle.lower_frames.specs.Rows.{all_declared_code}

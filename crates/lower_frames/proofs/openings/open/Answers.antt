@@ -2,7 +2,7 @@ use Rattle.std.proofs.Common.{ap, ap₂, map, refl, ◌∙◌, length}
 use Rattle.zpl_bind.specs.Known.{known_in}
 use Rattle.zpl_bind.specs.Tables.{listed}
 use Rattle.zpl_lowering.specs.Program.{global_numbers, globals_made}
-use Rattle.array_frames.specs.Variables.{framed}
+use Rattle.interpreter_frames.specs.Variables.{framed}
 use Rattle.lower_draft.specs.Drafted.{grown, with_scalars}
 use Rattle.lower_frames.specs.Openings.{arrays_added, regions_pushed}
 use Rattle.lower_frames.specs.Openings.{storages_in}

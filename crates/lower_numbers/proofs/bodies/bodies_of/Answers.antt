@@ -1,7 +1,7 @@
 use Rattle.std.proofs.Common.{◌≡◌, ◌≤◌, ℕ, List, ◌++◌, drop, length, map, sym, ◌∙◌, ap, append-nil, arith}
 use Rattle.std.proofs.lemmas.Simd.{map-map}
 use Rattle.zpl_tree.specs.View.{syntax_of}
-use Rattle.expanded_counts.specs.of_routine_walks.Texts.{names_in, routine_of}
+use Rattle.expanded_counts.specs.of_text_walks.Texts.{names_in, routine_of}
 use Rattle.lower_numbers.specs.Bodies.{counted_body}
 use Rattle.expanded_counts.proofs.CountLemmas.{drop_past}
 use Rattle.lower_numbers.proofs.bodies.bodies_of.Goals as goal

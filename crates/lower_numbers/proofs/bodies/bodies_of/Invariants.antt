@@ -1,6 +1,6 @@
 use Rattle.std.proofs.Common.{◌≡◌, ◌++◌, drop, map}
 use Rattle.zpl_tree.specs.View.{syntax_of}
-use Rattle.expanded_counts.specs.of_routine_walks.Texts.{names_in, routine_of}
+use Rattle.expanded_counts.specs.of_text_walks.Texts.{names_in, routine_of}
 use Rattle.lower_numbers.specs.Bodies.{body_in, counted_body}
 use Rattle.lower_numbers.proofs.bodies.bodies_of.Given as goal
 

@@ -1,8 +1,8 @@
 use Rattle.std.proofs.Common.{ap, ap₂, map, slice_get, ◌∙◌}
 use Rattle.zpl_tree.specs.View.{syntax_of}
 use Rattle.expanded_counts.specs.of_zpl_names.Reached.{longest_chain}
-use Rattle.expanded_counts.specs.of_routine_walks.Texts.{names_in}
-use Rattle.expanded_counts.proofs.of_routine_walks.TextLemmas.{named-node}
+use Rattle.expanded_counts.specs.of_text_walks.Texts.{names_in}
+use Rattle.expanded_counts.proofs.of_text_walks.RoutineTextLemmas.{named-node}
 use Rattle.lower_numbers.specs.Bodies.{body_in, counts_or, sums_down}
 use Rattle.lower_numbers.proofs.SumLemmas.{all_right, whole_is}
 use Rattle.lower_numbers.proofs.numbers.counts_of.Goals as goal

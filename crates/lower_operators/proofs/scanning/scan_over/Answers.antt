@@ -1,7 +1,7 @@
 use Rattle.std.proofs.Common.{sym, ap, ◌∙◌}
 use Rattle.std.specs.Option.{option_map}
 use Rattle.lower_regions.specs.of_zpl_lowering.Hoist.{scanning}
-use Rattle.array_terms.specs.View.{mask_of}
+use Rattle.interpreter_store.specs.View.{mask_of}
 use Rattle.lower_regions.specs.of_lower_draft.Drafted.{grown}
 use Rattle.lower_regions.specs.of_lower_places.View.{slotted_of}
 use Rattle.lower_operators.specs.Code.{free_of, of_hoisted}

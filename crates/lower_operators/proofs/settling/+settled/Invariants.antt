@@ -4,7 +4,7 @@ use Rattle.std.proofs.Common.{◌≡◌, ◌+◌, ◌*◌, drop, max}
 use Rattle.zpl_tree.specs.declared.expressions.Expr.{size-Expr}
 use Rattle.zpl_tree.specs.View.{exprs_of}
 use Rattle.lower_regions.specs.of_zpl_lowering.Slate.{settled_all}
-use Rattle.array_settling.specs.Fit.{AreFit}
+use Rattle.interpreter_settling.specs.Fit.{AreFit}
 use Rattle.lower_regions.specs.of_lower_draft.Drafted.{grown}
 use Rattle.lower_regions.specs.of_lower_places.View.{where_of}
 use Rattle.lower_operators.specs.Code.{of_settled}

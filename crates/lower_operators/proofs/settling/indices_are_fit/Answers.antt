@@ -1,5 +1,5 @@
 use Rattle.std.proofs.Common.{subst}
-use Rattle.array_settling.specs.Fit.{IsFit}
+use Rattle.interpreter_settling.specs.Fit.{IsFit}
 use Rattle.lower_operators.proofs.settling.indices_are_fit.Goals as goal
 
 pub returns : goal.returns

@@ -1,5 +1,5 @@
 use Rattle.std.proofs.Common.{sym, subst}
-use Rattle.array_terms.specs.Sound.{IsNear}
+use Rattle.interpreter_store.specs.Sound.{IsNear}
 use Rattle.lower_operators.proofs.CopyLemmas.{shift-near}
 use Rattle.lower_operators.proofs.wrapping.wrapped.Goals as goal
 

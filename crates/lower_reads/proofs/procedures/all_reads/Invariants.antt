@@ -1,7 +1,7 @@
 use Rattle.std.proofs.Common.{◌≡◌, ◌++◌, drop, map}
 use Rattle.zpl_lowering.specs.of_zpl_tree.View.{syntax_of}
 use Rattle.zpl_lowering.specs.Program.{reads_round}
-use Rattle.routine_walks.specs.Texts.{routine_of}
+use Rattle.text_walks.specs.Texts.{routine_of}
 use Rattle.lower_reads.proofs.procedures.all_reads.Given as goal
 
 -- the counts so far, and those of the rest

@@ -3,7 +3,7 @@ use Rattle.zpl_lowering.specs.of_zpl_tree.View.{base_type_of, stmt_of, syntax_of
 use Rattle.zpl_lowering.specs.of_zpl_names.Declared.{scope_of}
 use Rattle.zpl_lowering.specs.of_zpl_names.Shapes.{unknown_shapes}
 use Rattle.zpl_lowering.specs.of_zpl_names.Sites.{in_body}
-use Rattle.routine_walks.specs.Texts.{routine_of}
+use Rattle.text_walks.specs.Texts.{routine_of}
 use Rattle.lower_reads.proofs.ReadLemmas.{outermost_found}
 use Rattle.lower_reads.proofs.procedures.reads_of.Goals as goal
 

@@ -5,7 +5,7 @@ use Rattle.zpl_tree.specs.View.{dims_of, inner_of}
 use Rattle.zpl_tree.proofs.Views.{inner_of-Dims}
 use Rattle.zpl_bind.proofs.RegionLemmas.{dims-count}
 use Rattle.lower_places.specs.of_zpl_lowering.Bracket.{computed}
-use Rattle.array_regions.specs.Fit.{IsFitInner}
+use Rattle.interpreter_regions.specs.Fit.{IsFitInner}
 use Rattle.lower_places.specs.View.{slotted_of, where_of}
 use Rattle.lower_regions.specs.Opened.{IsOpened, with_opened}
 use Rattle.lower_regions.proofs.brackets.computed.Goals as goal

@@ -6,7 +6,7 @@ use Rattle.zpl_tree.specs.declared.regions.Rexpr.{out-Rexpr}
 use Rattle.zpl_tree.proofs.Views.{inner_of-Dims, rexpr_of-parts}
 use Rattle.zpl_bind.proofs.RegionLemmas.{dims-count}
 use Rattle.lower_places.specs.of_zpl_lowering.Bracket.{constant_name, constant_region}
-use Rattle.array_regions.specs.Fit.{IsFitInner}
+use Rattle.interpreter_regions.specs.Fit.{IsFitInner}
 use Rattle.lower_places.specs.View.{where_of}
 use Rattle.lower_regions.proofs.constants.constant_region.Goals as goal
 

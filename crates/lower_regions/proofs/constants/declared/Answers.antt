@@ -1,6 +1,6 @@
 use Rattle.std.proofs.Common.{Some}
 use Rattle.zpl_tree.specs.View.{inner_of}
-use Rattle.array_places.specs.View.{place_of}
+use Rattle.interpreter_places.specs.View.{place_of}
 use Rattle.lower_places.specs.View.{where_of}
 use Rattle.lower_regions.proofs.ConstantLemmas.{declared_given, declared_traps}
 use Rattle.lower_regions.proofs.constants.declared.Goals as goal

@@ -2,7 +2,7 @@ use Rattle.std.proofs.Common.{◌≡◌, ◌++◌, drop, map}
 use Rattle.zpl_tree.specs.View.{exprs_of}
 use Rattle.name_kinds.specs.Seen.{formal_of}
 use Rattle.zpl_lowering.specs.Statement.{value_exprs}
-use Rattle.lower_points.specs.of_array_settling.Fit.{AreFit}
+use Rattle.lower_points.specs.of_interpreter_settling.Fit.{AreFit}
 use Rattle.lower_points.specs.of_lower_operators.Sound.{AreFitPlaced}
 use Rattle.lower_points.specs.of_lower_operators.View.{placed_of}
 use Rattle.lower_points.specs.of_lower_places.View.{where_of}

@@ -4,12 +4,12 @@ use Rattle.call_claims.specs.Stream.{stream_of}
 use Rattle.zpl_io.specs.Faults.{CountsFaults}
 use Rattle.zpl_io.specs.Sink.{StopsAtFault}
 use Rattle.call_claims.specs.declared.status.TheConstants.{UNREADABLE}
-use Rattle.bound_texts.specs.of_call_answers.Answers.{status_of, told_of}
-use Rattle.bound_texts.specs.of_call_answers.declared.answers.Answer.TheVariants as answer
-use Rattle.bound_texts.proofs.of_call_answers.CallLemmas.{answered, call_stops, failed_put, fetches_counted}
-use Rattle.bound_texts.proofs.of_call_answers.CallLemmas.{puts_counted, status_caused}
-use Rattle.bound_texts.proofs.of_call_answers.CallLemmas.FailedPut.{in_work, in_telling}
-use Rattle.bound_texts.proofs.of_mean_claims.KnownLemmas.{cause_known}
+use Rattle.mean_call.specs.Answers.{status_of, told_of}
+use Rattle.mean_call.specs.declared.answers.Answer.TheVariants as answer
+use Rattle.mean_call.proofs.CallLemmas.{answered, call_stops, failed_put, fetches_counted}
+use Rattle.mean_call.proofs.CallLemmas.{puts_counted, status_caused}
+use Rattle.mean_call.proofs.CallLemmas.FailedPut.{in_work, in_telling}
+use Rattle.mean_claims.proofs.KnownLemmas.{cause_known}
 use Rattle.mean_call.specs.Call.{IsMeant}
 use Rattle.mean_call.specs.Work.{IsMeanWork}
 use Rattle.mean_call.proofs.WorkLemmas.{Comes, wanting_comes, work_comes}

@@ -2,9 +2,9 @@ use Rattle.std.proofs.Common.{◌≤◌, length, sym, subst}
 use Rattle.zpl_text.specs.declared.TheConstants.{MOST_SOURCE}
 use Rattle.call_claims.specs.Call.{call_of}
 use Rattle.call_claims.specs.Command.{limit_of}
-use Rattle.bound_texts.proofs.of_call_answers.FetchLemmas.{not_fetched}
-use Rattle.bound_texts.specs.of_call_answers.Fetched.{IsWholeText}
-use Rattle.call_words.specs.Reading.{asked_in}
+use Rattle.mean_call.proofs.FetchLemmas.{not_fetched}
+use Rattle.mean_call.specs.Fetched.{IsWholeText}
+use Rattle.call_claims.specs.Reading.{asked_in}
 use Rattle.mean_call.proofs.TextLemmas.{takes_none}
 use Rattle.mean_call.proofs.WorkLemmas.{of_text, text_not_unread, unfetched}
 use Rattle.mean_call.proofs.files.mean_file.Goals as goal

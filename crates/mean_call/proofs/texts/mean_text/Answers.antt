@@ -1,6 +1,6 @@
 use Rattle.std.proofs.Common.{sym, subst}
 use Rattle.call_claims.specs.Command.{limit_of}
-use Rattle.call_words.specs.Reading.{asked_in}
+use Rattle.call_claims.specs.Reading.{asked_in}
 use Rattle.mean_call.specs.Work.{MeansText}
 use Rattle.mean_call.proofs.TextLemmas.{refused_means}
 use Rattle.mean_call.proofs.texts.mean_text.Goals as goal

@@ -2,8 +2,8 @@ use Rattle.std.proofs.Common.{◌≡◌, ◌∙◌, sym, subst}
 use Rattle.zpl_meaning.specs.Program.{mean_of}
 use Rattle.array_meaning.specs.Means.{Means}
 use Rattle.call_claims.specs.Command.{limit_of}
-use Rattle.call_words.specs.Reading.{asked_in}
-use Rattle.bound_texts.specs.Accepted.{program_of}
+use Rattle.call_claims.specs.Reading.{asked_in}
+use Rattle.mean_call.specs.Accepted.{program_of}
 use Rattle.mean_call.specs.Work.{MeansText}
 use Rattle.mean_call.proofs.TextLemmas.{is_program, is_short, has_meant, put_failed}
 use Rattle.mean_call.proofs.texts.put_meaning.Goals as goal

@@ -3,7 +3,7 @@ use Rattle.std.specs.Prelude.{filter}
 use Rattle.reduce_plan.specs.of_zpl_region.Region.{members, outside_of}
 use Rattle.reduce_plan.specs.of_zpl_arrays.Border.{border_source}
 use Rattle.grid_meaning.specs.of_grid_layout.Layout.{AreBlocks, laid_out}
-use Rattle.reach_plan.specs.of_move_plan.BorderPiece.{border_piece_in}
+use Rattle.move_plan.specs.BorderPiece.{border_piece_in}
 use Rattle.grid_meaning.specs.Owner.{owner_for}
 use Rattle.grid_meaning.specs.Stored.{arrangement_of}
 use Rattle.grid_meaning.proofs.WorldLemmas.{processors_alike}

@@ -5,7 +5,7 @@ use Rattle.reduce_plan.specs.of_zpl_arrays.Border.{border_source}
 use Rattle.grid_meaning.specs.of_grid_layout.declared.blocks.Blocks.{Blocks}
 use Rattle.grid_meaning.specs.of_grid_layout.Grid.{processors_of}
 use Rattle.grid_meaning.specs.of_grid_layout.Layout.{AreBlocks, laid_out}
-use Rattle.reach_plan.specs.of_move_plan.BorderPiece.{border_piece_in}
+use Rattle.move_plan.specs.BorderPiece.{border_piece_in}
 use Rattle.grid_meaning.specs.Delivery.{border_targets}
 use Rattle.grid_meaning.specs.Owner.{owner_for}
 use Rattle.grid_meaning.specs.Stored.{arrangement_of}

@@ -1,7 +1,7 @@
 use Rattle.std.proofs.Common.{◌<◌, ℕ, ◌⊎◌, drop}
 use Rattle.grid_meaning.specs.Exchange.{word_count}
 use Rattle.grid_meaning.specs.Local.{processors}
-use Rattle.reach_plan.specs.Reach.{IsReach, LiesInReach}
+use Rattle.move_plan.specs.Reach.{IsReach, LiesInReach}
 use Rattle.node_stages.specs.Slots.{at_slots}
 use Rattle.node_stages.proofs.exchanges.receivers.Given as goal
 

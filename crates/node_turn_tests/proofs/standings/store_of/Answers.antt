@@ -2,7 +2,7 @@ use Rattle.std.proofs.Common.{rules, refl, sym, ap, ◌∙◌, subst, []}
 use Rattle.std.specs.Prelude.{slice_get, Some}
 use Rattle.zpl_region.specs.Region.{members}
 use Rattle.grid_meaning.specs.Place.{values_at}
-use Rattle.node_messages.specs.Reading.{IsRead}
+use Rattle.fold_messages.specs.Reading.{IsRead}
 use Rattle.node_turn_tests.proofs.StandingLemmas.{array_told}
 use Rattle.node_turn_tests.proofs.standings.store_of.Goals as goal
 

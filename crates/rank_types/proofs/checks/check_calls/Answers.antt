@@ -1,7 +1,7 @@
 use Rattle.std.proofs.Common.{◌<◌, IfErr, OnOk, length, sym, subst}
 use Rattle.zpl_tree.specs.View.{syntax_of}
-use Rattle.text_routines.specs.of_routine_walks.Texts.{names_in}
-use Rattle.text_routines.proofs.of_routine_walks.TextLemmas.{texts-in}
+use Rattle.text_walks.specs.Texts.{names_in}
+use Rattle.text_walks.proofs.RoutineTextLemmas.{texts-in}
 use Rattle.rank_types.proofs.CallLemmas.{call-holds, heights-say}
 use Rattle.rank_types.proofs.GraphLemmas.{entry-inside, inside}
 use Rattle.rank_types.specs.Calls.{HasHeights}

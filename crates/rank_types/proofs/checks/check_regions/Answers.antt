@@ -2,7 +2,7 @@ use Rattle.std.proofs.Common.{Option, subst}
 use Rattle.zpl_tree.specs.View.{syntax_of}
 use Rattle.site_faults.specs.Found.{found_in, kind_of}
 use Rattle.site_faults.specs.declared.findings.Found.{Found}
-use Rattle.reached_regions.specs.Pairs.{Tells}
+use Rattle.text_walks.specs.Pairs.{Tells}
 use Rattle.rank_types.proofs.JudgeLemmas.{told-holds}
 use Rattle.rank_types.proofs.RegionFaults.{harmed-has, unharmed-pairs}
 use Rattle.rank_types.proofs.checks.check_regions.Goals as goal

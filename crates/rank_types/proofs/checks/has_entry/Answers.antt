@@ -1,8 +1,8 @@
 use Rattle.std.proofs.Common.{Some, ap, arith, sym, ◌∙◌}
 use Rattle.zpl_tree.specs.View.{syntax_of}
 use Rattle.zpl_names.specs.Accepted.{is_entry}
-use Rattle.text_routines.specs.of_routine_walks.Texts.{routine_of}
-use Rattle.text_routines.proofs.of_routine_walks.TextLemmas.{found-within, named-none, named-some}
+use Rattle.text_walks.specs.Texts.{routine_of}
+use Rattle.text_walks.proofs.RoutineTextLemmas.{found-within, named-none, named-some}
 use Rattle.rank_types.proofs.JudgeLemmas.{entry-no-result, entry-with-result}
 use Rattle.rank_types.proofs.checks.has_entry.Goals as goal
 

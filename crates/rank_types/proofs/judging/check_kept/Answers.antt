@@ -1,7 +1,7 @@
 use Rattle.std.proofs.Common.{subst}
 use Rattle.zpl_tree.specs.View.{syntax_of}
 use Rattle.zpl_names.specs.Accepted.{IsFaultless}
-use Rattle.text_routines.specs.of_routine_walks.declared.texts.Text.{Text}
+use Rattle.text_walks.specs.declared.routine_texts.Text.{Text}
 use Rattle.rank_types.specs.Faults.{Holds}
 use Rattle.rank_types.proofs.JudgeLemmas.{passed}
 use Rattle.rank_types.proofs.judging.check_kept.Goals as goal

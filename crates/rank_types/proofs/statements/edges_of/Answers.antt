@@ -1,6 +1,6 @@
 use Rattle.std.proofs.Common.{ap, map, ◌∙◌, arith}
 use Rattle.site_faults.specs.Reach.{call_site_of}
-use Rattle.text_routines.specs.of_routine_walks.Texts.{names_in}
+use Rattle.text_walks.specs.Texts.{names_in}
 use Rattle.rank_types.specs.Calls.{edge_for}
 use Rattle.rank_types.proofs.StatementLemmas.{edges-step, take-all}
 use Rattle.rank_types.proofs.statements.edges_of.Goals as goal

@@ -2,8 +2,8 @@ use Rattle.std.proofs.Common.{◌≡◌, map}
 use Rattle.std.specs.List.{flat_map}
 use Rattle.zpl_names.specs.Shapes.{unknown_shapes}
 use Rattle.site_faults.specs.Found.{found_in}
-use Rattle.text_routines.specs.of_text_names.Found.{goes_on}
-use Rattle.text_routines.specs.of_routine_walks.Texts.{names_in, sites_over}
+use Rattle.text_walks.specs.Found.{goes_on}
+use Rattle.text_walks.specs.Texts.{names_in, sites_over}
 use Rattle.rank_types.proofs.StatementLemmas.{front, rows_for, rows_in}
 use Rattle.rank_types.proofs.statements.statements_of.Given as goal
 

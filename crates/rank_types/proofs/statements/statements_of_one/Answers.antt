@@ -4,8 +4,8 @@ use Rattle.zpl_names.specs.Shapes.{unknown_shapes}
 use Rattle.site_faults.specs.Findings.{after}
 use Rattle.site_faults.specs.Found.{found_in}
 use Rattle.site_faults.specs.Walk.{state_of}
-use Rattle.text_routines.proofs.of_text_names.FoundLemmas.{found-behind}
-use Rattle.text_routines.specs.of_routine_walks.Texts.{names_in, routine_of, sites_over}
+use Rattle.text_walks.proofs.FoundLemmas.{found-behind}
+use Rattle.text_walks.specs.Texts.{names_in, routine_of, sites_over}
 use Rattle.rank_types.specs.Calls.{edge_for}
 use Rattle.rank_types.proofs.StatementLemmas.{calls-are}
 use Rattle.rank_types.proofs.statements.statements_of_one.Goals as goal

@@ -1,11 +1,11 @@
 use Rattle.std.proofs.Common.{◌≡◌, ◌≢◌, inl, inr, sym, subst, arith}
-use Rattle.call_words.specs.of_call_claims.Call.{call_of}
-use Rattle.call_words.specs.of_call_claims.Stream.{stream_of}
+use Rattle.call_claims.specs.Call.{call_of}
+use Rattle.call_claims.specs.Stream.{stream_of}
 use Rattle.call_claims.proofs.MetLemmas.{is_met}
-use Rattle.call_words.specs.Reading.{asked_in}
-use Rattle.exec_call.specs.of_call_answers.Work.{execution_in, ran_of}
+use Rattle.call_claims.specs.Reading.{asked_in}
+use Rattle.exec_call.specs.of_mean_call.AnswerWork.{execution_in, ran_of}
 use Rattle.exec_call.proofs.ToldLemmas.{stops_so}
-use Rattle.call_words.specs.of_call_claims.declared.status.TheConstants.{PUT_FAILED}
+use Rattle.call_claims.specs.declared.status.TheConstants.{PUT_FAILED}
 use Rattle.exec_call.specs.of_resume_claims.Decided.{IsExact}
 use Rattle.exec_call.proofs.of_resume_claims.KnownLemmas.{cause_known}
 use Rattle.resume_call.specs.Call.{IsResumed}

@@ -1,6 +1,6 @@
 use Rattle.std.proofs.Common.{◌≡◌}
-use Rattle.call_words.specs.of_call_claims.Call.{call_of}
-use Rattle.call_words.specs.of_call_claims.Stream.{stream_of}
+use Rattle.call_claims.specs.Call.{call_of}
+use Rattle.call_claims.specs.Stream.{stream_of}
 use Rattle.resume_call.proofs.PartLemmas.{first_part, parts_are_one}
 use Rattle.resume_call.proofs.laws.parts_are_one_run.Goals as goal
 

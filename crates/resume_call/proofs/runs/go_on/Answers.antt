@@ -1,11 +1,11 @@
 use Rattle.std.proofs.Common.{[], refl, subst}
 use Rattle.node_form.specs.declared.tables.Tables.{Tables}
 use Rattle.grid_meaning.specs.Local.{processors}
-use Rattle.call_words.specs.of_call_claims.Call.{call_of}
-use Rattle.call_words.specs.of_call_claims.Command.{limit_of}
-use Rattle.call_words.specs.Reading.{asked_in}
-use Rattle.exec_call.specs.of_grid_call.Work.{IsOrderOf, OrderFails}
-use Rattle.exec_call.proofs.of_call_answers.FetchLemmas.{not_fetched}
+use Rattle.call_claims.specs.Call.{call_of}
+use Rattle.call_claims.specs.Command.{limit_of}
+use Rattle.call_claims.specs.Reading.{asked_in}
+use Rattle.exec_call.specs.CodeWork.{IsOrderOf, OrderFails}
+use Rattle.exec_call.proofs.of_mean_call.FetchLemmas.{not_fetched}
 use Rattle.resume_call.specs.Work.IsGridWork.{ran}
 use Rattle.resume_call.proofs.WorkLemmas.{onward_fetches_none, turns_fit, unordered_work}
 use Rattle.resume_call.proofs.runs.go_on.Goals as goal

@@ -1,6 +1,6 @@
 use Rattle.std.proofs.Common.{ℕ, Option, refl, subst}
 use Rattle.zpl_nums.specs.declared.ends.End.TheVariants.{More}
-use Rattle.call_words.specs.Reading.{asked_in}
+use Rattle.call_claims.specs.Reading.{asked_in}
 use Rattle.exec_call.specs.of_grid_sim.Run.{EndsRun, IsRun, run_in}
 use Rattle.exec_call.specs.of_resume_claims.Cause.{onward_run}
 use Rattle.resume_call.proofs.RunLemmas.{went_on}

@@ -1,6 +1,6 @@
 use Rattle.std.proofs.Common.{sym, ◌∙◌, subst}
-use Rattle.call_words.specs.of_call_claims.Call.{call_of}
-use Rattle.call_words.specs.Reading.{asked_in}
+use Rattle.call_claims.specs.Call.{call_of}
+use Rattle.call_claims.specs.Reading.{asked_in}
 use Rattle.resume_call.proofs.WorkLemmas.{ends_fine, resumed_work, saved_counts, unread_work}
 use Rattle.resume_call.proofs.texts.resume_text.Goals as goal
 

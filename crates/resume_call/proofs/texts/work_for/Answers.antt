@@ -1,7 +1,7 @@
 use Rattle.std.proofs.Common.{◌≤◌, length, sym, subst}
-use Rattle.call_words.specs.of_call_claims.Call.{call_of}
-use Rattle.call_words.specs.Reading.{asked_in}
-use Rattle.exec_call.specs.of_call_answers.Fetched.{IsWholeText}
+use Rattle.call_claims.specs.Call.{call_of}
+use Rattle.call_claims.specs.Reading.{asked_in}
+use Rattle.exec_call.specs.of_mean_call.Fetched.{IsWholeText}
 use Rattle.exec_call.specs.of_resume_claims.declared.limits.TheConstants.{MOST_SAVED}
 use Rattle.resume_call.specs.Work.IsFileWork.{fetched}
 use Rattle.resume_call.proofs.WorkLemmas.{saved_source, text_back, unfetched_work}

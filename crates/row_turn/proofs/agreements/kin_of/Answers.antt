@@ -2,7 +2,7 @@ use Rattle.std.proofs.Common.{◌≡◌, ◌<◌, ap, sym, ◌∙◌, subst, ari
 use Rattle.grid_layout.specs.Grid.{processors_of}
 use Rattle.grid_meaning.specs.Collective.{star, tree}
 use Rattle.grid_meaning.specs.Local.{processors}
-use Rattle.edge_messages.proofs.of_node_stages.PieceLemmas.{grid_count}
+use Rattle.delivery_messages.proofs.of_node_stages.PieceLemmas.{grid_count}
 use Rattle.row_turn.proofs.agreements.kin_of.Goals as goal
 
 pub tree-requires : goal.tree-requires

@@ -3,7 +3,7 @@ use Rattle.std.specs.Prelude.{Some}
 use Rattle.std.specs.List.{AllZip}
 use Rattle.zpl_region.specs.declared.regions.Region.{Region}
 use Rattle.grid_meaning.specs.State.{IsSlot}
-use Rattle.edge_messages.specs.of_node_stages.Partners.{senders_to}
+use Rattle.delivery_messages.specs.of_node_stages.Partners.{senders_to}
 use Rattle.row_turn.proofs.KnownLemmas.{in_finish}
 use Rattle.row_turn.proofs.exchanges.learn_in_finish.Goals as goal
 

@@ -3,7 +3,7 @@ use Rattle.std.specs.Prelude.{Some}
 use Rattle.std.specs.List.{AllZip}
 use Rattle.zpl_region.specs.declared.regions.Region.{Region}
 use Rattle.grid_meaning.specs.State.{IsSlot}
-use Rattle.edge_messages.specs.of_node_stages.Partners.{receivers_from}
+use Rattle.delivery_messages.specs.of_node_stages.Partners.{receivers_from}
 use Rattle.row_turn.proofs.KnownLemmas.{in_start}
 use Rattle.row_turn.proofs.exchanges.learn_in_start.Goals as goal
 

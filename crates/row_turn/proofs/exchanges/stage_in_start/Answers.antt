@@ -6,8 +6,8 @@ use Rattle.zpl_region.specs.declared.regions.Region.{Region}
 use Rattle.grid_meaning.specs.Collective.{Collective, stage_of}
 use Rattle.grid_meaning.specs.Exchange.{started}
 use Rattle.grid_meaning.specs.State.{IsSlot}
-use Rattle.edge_messages.specs.of_node_stages.Partners.{receivers_from}
-use Rattle.edge_messages.specs.of_node_stages.Stage.{staged}
+use Rattle.delivery_messages.specs.of_node_stages.Partners.{receivers_from}
+use Rattle.delivery_messages.specs.of_node_stages.Stage.{staged}
 use Rattle.std.specs.Prelude.{◌≡◌, Some}
 use Rattle.row_turn.proofs.StageLemmas.{made_by, made_in_start, of_start, stage_by, starting_stages}
 use Rattle.row_turn.proofs.KnownLemmas.{in_start, told}

@@ -1,6 +1,6 @@
 use Rattle.std.proofs.Common.{◌≡◌, ◌==◌, ℕ, List, [], length, refl, sym, ap, ◌∙◌}
 use Rattle.grid_meaning.specs.Action.{goes_on, moves}
-use Rattle.gather_text.specs.Shown.{leaves_with}
+use Rattle.fold_messages.specs.Shown.{leaves_with}
 use Rattle.row_turn.proofs.RowLemmas.{apart, moves_by, none_left}
 use Rattle.row_turn.proofs.StandLemmas.{slot_within}
 use Rattle.row_turn.proofs.gathers.printed_gather.Goals as goal

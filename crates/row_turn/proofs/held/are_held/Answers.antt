@@ -2,7 +2,7 @@ use Rattle.std.proofs.Common.{◌<◌, List, [], ℤ, sym, ap, ◌∙◌, subst}
 use Rattle.std.specs.Prelude.{is_some}
 use Rattle.zpl_region.proofs.EndLemmas.{first_member}
 use Rattle.zpl_region.proofs.HullLemmas.{has_steps}
-use Rattle.gather_messages.proofs.of_node_messages.ReadLemmas.{IsReading, fewer_left, left, reading_ends, reading_lacks, reading_starts}
+use Rattle.fold_messages.proofs.ReadLemmas.{IsReading, fewer_left, left, reading_ends, reading_lacks, reading_starts}
 use Rattle.row_turn.proofs.HeldLemmas.{one_more}
 use Rattle.row_turn.proofs.held.are_held.Goals as goal
 

@@ -1,5 +1,5 @@
 use Rattle.std.proofs.Common.{List, [], ℤ}
-use Rattle.gather_messages.proofs.of_node_messages.ReadLemmas.{IsReading, left}
+use Rattle.fold_messages.proofs.ReadLemmas.{IsReading, left}
 use Rattle.row_turn.proofs.held.are_held.Given as goal
 
 abbrev pub invariant-loop-next : goal.invariant-loop-next

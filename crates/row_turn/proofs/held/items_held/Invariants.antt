@@ -1,5 +1,5 @@
 use Rattle.std.proofs.Common.{◌≡◌, drop}
-use Rattle.edge_messages.specs.of_exchange_messages.Held.{items_held}
+use Rattle.delivery_messages.specs.Held.{items_held}
 use Rattle.row_turn.proofs.held.items_held.Given as goal
 
 abbrev pub invariant-loop-item : goal.invariant-loop-item

@@ -3,7 +3,7 @@ use Rattle.zpl_region.proofs.EndLemmas.{first_member}
 use Rattle.zpl_region.proofs.HullLemmas.{has_steps}
 use Rattle.zpl_arrays.specs.Border.{border_source}
 use Rattle.grid_meaning.specs.Place.{value_at}
-use Rattle.gather_messages.proofs.of_node_messages.ReadLemmas.{left}
+use Rattle.fold_messages.proofs.ReadLemmas.{left}
 use Rattle.row_turn.proofs.HeldLemmas.{IsPassed, near_member, passed_ends, passed_fewer, passed_lacks, passed_starts, passed_step}
 use Rattle.row_turn.proofs.held.sources_held.Goals as goal
 

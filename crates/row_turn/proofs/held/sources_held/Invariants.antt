@@ -1,6 +1,6 @@
 use Rattle.zpl_arrays.specs.Border.{border_source}
 use Rattle.grid_meaning.specs.Place.{value_at}
-use Rattle.gather_messages.proofs.of_node_messages.ReadLemmas.{left}
+use Rattle.fold_messages.proofs.ReadLemmas.{left}
 use Rattle.row_turn.proofs.HeldLemmas.{IsPassed}
 use Rattle.row_turn.proofs.held.sources_held.Given as goal
 

@@ -1,6 +1,6 @@
 use Rattle.std.specs.Prelude.{◌≡◌, Some}
 use Rattle.grid_meaning.specs.Collective.{Collective, stage_of}
-use Rattle.edge_messages.specs.of_node_stages.Stage.{staged}
+use Rattle.delivery_messages.specs.of_node_stages.Stage.{staged}
 use Rattle.row_turn.proofs.RemapLemmas.{of_remap, remap_fits, remap_made, remap_slot}
 use Rattle.row_turn.proofs.remaps.stage_in_remap.Goals as goal
 

@@ -1,8 +1,8 @@
 use Rattle.std.proofs.Common.{◌≡◌, ◌≤◌, ap, ◌∙◌}
 use Rattle.grid_layout.specs.Grid.{processors_of}
 use Rattle.grid_meaning.specs.Local.{processors}
-use Rattle.edge_messages.proofs.of_node_stages.PieceLemmas.{grid_count}
-use Rattle.edge_messages.specs.of_node_stages.Stage.{staged}
+use Rattle.delivery_messages.proofs.of_node_stages.PieceLemmas.{grid_count}
+use Rattle.delivery_messages.specs.of_node_stages.Stage.{staged}
 use Rattle.row_turn.proofs.BoundLemmas.{few_made, named_stage}
 use Rattle.row_turn.proofs.rows.row_stage.Goals as goal
 

@@ -2,7 +2,7 @@ use Rattle.std.proofs.Common.{◌≡◌, sym, subst}
 use Rattle.std.specs.Prelude.{Some}
 use Rattle.node_form.specs.declared.instructions.Instr.{Instr}
 use Rattle.grid_meaning.specs.Collective.{stage_of}
-use Rattle.edge_messages.specs.of_node_stages.Stage.{staged}
+use Rattle.delivery_messages.specs.of_node_stages.Stage.{staged}
 use Rattle.row_turn.specs.Together.{OfRow}
 use Rattle.row_turn.proofs.rows.stage_of_row.Goals as goal
 

@@ -1,6 +1,6 @@
 use Rattle.std.specs.Prelude.{◌≡◌, Some, is_some}
 use Rattle.grid_meaning.specs.Collective.{Collective, stage_of}
-use Rattle.edge_messages.specs.of_node_stages.Stage.{staged}
+use Rattle.delivery_messages.specs.of_node_stages.Stage.{staged}
 use Rattle.row_turn.proofs.ScanLemmas.{of_scan, scan_slot, scan_along}
 use Rattle.row_turn.proofs.scans.awaits_in_scan.Goals as goal
 

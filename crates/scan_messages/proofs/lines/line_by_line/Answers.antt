@@ -4,7 +4,7 @@ use Rattle.zpl_region.specs.Region.{members}
 use Rattle.zpl_region.proofs.EndLemmas.{among_at}
 use Rattle.zpl_region.proofs.HullLemmas.{has_steps}
 use Rattle.zpl_region.proofs.ListLemmas.{Among}
-use Rattle.row_steps.proofs.WalkLemmas.{append_further, fewer_left, left, take_past, walk_goes_on, walk_starts}
+use Rattle.scan_messages.proofs.WalkLemmas.{append_further, fewer_left, left, take_past, walk_goes_on, walk_starts}
 use Rattle.scan_messages.specs.Line.{on_line}
 use Rattle.scan_messages.proofs.LineLemmas.{head_member}
 use Rattle.scan_messages.proofs.lines.line_by_line.Goals as goal

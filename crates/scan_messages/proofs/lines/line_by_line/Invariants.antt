@@ -1,7 +1,7 @@
 use Rattle.std.proofs.Common.{◌≡◌, ℕ, take}
 use Rattle.std.specs.Prelude.{flat_map, slice_get}
 use Rattle.zpl_region.specs.Region.{members}
-use Rattle.row_steps.proofs.WalkLemmas.{left}
+use Rattle.scan_messages.proofs.WalkLemmas.{left}
 use Rattle.scan_messages.specs.Line.{on_line}
 use Rattle.scan_messages.proofs.lines.line_by_line.Given as goal
 

@@ -3,7 +3,7 @@ use Rattle.std.specs.Prelude.{Some, None, flat_map, slice_get}
 use Rattle.zpl_region.specs.Region.{members}
 use Rattle.zpl_region.proofs.HullLemmas.{has_steps}
 use Rattle.reduce_plan.proofs.WalkLemmas.{pushed}
-use Rattle.row_steps.proofs.WalkLemmas.{append_further, fewer_left, left, one_each, take_past, walk_goes_on, walk_starts}
+use Rattle.scan_messages.proofs.WalkLemmas.{append_further, fewer_left, left, one_each, take_past, walk_goes_on, walk_starts}
 use Rattle.scan_messages.proofs.lines.push_tuples.Goals as goal
 
 pub loop-next-init : goal.loop-next-init

@@ -1,7 +1,7 @@
 use Rattle.std.proofs.Common.{◌≡◌, ℕ, List, [], ◌∷◌, ◌++◌, take, ℤ}
 use Rattle.std.specs.Prelude.{flat_map, slice_get}
 use Rattle.zpl_region.specs.Region.{members}
-use Rattle.row_steps.proofs.WalkLemmas.{left}
+use Rattle.scan_messages.proofs.WalkLemmas.{left}
 use Rattle.scan_messages.proofs.lines.push_tuples.Given as goal
 
 abbrev pub invariant-loop-next : goal.invariant-loop-next

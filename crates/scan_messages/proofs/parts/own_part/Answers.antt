@@ -7,7 +7,7 @@ use Rattle.grid_layout.specs.Piece.{owned_part}
 use Rattle.grid_layout.specs.declared.blocks.Blocks.{Blocks}
 use Rattle.grid_meaning.specs.Local.{processors}
 use Rattle.grid_meaning.specs.Stored.{arrangement_of}
-use Rattle.row_steps.proofs.of_node_stages.PieceLemmas.{grid_count, IsRegion-slot}
+use Rattle.node_stages.proofs.PieceLemmas.{grid_count, IsRegion-slot}
 use Rattle.scan_messages.proofs.RowLemmas as row
 use Rattle.scan_messages.proofs.parts.own_part.Goals as goal
 

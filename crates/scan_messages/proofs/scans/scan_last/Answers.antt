@@ -4,9 +4,9 @@ use Rattle.std.specs.Option.{option_map}
 use Rattle.zpl_region.specs.Region.{members}
 use Rattle.grid_meaning.specs.Action.{moves}
 use Rattle.grid_meaning.specs.Scan.{scan_values}
-use Rattle.row_steps.specs.of_node_local.Workplace.{Workplace}
+use Rattle.node_local.specs.Workplace.{Workplace}
 use Rattle.scan_messages.specs.Line.{line_by_line, value_in}
-use Rattle.scan_messages.proofs.TurnLemmas as turn
+use Rattle.scan_messages.proofs.ScanTurnLemmas as turn
 use Rattle.scan_messages.proofs.scans.scan_last.Goals as goal
 
 pub returns-in_default-clause-last : goal.returns-in_default-clause-last

@@ -4,7 +4,7 @@ use Rattle.std.specs.Option.{option_map}
 use Rattle.zpl_region.specs.Region.{members}
 use Rattle.grid_meaning.specs.Scan.{scan_values}
 use Rattle.scan_plan.specs.Line.{line_dim, totals_of, value_at}
-use Rattle.scan_messages.proofs.TurnLemmas as turn
+use Rattle.scan_messages.proofs.ScanTurnLemmas as turn
 use Rattle.scan_messages.proofs.scans.scan_words.Goals as goal
 
 pub returns-in_default : goal.returns-in_default

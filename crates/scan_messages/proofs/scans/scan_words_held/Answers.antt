@@ -3,7 +3,7 @@ use Rattle.std.specs.Prelude.{is_some}
 use Rattle.zpl_region.specs.Region.{members}
 use Rattle.grid_meaning.specs.Scan.{line_totals, scan_values}
 use Rattle.scan_messages.proofs.LastLemmas.{held_told}
-use Rattle.scan_messages.proofs.StageLemmas.{in_slot}
+use Rattle.scan_messages.proofs.ScanStageLemmas.{in_slot}
 use Rattle.scan_messages.proofs.scans.scan_words_held.Goals as goal
 
 pub returns : goal.returns

@@ -1,5 +1,5 @@
 use Rattle.std.proofs.Common.{◌≡◌, ◌<◌, ℕ, ℤ, List, ◌∷◌, All, length, map, take, sym, subst, arith}
-use Rattle.row_steps.specs.of_node_local.Standing.{entry_of}
+use Rattle.node_local.specs.Standing.{entry_of}
 use Rattle.scan_messages.proofs.EntryLemmas.{kept_at}
 use Rattle.scan_messages.proofs.LastLemmas.{as_many}
 use Rattle.scan_messages.proofs.sums.all_totals.Goals as goal

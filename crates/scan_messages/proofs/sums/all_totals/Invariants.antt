@@ -1,5 +1,5 @@
 use Rattle.std.proofs.Common.{◌≡◌, ◌∷◌, map, take}
-use Rattle.row_steps.specs.of_node_local.Standing.{entry_of}
+use Rattle.node_local.specs.Standing.{entry_of}
 use Rattle.scan_messages.specs.Totals.{totals_in}
 use Rattle.scan_messages.proofs.sums.all_totals.Given as goal
 

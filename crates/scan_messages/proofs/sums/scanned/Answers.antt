@@ -5,7 +5,7 @@ use Rattle.grid_layout.specs.Layout.{laid_out}
 use Rattle.grid_layout.specs.Piece.{owned_part}
 use Rattle.grid_meaning.specs.Local.{processors}
 use Rattle.grid_meaning.specs.Stored.{arrangement_of}
-use Rattle.row_steps.proofs.of_node_stages.PieceLemmas.{grid_count}
+use Rattle.node_stages.proofs.PieceLemmas.{grid_count}
 use Rattle.scan_plan.specs.Line.{line_dim, totals_of, value_at}
 use Rattle.scan_plan.specs.Scan.{block_scan}
 use Rattle.scan_messages.specs.Totals.{totals_in}

@@ -3,7 +3,7 @@ use Rattle.std.specs.Prelude.{Some, is_some, slice_get}
 use Rattle.zpl_region.specs.Region.{members}
 use Rattle.zpl_region.proofs.HullLemmas.{has_steps}
 use Rattle.grid_meaning.specs.Scan.{scan_value, scan_values}
-use Rattle.row_steps.proofs.WalkLemmas.{complete_ends, complete_lacks, complete_step, fewer_left, left, walk_goes_on, walk_starts}
+use Rattle.scan_messages.proofs.WalkLemmas.{complete_ends, complete_lacks, complete_step, fewer_left, left, walk_goes_on, walk_starts}
 use Rattle.scan_messages.proofs.values.are_values_held.Goals as goal
 
 pub loop-next-init : goal.loop-next-init

@@ -2,7 +2,7 @@ use Rattle.std.proofs.Common.{◌≡◌, ℕ, drop}
 use Rattle.std.specs.Prelude.{is_some, slice_get}
 use Rattle.zpl_region.specs.Region.{members}
 use Rattle.grid_meaning.specs.Scan.{scan_values}
-use Rattle.row_steps.proofs.WalkLemmas.{left}
+use Rattle.scan_messages.proofs.WalkLemmas.{left}
 use Rattle.scan_messages.proofs.values.are_values_held.Given as goal
 
 abbrev pub invariant-loop-next : goal.invariant-loop-next

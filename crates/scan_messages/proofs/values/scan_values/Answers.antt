@@ -5,7 +5,7 @@ use Rattle.zpl_region.specs.Region.{members}
 use Rattle.zpl_region.proofs.HullLemmas.{has_steps}
 use Rattle.reduce_plan.proofs.WalkLemmas.{pushed}
 use Rattle.grid_meaning.specs.Scan.{scan_value, scan_values}
-use Rattle.row_steps.proofs.WalkLemmas.{collecting_ends, collecting_lacks, collecting_starts, collecting_step, fewer_left, left, walk_goes_on, walk_starts}
+use Rattle.scan_messages.proofs.WalkLemmas.{collecting_ends, collecting_lacks, collecting_starts, collecting_step, fewer_left, left, walk_goes_on, walk_starts}
 use Rattle.scan_messages.proofs.values.scan_values.Goals as goal
 
 pub loop-next-init : goal.loop-next-init

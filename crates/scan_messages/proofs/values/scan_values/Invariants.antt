@@ -3,7 +3,7 @@ use Rattle.std.specs.Prelude.{slice_get}
 use Rattle.std.specs.Option.{option_map}
 use Rattle.zpl_region.specs.Region.{members}
 use Rattle.grid_meaning.specs.Scan.{scan_values}
-use Rattle.row_steps.proofs.WalkLemmas.{left}
+use Rattle.scan_messages.proofs.WalkLemmas.{left}
 use Rattle.scan_messages.proofs.values.scan_values.Given as goal
 
 abbrev pub invariant-loop-next : goal.invariant-loop-next

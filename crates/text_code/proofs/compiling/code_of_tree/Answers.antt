@@ -6,8 +6,8 @@ use Rattle.list_claims.specs.of_zpl_compile.Compilable.{IsCompiledTo}
 use Rattle.program_code.specs.Outcome.{IsUncompiled}
 use Rattle.call_claims.specs.Accepted.{IsAccepted, IsAcceptedUnder}
 use Rattle.call_claims.specs.Command.{build_of}
-use Rattle.call_words.specs.Reading.{asked_in}
-use Rattle.bound_texts.specs.Accepted.{program_of}
+use Rattle.call_claims.specs.Reading.{asked_in}
+use Rattle.mean_call.specs.Accepted.{program_of}
 use Rattle.text_code.proofs.CodeLemmas.{accepted_text, compiled_is, fault_passed_on, one_accepted}
 use Rattle.text_code.proofs.CodeLemmas.{rejection_passed_on, with_parts}
 use Rattle.text_code.proofs.compiling.code_of_tree.Goals as goal

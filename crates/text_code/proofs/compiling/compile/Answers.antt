@@ -1,6 +1,6 @@
 use Rattle.node_form.specs.Grid.{IsGrid}
 use Rattle.call_claims.specs.Command.{build_of}
-use Rattle.call_words.specs.Reading.{asked_in}
+use Rattle.call_claims.specs.Reading.{asked_in}
 use Rattle.text_code.proofs.CodeLemmas.{bad_shape_refuses, passed_on, tested, untested}
 use Rattle.text_code.proofs.compiling.compile.Goals as goal
 

@@ -1,8 +1,8 @@
 use Rattle.std.proofs.Common.{◌≢◌, sym, subst}
 use Rattle.call_claims.specs.Command.{build_of}
-use Rattle.call_words.specs.Reading.{asked_in}
+use Rattle.call_claims.specs.Reading.{asked_in}
 use Rattle.text_code.specs.Refusals.{IsUncoded}
-use Rattle.bound_texts.specs.of_call_answers.declared.answers.Answer.TheVariants as answer
+use Rattle.mean_call.specs.declared.answers.Answer.TheVariants as answer
 use Rattle.text_code.proofs.TextLemmas.{refusal_not_put, uncoded}
 use Rattle.text_code.proofs.texts.code_of_text.Goals as goal
 

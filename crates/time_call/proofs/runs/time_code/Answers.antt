@@ -2,9 +2,9 @@ use Rattle.std.proofs.Common.{[]}
 use Rattle.grid_meaning.specs.Local.{processors}
 use Rattle.call_claims.specs.Call.{call_of}
 use Rattle.call_claims.specs.Command.{limit_of}
-use Rattle.call_words.specs.Reading.{asked_in}
-use Rattle.listing_code.proofs.of_call_answers.FetchLemmas.{not_fetched}
-use Rattle.listing_code.proofs.of_grid_call.WorkLemmas.{turns_fit}
+use Rattle.call_claims.specs.Reading.{asked_in}
+use Rattle.exec_call.proofs.of_mean_call.FetchLemmas.{not_fetched}
+use Rattle.exec_call.proofs.CodeWorkLemmas.{turns_fit}
 use Rattle.time_call.specs.Work.IsCodeWork.{timed}
 use Rattle.time_call.proofs.WorkLemmas.{run_fetches_none}
 use Rattle.time_call.proofs.runs.time_code.Goals as goal

@@ -1,10 +1,10 @@
 use Rattle.std.proofs.Common.{subst, sym}
 use Rattle.grid_meaning.specs.Local.{processors}
-use Rattle.listing_code.specs.of_grid_sim.Run.{run_in}
+use Rattle.exec_call.specs.of_grid_sim.Run.{run_in}
 use Rattle.grid_timetable.specs.History.{no_moves}
 use Rattle.grid_timetable.specs.Table.{IsTableOf}
 use Rattle.call_claims.specs.Command.{latency_of}
-use Rattle.call_words.specs.Reading.{asked_in}
+use Rattle.call_claims.specs.Reading.{asked_in}
 use Rattle.time_claims.specs.of_exec_claims.Cause.{run_of}
 use Rattle.time_call.specs.Work.{IsTimedOn}
 use Rattle.time_call.proofs.runs.time_from_start.Goals as goal

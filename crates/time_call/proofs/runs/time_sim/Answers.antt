@@ -1,8 +1,8 @@
 use Rattle.std.proofs.Common.{◌≡◌, ◌∙◌, ap, Some}
 use Rattle.grid_meaning.specs.Grid.{start_grid}
 use Rattle.grid_runs.specs.Run.{Run}
-use Rattle.listing_code.specs.of_grid_sim.Run.{run_in}
-use Rattle.listing_code.specs.of_grid_sim.Simulation.{Simulation}
+use Rattle.exec_call.specs.of_grid_sim.Run.{run_in}
+use Rattle.exec_call.specs.of_grid_sim.Simulation.{Simulation}
 use Rattle.time_claims.specs.of_grid_time.Timed.{history_at}
 use Rattle.time_call.proofs.RunLemmas.{never_failed, never_more, over_table, some_table, timed_on}
 use Rattle.time_call.proofs.runs.time_sim.Goals as goal

@@ -1,5 +1,5 @@
 use Rattle.std.proofs.Common.{◌∙◌, ap, length}
-use Rattle.listing_code.proofs.of_call_answers.FetchLemmas.{on_ok}
+use Rattle.exec_call.proofs.of_mean_call.FetchLemmas.{on_ok}
 use Rattle.time_text.specs.Text as text
 use Rattle.time_call.proofs.tables.table_text.Goals as goal
 

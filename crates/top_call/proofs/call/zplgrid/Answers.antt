@@ -1,8 +1,8 @@
 use Rattle.std.proofs.Common.{◌≡◌, map, string_bytes, refl, ap, sym, ◌∙◌, subst}
 use Rattle.call_claims.specs.Call.{call_of}
 use Rattle.call_claims.specs.Stream.{stream_of}
-use Rattle.mean_call.specs.of_call_answers.declared.answers.Answer.TheVariants as answer
-use Rattle.mean_call.proofs.of_call_answers.CallLemmas.{call_stops}
+use Rattle.mean_call.specs.declared.answers.Answer.TheVariants as answer
+use Rattle.mean_call.proofs.CallLemmas.{call_stops}
 use Rattle.top_call.specs.Call.{IsUnknown}
 use Rattle.top_call.proofs.CheckedLemmas.{goes_on}
 use Rattle.top_call.proofs.UnknownLemmas.{none_fetched, tells_usage, usage_read}

@@ -2,10 +2,10 @@ use Rattle.std.proofs.Common.{◌≤◌, length, sym, subst}
 use Rattle.zpl_text.specs.declared.TheConstants.{MOST_SOURCE}
 use Rattle.call_claims.specs.Call.{call_of}
 use Rattle.call_claims.specs.Command.{build_of}
-use Rattle.call_words.specs.Reading.{asked_in}
+use Rattle.call_claims.specs.Reading.{asked_in}
 use Rattle.call_claims.specs.Source.{Source}
-use Rattle.mean_call.proofs.of_call_answers.FetchLemmas.{not_fetched, on_err, on_ok}
-use Rattle.mean_call.specs.of_call_answers.Fetched.{IsWholeText}
+use Rattle.mean_call.proofs.FetchLemmas.{not_fetched, on_err, on_ok}
+use Rattle.mean_call.specs.Fetched.{IsWholeText}
 use Rattle.gen_call.proofs.of_text_code.TextLemmas.{text_fetches_none}
 use Rattle.top_call.proofs.FileLemmas.{no_code, unfetched, unfetched_not_put}
 use Rattle.top_call.proofs.fetches.code_of_file.Goals as goal

@@ -7,12 +7,12 @@ use Rattle.call_claims.specs.Command.{build_of}
 use Rattle.call_claims.specs.Decided.{IsDecided}
 use Rattle.gen_call.specs.of_list_claims.Listing.{IsMadeOf, TakesOutput}
 use Rattle.call_claims.specs.declared.status.TheConstants.{PUT_FAILED}
-use Rattle.mean_call.specs.of_call_answers.Answers.{status_of, told_of}
-use Rattle.mean_call.specs.of_call_answers.Work.{execution_in}
-use Rattle.mean_call.proofs.of_call_answers.CallLemmas.{answered, call_stops, failed_put, fetches_counted}
-use Rattle.mean_call.proofs.of_call_answers.CallLemmas.{not_done, puts_counted, status_caused, told_done, work_other}
-use Rattle.mean_call.proofs.of_call_answers.CallLemmas.FailedPut.{in_work, in_telling}
-use Rattle.call_words.specs.Reading.{asked_in}
+use Rattle.mean_call.specs.Answers.{status_of, told_of}
+use Rattle.mean_call.specs.AnswerWork.{execution_in}
+use Rattle.mean_call.proofs.CallLemmas.{answered, call_stops, failed_put, fetches_counted}
+use Rattle.mean_call.proofs.CallLemmas.{not_done, puts_counted, status_caused, told_done, work_other}
+use Rattle.mean_call.proofs.CallLemmas.FailedPut.{in_work, in_telling}
+use Rattle.call_claims.specs.Reading.{asked_in}
 use Rattle.top_call.specs.Call.{IsListed}
 use Rattle.top_call.proofs.FileLemmas.{on_some}
 use Rattle.top_call.proofs.KnownLemmas.{list_known}

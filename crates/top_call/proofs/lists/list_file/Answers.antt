@@ -1,8 +1,8 @@
 use Rattle.std.proofs.Common.{[], sym, ◌∙◌, ap}
 use Rattle.call_claims.specs.Call.{call_of}
 use Rattle.call_claims.specs.Command.{build_of}
-use Rattle.mean_call.specs.of_call_answers.Answers.{status_of}
-use Rattle.call_words.specs.Reading.{asked_in}
+use Rattle.mean_call.specs.Answers.{status_of}
+use Rattle.call_claims.specs.Reading.{asked_in}
 use Rattle.top_call.proofs.ListLemmas.{list_caused, list_none, listing_cut}
 use Rattle.top_call.proofs.ListLemmas.{listing_done, listing_taken}
 use Rattle.top_call.proofs.FileLemmas.{none_not_done}

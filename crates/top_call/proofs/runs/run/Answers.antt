@@ -2,12 +2,12 @@ use Rattle.std.proofs.Common.{◌≡◌, inl, inr, sym, subst, arith}
 use Rattle.call_claims.specs.Call.{call_of}
 use Rattle.call_claims.specs.Stream.{stream_of}
 use Rattle.call_claims.proofs.MetLemmas.{is_met}
-use Rattle.mean_call.specs.of_call_answers.Answers.{told_of}
-use Rattle.mean_call.specs.of_call_answers.Work.{execution_in, ran_of}
-use Rattle.mean_call.proofs.of_call_answers.CallLemmas.{answered, call_stops, failed_put, fetches_counted}
-use Rattle.mean_call.proofs.of_call_answers.CallLemmas.{puts_counted, status_caused, work_other}
-use Rattle.mean_call.proofs.of_call_answers.CallLemmas.FailedPut.{in_work, in_telling}
-use Rattle.call_words.specs.Reading.{asked_in}
+use Rattle.mean_call.specs.Answers.{told_of}
+use Rattle.mean_call.specs.AnswerWork.{execution_in, ran_of}
+use Rattle.mean_call.proofs.CallLemmas.{answered, call_stops, failed_put, fetches_counted}
+use Rattle.mean_call.proofs.CallLemmas.{puts_counted, status_caused, work_other}
+use Rattle.mean_call.proofs.CallLemmas.FailedPut.{in_work, in_telling}
+use Rattle.call_claims.specs.Reading.{asked_in}
 use Rattle.gen_call.specs.of_run_claims.Cause.{Cause}
 use Rattle.gen_call.specs.of_run_claims.Cause.Cause.{no_memory}
 use Rattle.top_call.specs.Call.{IsRan}

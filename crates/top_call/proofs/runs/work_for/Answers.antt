@@ -1,5 +1,5 @@
-use Rattle.call_words.specs.Reading.{asked_in}
-use Rattle.gen_call.proofs.of_grid_call.WorkLemmas.{work_back}
+use Rattle.call_claims.specs.Reading.{asked_in}
+use Rattle.gen_call.proofs.of_exec_call.CodeWorkLemmas.{work_back}
 use Rattle.top_call.specs.Work.IsRunWork.{made}
 use Rattle.top_call.proofs.runs.work_for.Goals as goal
 

@@ -2,12 +2,12 @@ use Rattle.std.proofs.Common.{◌≡◌, inl, inr, sym, subst, arith}
 use Rattle.call_claims.specs.Call.{call_of}
 use Rattle.call_claims.specs.Stream.{stream_of}
 use Rattle.call_claims.proofs.MetLemmas.{is_met}
-use Rattle.listing_code.specs.of_call_answers.Answers.{told_of}
-use Rattle.listing_code.specs.of_call_answers.Work.{execution_in}
-use Rattle.listing_code.proofs.of_call_answers.CallLemmas.{answered, call_stops, failed_put, fetches_counted}
-use Rattle.listing_code.proofs.of_call_answers.CallLemmas.{puts_counted, status_caused}
-use Rattle.listing_code.proofs.of_call_answers.CallLemmas.FailedPut.{in_work, in_telling}
-use Rattle.call_words.specs.Reading.{asked_in}
+use Rattle.exec_call.specs.of_mean_call.Answers.{told_of}
+use Rattle.exec_call.specs.of_mean_call.AnswerWork.{execution_in}
+use Rattle.exec_call.proofs.of_mean_call.CallLemmas.{answered, call_stops, failed_put, fetches_counted}
+use Rattle.exec_call.proofs.of_mean_call.CallLemmas.{puts_counted, status_caused}
+use Rattle.exec_call.proofs.of_mean_call.CallLemmas.FailedPut.{in_work, in_telling}
+use Rattle.call_claims.specs.Reading.{asked_in}
 use Rattle.exec_claims.specs.Cause.{Cause}
 use Rattle.exec_claims.specs.Cause.Cause.{no_memory}
 use Rattle.exec_claims.proofs.KnownLemmas.{cause_known}

@@ -1,5 +1,5 @@
 use Rattle.std.proofs.Common.{[]}
-use Rattle.call_words.specs.Reading.{asked_in}
+use Rattle.call_claims.specs.Reading.{asked_in}
 use Rattle.trace_call.specs.Work.IsWorkOn.{read}
 use Rattle.trace_call.proofs.WorkLemmas.{work_back}
 use Rattle.trace_call.proofs.call.work_for.Goals as goal

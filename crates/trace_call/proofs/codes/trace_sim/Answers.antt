@@ -1,7 +1,7 @@
 use Rattle.std.proofs.Common.{refl, subst, sym}
-use Rattle.call_words.specs.Reading.{asked_in}
+use Rattle.call_claims.specs.Reading.{asked_in}
 use Rattle.exec_claims.specs.Cause.{run_of}
-use Rattle.listing_code.specs.of_grid_sim.Run.{run_in}
+use Rattle.exec_call.specs.of_grid_sim.Run.{run_in}
 use Rattle.trace_call.specs.Trace.{IsTracedRun}
 use Rattle.trace_call.specs.Work.{IsTracedOn}
 use Rattle.trace_call.proofs.WorkLemmas.{never_more, traced_on}

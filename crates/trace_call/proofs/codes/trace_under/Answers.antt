@@ -1,4 +1,4 @@
-use Rattle.call_words.specs.Reading.{asked_in}
+use Rattle.call_claims.specs.Reading.{asked_in}
 use Rattle.trace_call.proofs.WorkLemmas.{unstarted}
 use Rattle.trace_call.proofs.codes.trace_under.Goals as goal
 

@@ -2,10 +2,10 @@ use Rattle.std.proofs.Common.{rules, ◌≡◌, ◌∙◌, [], ap, refl, sym, su
 use Rattle.std.specs.Result.{IsErrAnd}
 use Rattle.zpl_nums.specs.declared.ends.End.{End}
 use Rattle.grid_runs.specs.Run.{Run}
-use Rattle.listing_code.specs.of_grid_sim.Run.{run_in}
-use Rattle.listing_code.specs.of_grid_sim.declared.faults.SimFault.{SimFault}
-use Rattle.listing_code.specs.of_grid_sim.declared.faults.SimFault.TheVariants.{SinkFailed, Stuck, TurnLimit}
-use Rattle.listing_code.proofs.of_grid_sim.RunLemmas.{counts_same, next_turns}
+use Rattle.exec_call.specs.of_grid_sim.Run.{run_in}
+use Rattle.exec_call.specs.of_grid_sim.declared.faults.SimFault.{SimFault}
+use Rattle.exec_call.specs.of_grid_sim.declared.faults.SimFault.TheVariants.{SinkFailed, Stuck, TurnLimit}
+use Rattle.exec_call.proofs.of_grid_sim.RunLemmas.{counts_same, next_turns}
 use Rattle.trace_call.specs.Telling.{IsLined, IsPutLast}
 use Rattle.trace_call.specs.Trace.{IsTracedRun}
 use Rattle.trace_call.proofs.TraceLemmas.{IsTracedTo, traced_cut, traced_limited, traced_more, traced_none}

@@ -1,5 +1,5 @@
 use Rattle.std.proofs.Common.{◌≡◌, ◌+◌, length}
-use Rattle.listing_code.specs.of_grid_sim.Run.{run_in}
+use Rattle.exec_call.specs.of_grid_sim.Run.{run_in}
 use Rattle.trace_call.proofs.TraceLemmas.{IsTracedTo}
 use Rattle.trace_call.proofs.runs.run_traced.Given as goal
 

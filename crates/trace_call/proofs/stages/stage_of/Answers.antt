@@ -1,7 +1,7 @@
 use Rattle.std.proofs.Common.{rules, ◌≡◌, false}
 use Rattle.std.specs.Prelude.{Some, is_some, slice_get}
 use Rattle.node_form.specs.Fits.{FitsInstr}
-use Rattle.listing_code.specs.of_row_turn.Placed.{IsAtRow}
+use Rattle.exec_call.specs.of_row_turn.Placed.{IsAtRow}
 use Rattle.trace_call.proofs.LineLemmas.{none_from, stage_is}
 use Rattle.trace_call.proofs.stages.stage_of.Goals as goal
 

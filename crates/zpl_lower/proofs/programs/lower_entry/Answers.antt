@@ -1,6 +1,6 @@
 use Rattle.std.proofs.Common.{ap, refl, sym, ◌∙◌, [], arith}
 use Rattle.zpl_lowering.specs.Program.{entry_code}
-use Rattle.array_places.specs.View.{setup_of}
+use Rattle.interpreter_places.specs.View.{setup_of}
 use Rattle.lower_draft.specs.Drafted.{grown}
 use Rattle.lower_frames.specs.of_lower_places.View.{currents_of}
 use Rattle.zpl_lower.specs.Programs.{entry_at}

@@ -1,7 +1,7 @@
 use Rattle.std.proofs.Common.{ap, refl, ◌∙◌}
 use Rattle.zpl_bind.specs.Storages.{borders_in}
 use Rattle.zpl_lowering.specs.Program.{entry_calling, entry_code}
-use Rattle.array_places.specs.View.{setup_of}
+use Rattle.interpreter_places.specs.View.{setup_of}
 use Rattle.lower_draft.specs.Drafted.{grown}
 use Rattle.zpl_lower.specs.Programs.{frame_in, program_in}
 use Rattle.zpl_lower.proofs.ProgramLemmas.{opened_calling, opened_running}

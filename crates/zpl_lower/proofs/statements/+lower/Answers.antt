@@ -3,8 +3,8 @@ use Rattle.std.proofs.Common.{[], drop, get_or}
 use Rattle.std.proofs.lemmas.List.Elements.{All-get_or}
 use Rattle.zpl_tree.specs.declared.statements.Arm.{out-Arm}
 use Rattle.zpl_tree.specs.declared.statements.Stmt.{size-Stmt}
-use Rattle.routine_walks.specs.Texts.{routine_of}
-use Rattle.routine_walks.specs.declared.texts.Routine.{Routine}
+use Rattle.text_walks.specs.Texts.{routine_of}
+use Rattle.text_walks.specs.declared.routine_texts.Routine.{Routine}
 use Rattle.zpl_tree.specs.Syntax as syntax
 use Rattle.zpl_tree.specs.View.{arms_of, else_of, expr_of, exprs_of, head_of, name_of}
 use Rattle.zpl_tree.specs.View.{statement_of, stmt_of, stmts_of}
@@ -12,7 +12,7 @@ use Rattle.zpl_names.specs.Sites.{is_shattered}
 use Rattle.zpl_lowering.specs.Program.{call_code}
 use Rattle.zpl_lowering.specs.Statement as statement
 use Rattle.zpl_lowering.specs.Where.{line_of, reach_of}
-use Rattle.array_places.specs.View.{setup_of}
+use Rattle.interpreter_places.specs.View.{setup_of}
 use Rattle.lower_draft.specs.Drafted.{grown}
 use Rattle.lower_frames.specs.Frames.{entered_code, framed_of, given_of}
 use Rattle.lower_frames.specs.of_lower_places.View.{currents_of}

@@ -1,2 +1,0 @@
-pub mod Effect
-pub use Rattle.array_values.specs as of_array_values

@@ -1,2 +1,0 @@
-pub mod FrontLemmas
-pub use Rattle.array_regions.proofs as of_array_regions

@@ -1,5 +1,0 @@
-use Rattle.array_settling.proofs.FrontLemmas.{element_fit}
-use Rattle.array_settling.proofs.expressions.each_is_fit.Goals as goal
-
-pub returns : goal.returns
-returns c = λ d. element_fit c.args.exprs.now c.args.place d c.requires.below c.requires.fit

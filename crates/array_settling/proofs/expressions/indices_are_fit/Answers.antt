@@ -1,6 +1,0 @@
-use Rattle.std.proofs.Common.{subst}
-use Rattle.array_settling.specs.Fit.{IsFit}
-use Rattle.array_settling.proofs.expressions.indices_are_fit.Goals as goal
-
-pub returns : goal.returns
-returns c = subst IsFit c.requires.is c.requires.fit

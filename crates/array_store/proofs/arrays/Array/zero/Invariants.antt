@@ -1,5 +1,0 @@
-use Rattle.std.proofs.Common.{◌≡◌, replicate, pos}
-use Rattle.array_store.proofs.arrays.Array.zero.Given as goal
-
-abbrev pub invariant-loop : goal.invariant-loop
-invariant-loop l = l.values.items ≡ replicate l.counter (pos 0)

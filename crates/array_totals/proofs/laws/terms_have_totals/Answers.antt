@@ -1,5 +1,0 @@
-use Rattle.array_totals.proofs.TotalLemmas.{all_are_totals, fields_are_totals}
-use Rattle.array_totals.proofs.laws.terms_have_totals.Goals as goal
-
-pub returns : goal.returns
-returns c = record { one = fields_are_totals; all = all_are_totals }

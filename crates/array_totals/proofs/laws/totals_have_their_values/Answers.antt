@@ -1,5 +1,0 @@
-use Rattle.array_totals.proofs.TotalLemmas.{array_is, values_are}
-use Rattle.array_totals.proofs.laws.totals_have_their_values.Goals as goal
-
-pub returns : goal.returns
-returns c = record { list = values_are; array = array_is }

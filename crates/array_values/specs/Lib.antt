@@ -1,2 +1,0 @@
-pub mod Row
-pub use Rattle.array_terms.specs as of_array_terms

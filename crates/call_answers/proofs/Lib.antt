@@ -1,6 +1,0 @@
-pub mod AnswerLemmas
-pub mod CallLemmas
-pub mod FetchLemmas
-pub use Rattle.exec_claims.proofs as of_exec_claims
-pub use Rattle.grid_sim.proofs as of_grid_sim
-pub use Rattle.grid_sim.proofs.of_row_turn as of_row_turn

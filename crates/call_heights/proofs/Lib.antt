@@ -1,5 +1,0 @@
-pub mod ListLemmas
-pub mod WalkLemmas
-pub mod StepLemmas
-pub mod ChainLemmas
-pub mod LawLemmas

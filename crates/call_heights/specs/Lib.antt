@@ -1,3 +1,0 @@
-pub mod Calls
-pub mod Refutes
-pub mod Walk

@@ -1,9 +1,0 @@
-use Rattle.std.proofs.Common.{◌≡◌, All, length}
-use Rattle.call_heights_tests.specs.Graphs.{AreBelow}
-use Rattle.call_heights_tests.proofs.tests.graph_of.Given as goal
-
-abbrev pub invariant-loop-node : goal.invariant-loop-node
-invariant-loop-node l = record {
-  many : length l.graph.items ≡ l.node;
-  below : All (λ edges. AreBelow l.size edges.items) l.graph.items;
-}

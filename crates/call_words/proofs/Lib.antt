@@ -1,6 +1,0 @@
-pub mod AskedLemmas
-pub mod CommandLemmas
-pub mod NameLemmas
-pub mod NumberLemmas
-pub mod SettingLemmas
-pub mod GridLemmas

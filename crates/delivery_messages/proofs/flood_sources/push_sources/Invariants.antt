@@ -1,0 +1,12 @@
+use Rattle.zpl_arrays.specs.Flood.{flood_source}
+use Rattle.grid_meaning.specs.Place.{value_at}
+use Rattle.fold_messages.proofs.ReadLemmas.{left}
+use Rattle.delivery_messages.proofs.WalkLemmas.{IsWalking}
+use Rattle.delivery_messages.proofs.flood_sources.push_sources.Given as goal
+
+abbrev pub invariant-loop-next : goal.invariant-loop-next
+invariant-loop-next l =
+    IsWalking (λ t. value_at l.local.local.stores l.array (flood_source l.source t)) l.tuples l.next l.initial.into.items l.into.items
+
+abbrev pub decreases-loop-next : goal.decreases-loop-next
+decreases-loop-next l = left l.tuples l.next

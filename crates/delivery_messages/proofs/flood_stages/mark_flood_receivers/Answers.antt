@@ -1,0 +1,32 @@
+use Rattle.std.proofs.Common.{◌≡◌, ◌==◌, ◌&&◌, not, length, nat_lt, ap, ◌∙◌, arith}
+use Rattle.grid_layout.specs.Grid.{processors_of}
+use Rattle.grid_meaning.specs.Delivery.{flood_targets}
+use Rattle.grid_meaning.specs.Local.{processors}
+use Rattle.fold_messages.proofs.of_node_stages.PartnerLemmas.{apart_and, flagged-others, flags_step, same_not}
+use Rattle.fold_messages.proofs.of_node_stages.PieceLemmas.{grid_count}
+use Rattle.delivery_messages.proofs.flood_stages.mark_flood_receivers.Goals as goal
+use Rattle.delivery_messages.proofs.flood_stages.mark_flood_receivers.Goals.{then-q-p, else-q-p}
+
+pub has_flood_words-requires-clause-receiver : goal.has_flood_words-requires-clause-receiver
+has_flood_words-requires-clause-receiver c =
+    let count : c.count-q-end.result ≡ processors c.args.code.now =
+    c.count-q-end.ensures.count ∙ (ap processors_of c.grid.ensures ∙ grid_count c.args.code.now c.args.layout.now c.requires.layout) in
+    omega arith
+
+pub returns : goal.returns
+returns c =
+    let count : c.count-q-end.result ≡ processors c.args.code.now =
+    c.count-q-end.ensures.count ∙ (ap processors_of c.grid.ensures ∙ grid_count c.args.code.now c.args.layout.now c.requires.layout) in
+    flagged-others c.loop-q.flags (λ q. not (q == c.args.p))
+    (λ q. nat_lt 0 (length (flood_targets c.args.code.now c.args.target.now c.args.source.now c.args.p q))) (processors c.args.code.now)
+    (λ k below. c.loop-q.invariant k (omega arith))
+
+pub loop-q-preserved : goal.loop-q-preserved
+loop-q-preserved c =
+    flags_step c.loop-q.flags c.loop-q.q c.if-q-p.flags
+    (λ k. not (k == c.args.p) && nat_lt 0 (length (flood_targets c.args.code.now c.args.target.now c.args.source.now c.args.p k)))
+    (omega arith) c.loop-q.invariant
+    (elim c.if-q-p.branch [
+      | then-q-p w ↦ w.flags-is ∙ (w.has_flood_words.ensures ∙ apart_and c.loop-q.q c.args.p _ w.if-q-p.true)
+      | else-q-p w ↦ w.flags-is ∙ same_not c.loop-q.q c.args.p _ w.if-q-p.false
+    ])

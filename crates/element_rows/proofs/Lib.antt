@@ -1,2 +1,0 @@
-pub mod AroundLemmas
-pub mod ElementLemmas

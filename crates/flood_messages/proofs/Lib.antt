@@ -1,3 +1,0 @@
-mod ConformLemmas
-mod RowLemmas
-mod WalkLemmas

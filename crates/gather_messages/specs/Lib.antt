@@ -1,1 +1,0 @@
-pub use Rattle.node_messages.specs as of_node_messages

@@ -1,3 +1,0 @@
-mod OwnerLemmas
-mod GatherLemmas
-mod RowLemmas

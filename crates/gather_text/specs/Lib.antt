@@ -1,2 +1,0 @@
-pub mod Printer
-pub mod Shown

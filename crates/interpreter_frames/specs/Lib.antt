@@ -1,0 +1,5 @@
+pub mod Variables
+pub mod Heads
+pub mod Handed
+pub use Rattle.interpreter_places.specs as of_interpreter_places
+pub use Rattle.interpreter_regions.specs as of_interpreter_regions

@@ -1,0 +1,6 @@
+use Rattle.std.proofs.Common.{subst}
+use Rattle.interpreter_settling.specs.Fit.{IsFit}
+use Rattle.interpreter_settling.proofs.expressions.indices_are_fit.Goals as goal
+
+pub returns : goal.returns
+returns c = subst IsFit c.requires.is c.requires.fit

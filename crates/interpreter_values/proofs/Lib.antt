@@ -1,0 +1,4 @@
+pub mod RowLemmas
+pub mod TermLemmas
+pub mod RemapLemmas
+pub mod EffectLemmas

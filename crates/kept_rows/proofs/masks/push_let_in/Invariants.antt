@@ -1,6 +1,0 @@
-use Rattle.std.proofs.Common.{◌≡◌, ◌++◌, take}
-use Rattle.kept_rows.specs.Kept.{let_in}
-use Rattle.kept_rows.proofs.masks.push_let_in.Given as goal
-
-abbrev pub invariant-loop-k : goal.invariant-loop-k
-invariant-loop-k l = l.out.items ≡ l.fn.out.items ++ let_in l.without (take l.k l.values)

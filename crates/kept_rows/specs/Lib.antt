@@ -1,2 +1,0 @@
-pub mod Kept
-pub use Rattle.array_terms.specs as of_array_terms

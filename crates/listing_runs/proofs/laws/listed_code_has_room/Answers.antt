@@ -1,5 +1,0 @@
-use Rattle.listing_runs.proofs.RoomLemmas.{rooms_same}
-use Rattle.listing_runs.proofs.laws.listed_code_has_room.Goals as goal
-
-pub returns : goal.returns
-returns c = record { rooms = rooms_same; listed = λ bytes code is. (rooms_same code).0 is.room }

@@ -1,3 +1,0 @@
-pub mod KeptLemmas
-pub mod ReadLemmas
-pub use Rattle.node_stages.proofs as of_node_stages

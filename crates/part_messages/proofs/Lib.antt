@@ -1,5 +1,0 @@
-mod AheadLemmas
-mod FoldLemmas
-mod JoinLemmas
-mod MeetLemmas
-mod RowLemmas

@@ -1,4 +1,0 @@
-pub mod Folding
-pub mod Joining
-pub mod Meeting
-pub mod Walking

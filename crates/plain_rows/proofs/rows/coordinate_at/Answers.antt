@@ -1,6 +1,0 @@
-use Rattle.zpl_region.specs.Region.{members}
-use Rattle.plain_rows.proofs.RowLemmas.{none_at}
-use Rattle.plain_rows.proofs.rows.coordinate_at.Goals as goal
-
-pub returns-in-None : goal.returns-in-None
-returns-in-None c = none_at (members c.args.region.now) c.args.i c.args.k c.in-None.ensures

@@ -1,1 +1,0 @@
-pub use Rattle.zpl_meaning.specs as of_zpl_meaning

@@ -1,6 +1,0 @@
-mod AnswerLemmas
-mod CountLemmas
-mod SourceLemmas
-mod StageLemmas
-mod TurnLemmas
-mod WantLemmas

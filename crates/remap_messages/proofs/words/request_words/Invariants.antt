@@ -1,6 +1,0 @@
-use Rattle.std.proofs.Common.{◌≡◌, take}
-use Rattle.remap_messages.specs.Asked.{words_of}
-use Rattle.remap_messages.proofs.words.request_words.Given as goal
-
-abbrev pub invariant-loop-want : goal.invariant-loop-want
-invariant-loop-want l = l.words.items ≡ words_of l.rank (take l.want-index l.wants)

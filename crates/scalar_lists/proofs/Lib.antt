@@ -1,2 +1,0 @@
-pub mod ListLemmas
-pub use Rattle.array_scalars.proofs as of_array_scalars

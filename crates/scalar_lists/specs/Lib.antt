@@ -1,2 +1,0 @@
-pub mod Scalars
-pub use Rattle.array_scalars.specs as of_array_scalars

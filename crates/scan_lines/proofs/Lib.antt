@@ -1,5 +1,0 @@
-pub mod CountLemmas
-pub mod LoopLemmas
-pub mod LineLemmas
-pub mod ScanLemmas
-pub mod TotalLemmas

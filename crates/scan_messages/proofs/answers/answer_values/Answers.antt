@@ -1,0 +1,49 @@
+use Rattle.std.proofs.Common.{rules, ◌≡◌, ◌<◌, ◌≤◌, ◌*◌, ◌/◌, length, take, drop, refl, sym, ap, ◌∙◌, subst, arith}
+use Rattle.std.specs.Prelude.{Some, slice_get}
+use Rattle.reduce_plan.proofs.WalkLemmas.{pushed}
+use Rattle.grid_meaning.specs.Place.{value_at, values_at}
+use Rattle.grid_meaning.specs.Remap.{padded, tuples_in}
+use Rattle.scan_messages.proofs.WalkLemmas.{collecting_ends, collecting_lacks, collecting_step}
+use Rattle.scan_messages.proofs.AnswerLemmas.{no_tuple, tuple_in}
+use Rattle.scan_messages.proofs.answers.answer_values.Goals as goal
+
+pub returns-in_default : goal.returns-in_default
+returns-in_default c =
+    let stores = c.args.local.now.local.stores in
+    let rank = c.args.rank in
+    let asked = c.args.asked.now in
+    let count = length asked / rank in
+    let ts = tuples_in count rank asked in
+    let width : c.from-width.result ≡ rank = c.from-width.ensures in
+    let less : c.loop-i.i < count = subst (λ w. c.loop-i.i < length asked / w) width (omega (arith, c.loop-i-test.true)) in
+    let at : slice_get ts c.loop-i.i ≡ Some c.tuple_at-x.result = tuple_in count rank c.loop-i.i asked less
+    ∙ (ap (λ w. Some (padded (take rank (drop (c.loop-i.i * w) asked)))) (sym width) ∙ ap Some (sym c.tuple_at-x.ensures)) in
+    collecting_lacks (value_at stores c.args.from) (values_at stores c.args.from) refl (λ t us. refl) ts c.loop-i.i c.tuple_at-x.result c.loop-i.values.items at
+    c.loop-i.invariant (sym c.value_at.ensures ∙ c.in_default.is)
+
+pub loop-i-preserved : goal.loop-i-preserved
+loop-i-preserved c =
+    let stores = c.args.local.now.local.stores in
+    let rank = c.args.rank in
+    let asked = c.args.asked.now in
+    let count = length asked / rank in
+    let ts = tuples_in count rank asked in
+    let width : c.from-width.result ≡ rank = c.from-width.ensures in
+    let less : c.loop-i.i < count = subst (λ w. c.loop-i.i < length asked / w) width (omega (arith, c.loop-i-test.true)) in
+    let at : slice_get ts c.loop-i.i ≡ Some c.tuple_at-x.result = tuple_in count rank c.loop-i.i asked less
+    ∙ (ap (λ w. Some (padded (take rank (drop (c.loop-i.i * w) asked)))) (sym width) ∙ ap Some (sym c.tuple_at-x.ensures)) in
+    collecting_step (value_at stores c.args.from) (values_at stores c.args.from) refl (λ t us. refl) ts c.loop-i.i c.tuple_at-x.result c.in-Some.value
+    c.loop-i.values.items c.push.new.self.items at c.loop-i.invariant (sym c.value_at.ensures ∙ c.in-Some.is)
+    (pushed c.push.result c.push.new.self.items c.loop-i.values.items _ c.in-Some.value c.in_ok-push.field-0 c.push.ensures.items c.in_ok-push.was (search rules))
+
+pub returns : goal.returns
+returns c =
+    let stores = c.args.local.now.local.stores in
+    let rank = c.args.rank in
+    let asked = c.args.asked.now in
+    let count = length asked / rank in
+    let ts = tuples_in count rank asked in
+    let width : c.from-width.result ≡ rank = c.from-width.ensures in
+    let past : count ≤ c.loop-i.i = subst (λ w. length asked / w ≤ c.loop-i.i) width (omega (arith, c.loop-i-test.false)) in
+    collecting_ends (value_at stores c.args.from) (values_at stores c.args.from) refl (λ t us. refl) ts c.loop-i.i
+    c.loop-i.values.items (no_tuple count rank c.loop-i.i asked past) c.loop-i.invariant

@@ -1,8 +1,0 @@
-use Rattle.std.proofs.Common.{◌<◌, ◌≤◌, length, arith}
-use Rattle.zpl_region.proofs.EndLemmas.{length-tuple_count}
-use Rattle.zpl_region.proofs.HullLemmas.{has_steps}
-use Rattle.source_rows_tests.proofs.tests.reduced.Goals as goal
-
-pub count-requires-clause-fits : goal.count-requires-clause-fits
-count-requires-clause-fits g c =
-    omega (arith, length-tuple_count c.plane-source.result.dims (has_steps c.plane-source.result.dims c.plane-source.ensures.region.dims), c.plane-source.ensures.few)

@@ -1,7 +1,0 @@
-use Rattle.std.proofs.Common.{◌≡◌}
-use Rattle.value_rows.specs.Row.{folded_row}
-use Rattle.value_rows.proofs.FoldLemmas.{fold_left}
-use Rattle.value_rows.proofs.folds.fold_row.Given as goal
-
-abbrev pub invariant-loop-k : goal.invariant-loop-k
-invariant-loop-k l = folded_row l.fold l.values l.kept ≡ fold_left l.fold l.so_far l.k l.values l.kept

@@ -1,5 +1,0 @@
-use Rattle.value_rows.proofs.FoldLemmas.{reduction_is}
-use Rattle.value_rows.proofs.laws.folds_are_those_of_totals.Goals as goal
-
-pub returns : goal.returns
-returns c = reduction_is

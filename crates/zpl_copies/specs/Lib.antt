@@ -1,4 +1,0 @@
-pub mod Tables
-pub mod Shapes
-pub mod Uses
-pub mod Flows
