@@ -11,5 +11,6 @@ pub mod CycleLemmas
 pub mod StepLemmas
 pub mod SizeLemmas
 pub mod FormLemmas
+pub mod QuickLemmas
 pub use Rattle.array_frames.proofs as of_array_frames
 pub use Rattle.array_steps.proofs.of_array_regions as of_array_regions

@@ -7,6 +7,7 @@ mod choices;
 mod counting;
 mod endings;
 mod faults;
+mod quick;
 mod ranks;
 mod runs;
 mod simple;

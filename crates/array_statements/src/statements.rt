@@ -28,6 +28,7 @@ use crate::choices::{Truth, behind_prefixes, truth_of};
 use crate::counting::{is_past, next_value};
 use crate::endings::{is_done, stopped};
 use crate::faults::MeanFault;
+use crate::quick::quick_loop;
 use crate::ranks::tests_rank;
 use crate::runs::{Run, body_place, entered_at};
 use crate::simple::{assign, give_back, print, set_borders, set_result, shatter};
@@ -96,7 +97,8 @@ fn exec_all<'n, O: Sink>(
     Ok(End::Done)
 }
 
-/// Runs a statement behind its prefixes.
+/// Runs a statement behind its prefixes. A loop of scalars alone goes by code that has their places in
+/// it.
 #[cycle(statements)]
 fn exec_behind<'n, O: Sink>(
     run: &Run<'_, 'n>,
@@ -122,7 +124,10 @@ fn exec_behind<'n, O: Sink>(
             run.alloc, place, rank, run.turns, stmt.at, &stmt.form, store,
         )
     } else {
-        exec_form(run, place, stmt, store, buffers, out)
+        match quick_loop(run.alloc, place, run.turns, stmt, store) {
+            Some(ending) => Ok(ending),
+            None => exec_form(run, place, stmt, store, buffers, out),
+        }
     }
 }
 

@@ -28,7 +28,8 @@ use Rattle.array_statements.proofs.DepthLemmas.{deepest, deepest_holds, falls, r
 use Rattle.array_statements.proofs.FitLemmas.{fit_value, fit_values}
 use Rattle.array_statements.proofs.FormLemmas.{no_call}
 use Rattle.array_statements.proofs.LoopLemmas.{set_in}
-use Rattle.array_statements.proofs.RunLemmas.{as_equal, as_self, goes_begin, runs_as}
+use Rattle.array_statements.proofs.QuickLemmas.{not_quick}
+use Rattle.array_statements.proofs.RunLemmas.{as_equal, as_self, goes_begin, quiet, runs_as}
 use Rattle.array_statements.proofs.SizeLemmas.{arm_size, block_size, else_size, for_size, item_falls, repeat_size, while_size}
 use Rattle.array_statements.proofs.StatementLemmas.{IsNoCall, assign_call_traps, for_traps, invoke_traps, whole_repeat, whole_while}
 use Rattle.array_statements.proofs.StepLemmas.{all_failed, all_goes, assign_runs, form_left, from_ended, from_failed, from_next, from_past, from_runs, from_wants, if_ends, if_runs, lacking, passed, placed_runs, repeat_ended, repeat_ends, repeat_failed, repeat_lacking, repeat_next, repeat_true, stopped_runs, wanted, while_ended, while_ends, while_failed, while_false, while_next, while_wants}
@@ -108,6 +109,18 @@ exec_behind-shatter-requires-clause-elementwise g t c =
     c.requires.running.ranked c.requires.here
     (ap is_above_zero (sym c.tests_rank-rank.ensures) ∙
     (sym c.is_above_zero.ensures ∙ c.if-is_above_zero.true))
+
+pub exec_behind-returns-in-Some : goal.exec_behind-returns-in-Some
+exec_behind-returns-in-Some g t c =
+    let context = context_of c.args.run.now c.args.place.now in
+    quiet (Ok c.in-Some.ending) _ c.quick_loop.new.store _ _ (c.in-Some.ensures context.call)
+
+pub exec_behind-returns-in-None : goal.exec_behind-returns-in-None
+exec_behind-returns-in-None g t c =
+    let context = context_of c.args.run.now c.args.place.now in
+    not_quick c.exec_form.result context c.args.run.now.turns c.args.stmt.now.at
+    (statement_of c.args.stmt.now.form) c.args.store.now c.quick_loop.new.store
+    c.exec_form.new.store _ _ _ _ (c.in-None.ensures context.call) c.exec_form.ensures
 
 pub exec_form-arm_taken-requires-clause-fit : goal.exec_form-arm_taken-requires-clause-fit
 exec_form-arm_taken-requires-clause-fit g t c =

@@ -1,0 +1,3 @@
+mod FormulaLemmas
+mod LeftLemmas
+mod StatementLemmas

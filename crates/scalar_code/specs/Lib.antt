@@ -1,0 +1,5 @@
+pub mod Formulas
+pub mod Code
+pub mod Left
+pub mod Quick
+pub mod View

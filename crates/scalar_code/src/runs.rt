@@ -1,0 +1,114 @@
+//! How code is run.
+ghost use Rattle.std.specs.Prelude.{◌≡◌};
+ghost use Rattle.scalar_code.specs.Formulas.{value_at};
+ghost use Rattle.scalar_code.specs.Left as plain;
+ghost use Rattle.scalar_code.specs.Left.{answered, code_left, left_so, set_left, step_left};
+ghost use Rattle.scalar_code.specs.View.{code_in, formula_in, step_in};
+
+use crate::codes::{Code, Step};
+use crate::formulas::Formula;
+use crate::halts::Halt;
+use crate::values::value_at;
+use array_places::array_store::Store;
+
+/// What a test at an offset answers.
+fn answer(at: u32, test: &Formula<'_>, store: &Store) -> Result<bool, Halt>
+    ensures { answered (value_at store.now (formula_in test.now)) at ≡ result }
+{
+    match value_at(store, test) {
+        Ok(value) => Ok(value != 0),
+        Err(kind) => Err(Halt::Trap(kind, at)),
+    }
+}
+
+/// Runs an assignment.
+fn set(at: u32, target: usize, formula: &Formula<'_>, store: &mut Store) -> Result<(), Halt>
+    ensures { set_left at target (formula_in formula.now) store.old ≡ left_so store.new result }
+{
+    match value_at(store, formula) {
+        Ok(value) => {
+            store.set_scalar(target, value);
+            Ok(())
+        }
+        Err(kind) => Err(Halt::Trap(kind, at)),
+    }
+}
+
+/// Runs statements, one after the other, with at most so many turns of each loop.
+#[cycle(runs)]
+fn run(code: &Code<'_>, turns: u64, store: &mut Store) -> Result<(), Halt>
+    ensures { code_left turns (code_in code.now) store.old ≡ left_so store.new result }
+{
+    let mut left = code;
+    while let Code::Then(first, rest) = left {
+        run_step(first, turns, store)?;
+        left = rest;
+    }
+    Ok(())
+}
+
+/// Runs a statement, with at most so many turns of each loop.
+#[cycle(runs)]
+pub fn run_step(step: &Step<'_>, turns: u64, store: &mut Store) -> Result<(), Halt>
+    ensures { step_left turns (step_in step.now) store.old ≡ left_so store.new result }
+{
+    match step {
+        Step::Set(at, target, formula) => set(*at, *target, formula, store),
+        Step::Block(body) => run(body, turns, store),
+        Step::Choose(at, test, yes, no) => match answer(*at, test, store) {
+            Ok(true) => run(yes, turns, store),
+            Ok(false) => run(no, turns, store),
+            Err(halt) => Err(halt),
+        },
+        Step::While(at, test, body) => run_while(*at, test, body, turns, store),
+        Step::Repeat(body, at, test) => run_repeat(*at, test, body, turns, store),
+    }
+}
+
+/// Runs a loop that tests before each turn.
+#[cycle(runs)]
+fn run_while(
+    at: u32,
+    test: &Formula<'_>,
+    body: &Code<'_>,
+    turns: u64,
+    store: &mut Store,
+) -> Result<(), Halt>
+    ensures { plain.while_turns turns (formula_in test.now) at
+        (code_left turns (code_in body.now)) store.old ≡ left_so store.new result }
+{
+    let mut left = turns;
+    while answer(at, test, store)? {
+        if left == 0 {
+            return Err(Halt::More);
+        }
+        left -= 1;
+        run(body, turns, store)?;
+    }
+    Ok(())
+}
+
+/// Runs a loop that tests after each turn.
+#[cycle(runs)]
+fn run_repeat(
+    at: u32,
+    test: &Formula<'_>,
+    body: &Code<'_>,
+    turns: u64,
+    store: &mut Store,
+) -> Result<(), Halt>
+    ensures { plain.repeat_turns turns (formula_in test.now) at
+        (code_left turns (code_in body.now)) store.old ≡ left_so store.new result }
+{
+    let mut left = turns;
+    loop {
+        if left == 0 {
+            return Err(Halt::More);
+        }
+        left -= 1;
+        run(body, turns, store)?;
+        if answer(at, test, store)? {
+            return Ok(());
+        }
+    }
+}
