@@ -1,5 +1,5 @@
 -- What formulas are worth.
-use Rattle.std.proofs.Common.{◌≡◌, ℕ, ℤ, pos, Option, Some, None, refl, ◌∙◌, ap, ap₂, subst}
+use Rattle.std.proofs.Common.{◌≡◌, ℕ, ℤ, pos, List, [], ◌∷◌, Option, Some, None, refl, ◌∙◌, ap, ap₂, subst}
 use Rattle.std.specs.Option.{option_map}
 use Rattle.zpl_nums.specs.declared.operators.Op.{Op}
 use Rattle.zpl_nums.specs.declared.operators.UnaryOp.{UnaryOp}
@@ -7,13 +7,15 @@ use Rattle.zpl_nums.specs.declared.operators.UnaryOp.TheVariants as unary
 use Rattle.zpl_nums.specs.Integer.{truth, negated, absolute, denied}
 use Rattle.zpl_nums.specs.Op.{applied}
 use Rattle.zpl_tree.specs.Syntax.{Expr, Number, Truth, Coord, Named, Shifted, Around, Remap, Call, Paren, Neg, Not, Abs, Pair, Reduce, Scan, Flood}
-use Rattle.zpl_names.specs.Sites.{Role}
+use Rattle.zpl_names.specs.Sites.{Role, Limit}
 use Rattle.zpl_meaning.specs.Computed.{Gives, computed_then, both_then, given}
 use Rattle.zpl_meaning.specs.Context.{Place}
-use Rattle.zpl_meaning.specs.Phases.{scalar_in}
-use Rattle.zpl_meaning.specs.Scalars.{IsScalar, IsScalarName}
+use Rattle.zpl_meaning.specs.Phases.{placed_in, scalar_in, scalars_in}
+use Rattle.zpl_meaning.specs.Scalars.{AreScalars, IsScalar, IsScalarName, values_of}
+use Rattle.zpl_meaning.specs.Settled.{Placed}
 use Rattle.zpl_meaning.specs.Store.{Thing, Scalar, ArrayAt, Fixed, Environment, Store, thing_of}
 use Rattle.zpl_meaning.specs.Value.{thing_value, value_of}
+use Rattle.scalar_code.specs.Counts.{in_front}
 use Rattle.scalar_code.specs.Formulas.{Formula, Constant, Variable, Unary, Binary, value_at, named, both, formula_of}
 
 pub some_is : {A : Type 0} (x y : A) → Some x ≡ Some y → x ≡ y
@@ -116,15 +118,37 @@ formula_is env (Flood at source operand) f is = no_some f is
 
 -- ---- with the law on scalars
 
--- scalars have their values
-abbrev pub Law : Type 0
-Law = (place : Place) (store : Store) (role : Role) (expr : Expr) →
-    IsScalar place.environment expr →
-    scalar_in place store role expr ≡ value_of place.environment store expr
+-- scalars have their values, one of them and several
+pub record Law : Type 0 where
+  pub one : (place : Place) (store : Store) (role : Role) (expr : Expr) →
+      IsScalar place.environment expr →
+      scalar_in place store role expr ≡ value_of place.environment store expr
+  pub all : (place : Place) (store : Store) (exprs : List Placed) →
+      AreScalars place.environment exprs →
+      scalars_in place store exprs ≡ values_of place.environment store exprs
 
 pub formula_value : Law → (place : Place) (role : Role) (expr : Expr) (formula : Formula) →
     formula_of place.environment expr ≡ Some formula → (store : Store) →
     scalar_in place store role expr ≡ value_at store formula
 formula_value law place role expr formula is store =
     let it = formula_is place.environment expr formula is in
-    law place store role expr it.scalar ∙ it.value store
+    law.one place store role expr it.scalar ∙ it.value store
+
+-- the three values of a loop that counts
+pub limits_value : Law → (place : Place) (first last by : Expr) (f g h : Formula) →
+    formula_of place.environment first ≡ Some f → formula_of place.environment last ≡ Some g →
+    formula_of place.environment by ≡ Some h → (store : Store) →
+    scalars_in place store
+    (placed_in place Limit first ∷ placed_in place Limit last ∷ placed_in place Limit by ∷ []) ≡
+    in_front (value_at store f)
+    (in_front (value_at store g) (in_front (value_at store h) (Gives [])))
+limits_value law place first last by f g h is also more store =
+    let one = formula_is place.environment first f is in
+    let two = formula_is place.environment last g also in
+    let three = formula_is place.environment by h more in
+    law.all place store
+    (placed_in place Limit first ∷ placed_in place Limit last ∷ placed_in place Limit by ∷ [])
+    (one.scalar, (two.scalar, (three.scalar, tt)))
+    ∙ ap₂ (λ a b. in_front a b) (one.value store)
+    (ap₂ (λ a b. in_front a b) (two.value store)
+    (ap (λ o. in_front o (Gives [])) (three.value store)))

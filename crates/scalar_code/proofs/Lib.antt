@@ -1,3 +1,4 @@
 mod FormulaLemmas
 mod LeftLemmas
+mod RunLemmas
 mod StatementLemmas

@@ -1,25 +1,30 @@
 -- The code of statements leaves what they come to.
-use Rattle.std.proofs.Common.{◌≡◌, ℕ, zero, suc, ℤ, true, false, [], ◌∷◌, Option, Some, None, Bool, refl, sym, ◌∙◌, ap, subst}
+use Rattle.std.proofs.Common.{◌≡◌, ℕ, zero, suc, ℤ, true, false, [], ◌∷◌, Option, Some, None, Result, Bool, refl, sym, ◌∙◌, ap, subst}
 use Rattle.std.specs.Option.{option_map}
 use Rattle.zpl_nums.specs.declared.operators.Op.{Op}
-use Rattle.zpl_tree.specs.Syntax.{Name, Expr, Number, Truth, Coord, Named, Shifted, Around, Remap, Call, Paren, Neg, Not, Abs, Pair, Reduce, Scan, Flood, Prefix, Stmt, Prefixed, Stmts, NoStmt, ThenStmt, Form, Assign, Invoke, Block, If, While, Repeat, For, Border, Write, Return, Arm, Tested, Arms, NoArm, ThenArm, Otherwise, NoElse, Else}
+use Rattle.zpl_tree.specs.Syntax.{ForHead, Name, Expr, Number, Truth, Coord, Named, Shifted, Around, Remap, Call, Paren, Neg, Not, Abs, Pair, Reduce, Scan, Flood, Prefix, Stmt, Prefixed, Stmts, NoStmt, ThenStmt, Form, Assign, Invoke, Block, If, While, Repeat, For, Border, Write, Return, Arm, Tested, Arms, NoArm, ThenArm, Otherwise, NoElse, Else}
 use Rattle.zpl_names.specs.Kinds.{Rank}
 use Rattle.zpl_names.specs.Ranks.{first_rank, is_above_zero}
 use Rattle.zpl_names.specs.Sites.{Assigned, Test as TestRole, arms_rank, test_rank}
+use Rattle.zpl_meaning.specs.Calls.{Called}
+use Rattle.zpl_meaning.specs.Computed.{Gives, computed_then}
 use Rattle.zpl_meaning.specs.Context.{Place, reach_of}
 use Rattle.zpl_meaning.specs.Outcome.{Outcome, choose, goes_on, repeat_turns, while_turns, with_value}
 use Rattle.zpl_meaning.specs.Phases.{scalar_in}
 use Rattle.zpl_meaning.specs.Points.{assigned_expr, shattered}
-use Rattle.zpl_meaning.specs.Statement.{Context, arms_at, assign, assign_to, exec, exec_all, exec_arm, exec_arms, exec_form, exec_otherwise, line_of}
+use Rattle.zpl_meaning.specs.Statement.{Context, arms_at, assign, assign_to, exec, exec_all, exec_arm, exec_arms, exec_form, exec_otherwise, for_from, head_value, line_of, start_of, step_expr}
 use Rattle.zpl_meaning.specs.Statement as statement
 use Rattle.zpl_meaning.specs.Store.{Thing, Scalar, ArrayAt, Fixed, Store, thing_of, with_scalar}
 use Rattle.scalar_code.specs.Code as code
-use Rattle.scalar_code.specs.Code.{Code, Step, arms_code, choose_of, code_of, form_step, last_code, repeat_of, set_of, step_of, test_of, then_of, unless, while_of}
+use Rattle.scalar_code.specs.Code.{Code, Head, Step, arms_code, choose_of, code_of, for_of, form_step, head_of, head_step, last_code, repeat_of, set_of, step_of, test_of, then_of, unless, while_of}
+use Rattle.scalar_code.specs.Counts.{start_at}
 use Rattle.scalar_code.specs.Formulas.{Formula, formula_of, value_at}
-use Rattle.scalar_code.specs.Left as left
-use Rattle.scalar_code.specs.Left.{code_left, goes, set_left, step_left}
-use Rattle.scalar_code.proofs.FormulaLemmas.{Law, formula_value, no_some, some_is}
-use Rattle.scalar_code.proofs.LeftLemmas.{Does, Same, goes_same, last_same, repeat_same, tested_same, then_same, valued_same, while_same}
+use Rattle.scalar_code.specs.Left as plain
+use Rattle.scalar_code.specs.Left.{code_left, goes, left_so, set_left, step_left}
+use Rattle.scalar_code.specs.Quick.{Leaves, context_at}
+use Rattle.scalar_code.specs.declared.halts.Halt.{Halt}
+use Rattle.scalar_code.proofs.FormulaLemmas.{Law, formula_value, limits_value, no_some, some_is}
+use Rattle.scalar_code.proofs.LeftLemmas.{Does, Same, from_same, goes_same, last_same, repeat_same, tested_same, then_same, valued_same, while_same}
 
 -- ---- parts that have code
 
@@ -57,6 +62,31 @@ of_repeat (Some body) at (Some f) step P is make =
 of_repeat None at (Some f) step P is make = no_some step is
 of_repeat (Some body) at None step P is make = no_some step is
 of_repeat None at None step P is make = no_some step is
+
+of_head : (at : ℕ) (thing : Option Thing) (down : Bool) (o p q : Option Formula) (head : Head)
+    (P : Head → Type 0) → head_of at thing down o p q ≡ Some head →
+    ((target : ℕ) (f g h : Formula) → thing ≡ Some (Scalar target) → o ≡ Some f → p ≡ Some g →
+    q ≡ Some h →
+    P
+    (record { at = at; target = target; down = down; first = f; last = g; by = h })) → P head
+of_head at (Some (Scalar target)) down (Some f) (Some g) (Some h) head P is make =
+    subst P
+    (some_is (record { at = at; target = target; down = down; first = f; last = g; by = h }) head
+    is) (make target f g h refl refl refl refl)
+of_head at (Some (Scalar target)) down (Some f) (Some g) None head P is make = no_some head is
+of_head at (Some (Scalar target)) down (Some f) None q head P is make = no_some head is
+of_head at (Some (Scalar target)) down None p q head P is make = no_some head is
+of_head at (Some (ArrayAt target home)) down o p q head P is make = no_some head is
+of_head at (Some (Fixed value)) down o p q head P is make = no_some head is
+of_head at None down o p q head P is make = no_some head is
+
+of_for : (o : Option Head) (p : Option Code) (step : Step) (P : Step → Type 0) →
+    for_of o p ≡ Some step →
+    ((head : Head) (body : Code) → o ≡ Some head → p ≡ Some body → P (code.For head body)) → P step
+of_for (Some head) (Some body) step P is make =
+    subst P (some_is (code.For head body) step is) (make head body refl refl)
+of_for (Some head) None step P is make = no_some step is
+of_for None p step P is make = no_some step is
 
 of_choose : (at : ℕ) (o : Option Formula) (p q : Option Code) (all : Code) (P : Code → Type 0) →
     choose_of at o p q ≡ Some all →
@@ -173,6 +203,36 @@ test_value law place test f has store =
     (unless_is (is_above_zero (test_rank (reach_of place) test))
     (formula_of place.environment test) f has) store
 
+for_form_same : Law → (context : Context) (n at : ℕ) (head : ForHead) (body : Stmts) (made : Head)
+    (all : Code) → head_step context.place at head ≡ Some made →
+    Does context.place (exec_all context n body) (code_left n all) →
+    Does context.place (exec_form context n at (For head body))
+    (plain.for_left n made (code_left n all))
+for_form_same law context n at head body made all is same =
+    let place = context.place in
+    let env = place.environment in
+    of_head at (thing_of env head.name.text) head.down (formula_of env head.first)
+    (formula_of env head.last) (formula_of env (step_expr head.step)) made
+    (λ made. Does place (exec_form context n at (For head body))
+    (plain.for_left n made (code_left n all))) is (λ target f g h thing first last by store.
+    let made : Head =
+    record { at = at; target = target; down = head.down; first = f; last = g; by = h } in
+    let start_is : head_value place store head ≡ start_at store made =
+    ap (λ o. computed_then o (λ values. Gives (start_of head.down values)))
+    (limits_value law place head.first head.last (step_expr head.step) f g h first last by store) in
+    subst
+    (λ o. Same place
+    (with_value o store (line_of place at) (λ start.
+    for_from n (thing_of env head.name.text) start (exec_all context n body) store))
+    (plain.for_left n made (code_left n all) store)) (sym start_is)
+    (valued_same place at store (start_at store made)
+    (λ start. for_from n (thing_of env head.name.text) start (exec_all context n body) store)
+    (λ start. plain.from_left n target start (code_left n all) store)
+    (λ start. subst
+    (λ t. Same place (for_from n t start (exec_all context n body) store)
+    (plain.from_left n target start (code_left n all) store)) (sym thing)
+    (from_same place start target (exec_all context n body) (code_left n all) same n store))))
+
 mutual
   pub form_same : (form : Form) → Law → (context : Context) (n at : ℕ) (step : Step) →
       form_step context.place at form ≡ Some step →
@@ -208,7 +268,7 @@ mutual
       (λ b. Same context.place
       (choose b (shattered context.place (line_of context.place at) n (While test body))
       (while_turns n (statement.test_of context.place test at) (exec_all context n body)) store)
-      (left.while_turns n f at (code_left n all) store))
+      (plain.while_turns n f at (code_left n all) store))
       (sym (unless_not (is_above_zero (test_rank (reach_of context.place) test))
       (formula_of context.place.environment test) f has))
       (while_same context.place test at f (test_value law context.place test f has)
@@ -222,14 +282,19 @@ mutual
       (λ b. Same context.place
       (choose b (shattered context.place (line_of context.place at) n (Repeat body until test))
       (repeat_turns n (statement.test_of context.place test until) (exec_all context n body)) store)
-      (left.repeat_turns n f until (code_left n all) store))
+      (plain.repeat_turns n f until (code_left n all) store))
       (sym (unless_not (is_above_zero (test_rank (reach_of context.place) test))
       (formula_of context.place.environment test) f has))
       (repeat_same context.place test until f (test_value law context.place test f has)
       (exec_all context n body) (code_left n all) (code_same body law context n all body_has) n
       store))
+  form_same (For head body) law context n at step is =
+      of_for (head_step context.place at head) (code_of context.place body) step
+      (λ step. Does context.place (exec_form context n at (For head body)) (step_left n step)) is
+      (λ made all has body_has.
+      for_form_same law context n at head body made all has
+      (code_same body law context n all body_has))
   form_same (Invoke name actuals) law context n at step is = no_some step is
-  form_same (For head body) law context n at step is = no_some step is
   form_same (Border kind names) law context n at step is = no_some step is
   form_same (Write line items) law context n at step is = no_some step is
   form_same (Return value) law context n at step is = no_some step is
@@ -277,8 +342,8 @@ mutual
       (λ all. Does context.place (exec_arm context n at (Tested own test body) otherwise)
       (code_left n all)) is (λ f yes no has body_has last_has store.
       last_same context.place (exec_arm context n at (Tested own test body) otherwise store)
-      (left.tested f at (code_left n yes) (code_left n no) store).result
-      (left.tested f at (code_left n yes) (code_left n no) store).store
+      (plain.tested f at (code_left n yes) (code_left n no) store).result
+      (plain.tested f at (code_left n yes) (code_left n no) store).store
       (tested_same context.place test at f (test_value law context.place test f has)
       (exec_all context n body) otherwise (code_left n yes) (code_left n no)
       (code_same body law context n yes body_has) (same no last_has) store))
@@ -290,3 +355,13 @@ mutual
       subst (λ all. Does context.place (exec_otherwise context n NoElse) (code_left n all))
       (some_is code.End all is) (goes_same context.place)
   last_code_same (Else body) law context n all is = code_same body law context n all is
+
+-- a statement that was run by its code
+pub quick_same : Law → (place : Place) (call : Called → Store → Outcome) (n at : ℕ) (form : Form)
+    (before after : Store) (step : Step) (result : Result (Unit {0}) Halt) →
+    form_step place at form ≡ Some step → step_left n step before ≡ left_so after result →
+    Leaves place (exec_form (context_at place call) n at form before) after result
+quick_same law place call n at form before after step result has is =
+    subst
+    (λ left. Leaves place (exec_form (context_at place call) n at form before) left.store left.result)
+    is (form_same form law (context_at place call) n at step has before)

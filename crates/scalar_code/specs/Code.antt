@@ -2,16 +2,26 @@
 use Rattle.std.specs.Prelude.{ℕ, zero, suc, Bool, true, false, Option, Some, None, List, [], ◌∷◌}
 use Rattle.std.specs.Option.{option_map}
 use Rattle.zpl_tree.specs.Syntax.{Expr, Stmt, Prefixed, Stmts, NoStmt, ThenStmt, Prefix, Form, Assign}
-use Rattle.zpl_tree.specs.Syntax.{Invoke, If, For, Border, Write, Return, Arm, Tested, Arms, NoArm}
+use Rattle.zpl_tree.specs.Syntax.{ForHead, Invoke, If, Border, Write, Return, Arm, Tested, Arms, NoArm}
 use Rattle.zpl_tree.specs.Syntax.{ThenArm, Otherwise, NoElse, Else}
 use Rattle.zpl_tree.specs.Syntax as syntax
 use Rattle.zpl_names.specs.Ranks.{is_above_zero}
 use Rattle.zpl_names.specs.Sites.{test_rank}
 use Rattle.zpl_meaning.specs.Context.{Place, reach_of}
 use Rattle.zpl_meaning.specs.Points.{assigned_expr}
-use Rattle.zpl_meaning.specs.Statement.{arms_at}
+use Rattle.zpl_meaning.specs.Statement.{arms_at, step_expr}
 use Rattle.zpl_meaning.specs.Store.{Thing, Scalar, ArrayAt, Fixed, thing_of}
 use Rattle.scalar_code.specs.Formulas.{Formula, formula_of}
+
+-- a loop that counts: the offset of its statement, the place of the scalar that it counts in, whether
+-- it counts down, and its first value, its last one and its step
+pub record Head : Type 0 where
+  pub at : ℕ
+  pub target : ℕ
+  pub down : Bool
+  pub first : Formula
+  pub last : Formula
+  pub by : Formula
 
 mutual
   pub data Step : Type 0 where
@@ -22,6 +32,7 @@ mutual
     Choose : (at : ℕ) (test : Formula) (yes no : Code) → Step
     While : (at : ℕ) (test : Formula) (body : Code) → Step
     Repeat : (body : Code) (at : ℕ) (test : Formula) → Step
+    For : (head : Head) (body : Code) → Step
 
   pub data Code : Type 0 where
     End : Code
@@ -52,6 +63,30 @@ repeat_of (Some body) at (Some test) = Some (Repeat body at test)
 repeat_of None at (Some test) = None
 repeat_of body at None = None
 
+abbrev pub head_of : ℕ → Option Thing → Bool → Option Formula → Option Formula →
+    Option Formula → Option Head
+head_of at (Some (Scalar target)) down (Some first) (Some last) (Some by) =
+    Some
+    (record {
+      at = at;
+      target = target;
+      down = down;
+      first = first;
+      last = last;
+      by = by;
+    })
+head_of at (Some (Scalar target)) down (Some first) (Some last) None = None
+head_of at (Some (Scalar target)) down (Some first) None by = None
+head_of at (Some (Scalar target)) down None last by = None
+head_of at (Some (ArrayAt target home)) down first last by = None
+head_of at (Some (Fixed value)) down first last by = None
+head_of at None down first last by = None
+
+abbrev pub for_of : Option Head → Option Code → Option Step
+for_of (Some head) (Some body) = Some (For head body)
+for_of (Some head) None = None
+for_of None body = None
+
 abbrev pub then_of : Option Step → Option Code → Option Code
 then_of (Some first) (Some rest) = Some (Then first rest)
 then_of None (Some rest) = None
@@ -71,6 +106,12 @@ unless false formula = formula
 abbrev pub test_of : Place → Expr → Option Formula
 test_of place test =
     unless (is_above_zero (test_rank (reach_of place) test)) (formula_of place.environment test)
+
+abbrev pub head_step : Place → ℕ → ForHead → Option Head
+head_step place at head =
+    head_of at (thing_of place.environment head.name.text) head.down
+    (formula_of place.environment head.first) (formula_of place.environment head.last)
+    (formula_of place.environment (step_expr head.step))
 
 abbrev mutual
   -- the code of a statement without prefixes, where nothing else than scalars stands in it
@@ -92,8 +133,9 @@ abbrev mutual
       while_of at (test_of place test) (code_of place body)
   form_step place at (syntax.Repeat body until test) =
       repeat_of (code_of place body) until (test_of place test)
+  form_step place at (syntax.For head body) =
+      for_of (head_step place at head) (code_of place body)
   form_step place at (Invoke name actuals) = None
-  form_step place at (For head body) = None
   form_step place at (Border kind names) = None
   form_step place at (Write line items) = None
   form_step place at (Return value) = None

@@ -1,9 +1,12 @@
 -- What code leaves: the store, and whether the run goes on.
-use Rattle.std.specs.Prelude.{ℕ, zero, suc, ℤ, Bool, true, false, Result, Ok, Err}
+use Rattle.std.specs.Prelude.{ℕ, zero, suc, ℤ, pos, int_lt, Bool, true, false, Result, Ok, Err}
 use Rattle.zpl_nums.specs.Integer.{is_true}
 use Rattle.zpl_meaning.specs.Computed.{Computed, Gives, Traps}
+use Rattle.zpl_meaning.specs.Outcome.{Count, is_past, next_value}
+use Rattle.zpl_meaning.specs.Statement.{Start}
 use Rattle.zpl_meaning.specs.Store.{Store, with_scalar}
-use Rattle.scalar_code.specs.Code.{Step, Set, Block, Choose, While, Repeat, Code, End, Then}
+use Rattle.scalar_code.specs.Code.{Head, Step, Set, Block, Choose, While, Repeat, For, Code, End, Then}
+use Rattle.scalar_code.specs.Counts.{start_at}
 use Rattle.scalar_code.specs.Formulas.{Formula, value_at}
 use Rattle.scalar_code.specs.declared.halts.Halt.{Halt}
 use Rattle.scalar_code.specs.declared.halts.Halt.TheVariants as halt
@@ -30,7 +33,7 @@ abbrev pub then_left : Left → (Store → Left) → Left
 then_left first next = then_from first.result first.store next
 
 -- goes on with a value, or stops with a trap of the statement at an offset
-abbrev pub valued : Computed ℤ → ℕ → Store → (ℤ → Left) → Left
+abbrev pub valued : {A : Type 0} → Computed A → ℕ → Store → (A → Left) → Left
 valued (Gives value) at store next = next value
 valued (Traps kind) at store next = stops (halt.Trap kind at) store
 
@@ -64,6 +67,25 @@ repeat_turns zero test at body = stops halt.More
 repeat_turns (suc n) test at body =
     λ store. then_left (body store) (tested test at goes (repeat_turns n test at body))
 
+-- each turn sets the scalar
+abbrev pub for_turns : ℕ → Count → ℕ → (Store → Left) → ℤ → Store → Left
+for_turns zero count target body value = chosen (is_past count value) goes (stops halt.More)
+for_turns (suc n) count target body value =
+    chosen (is_past count value) goes (λ store.
+    then_left (body (with_scalar store target value))
+    (for_turns n count target body (next_value count value)))
+
+-- there is no turn where the step is below 1
+abbrev pub from_left : ℕ → ℕ → Start → (Store → Left) → Store → Left
+from_left turns target start body =
+    chosen (int_lt start.count.by (pos 1)) goes
+    (for_turns turns start.count target body start.first)
+
+abbrev pub for_left : ℕ → Head → (Store → Left) → Store → Left
+for_left turns head body store =
+    valued (start_at store head) head.at store (λ start.
+    from_left turns head.target start body store)
+
 abbrev mutual
   -- with a bound on the turns of each loop
   pub step_left : ℕ → Step → Store → Left
@@ -73,6 +95,7 @@ abbrev mutual
       tested test at (code_left turns yes) (code_left turns no)
   step_left turns (While at test body) = while_turns turns test at (code_left turns body)
   step_left turns (Repeat body at test) = repeat_turns turns test at (code_left turns body)
+  step_left turns (For head body) = for_left turns head (code_left turns body)
 
   pub code_left : ℕ → Code → Store → Left
   code_left turns End = goes

@@ -21,6 +21,25 @@ pub enum Step<'a> {
     While(u32, &'a Formula<'a>, &'a Code<'a>),
     /// A loop that tests after each turn, with the offset of its test.
     Repeat(&'a Code<'a>, u32, &'a Formula<'a>),
+    /// A loop that counts.
+    For(&'a Head<'a>, &'a Code<'a>),
+}
+
+/// The head of a loop that counts. Its three values are computed once.
+#[derive(Clone, Copy)]
+pub struct Head<'a> {
+    /// The offset of its statement.
+    pub at: u32,
+    /// The place of the scalar that it counts in.
+    pub target: usize,
+    /// Whether it counts down.
+    pub down: bool,
+    /// The first value.
+    pub first: &'a Formula<'a>,
+    /// The last value.
+    pub last: &'a Formula<'a>,
+    /// The step.
+    pub by: &'a Formula<'a>,
 }
 
 /// Statements, one after the other.
@@ -38,6 +57,14 @@ pub fn placed<'t>(arena: &'t Bump<Global>, code: Code<'t>) -> Result<&'t Code<'t
     ensures { IfOk result (λ placed. placed.now ≡ code.entry) }
 {
     let placed = arena.try_alloc(code)?;
+    Ok(placed)
+}
+
+/// Places a head in an arena.
+pub fn placed_head<'t>(arena: &'t Bump<Global>, head: Head<'t>) -> Result<&'t Head<'t>, AllocError>
+    ensures { IfOk result (λ placed. placed.now ≡ head.entry) }
+{
+    let placed = arena.try_alloc(head)?;
     Ok(placed)
 }
 

@@ -2,6 +2,7 @@
 #![tactic(auto)]
 
 mod codes;
+mod counts;
 mod formulas;
 mod halts;
 mod makers;

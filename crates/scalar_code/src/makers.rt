@@ -1,25 +1,26 @@
 //! How code is made of statements.
 ghost use Rattle.std.specs.Prelude.{◌≡◌, IfOk, Some};
 ghost use Rattle.std.specs.Option.{option_map};
-ghost use Rattle.zpl_tree.specs.View.{arms_of, expr_of, name_of, statement_of, stmt_of};
+ghost use Rattle.zpl_tree.specs.View.{arms_of, expr_of, head_of, name_of, statement_of, stmt_of};
 ghost use Rattle.zpl_tree.specs.View.{stmts_of};
 ghost use Rattle.zpl_meaning.specs.Points.{assigned_expr};
+ghost use Rattle.zpl_meaning.specs.Statement.{step_expr};
 ghost use Rattle.zpl_meaning.specs.Store.{thing_of};
 ghost use Rattle.array_places.specs.View.{environment_of, place_of};
 ghost use Rattle.scalar_code.specs.Code as plain;
-ghost use Rattle.scalar_code.specs.Code.{arms_code, choose_of, code_of, offset_or};
+ghost use Rattle.scalar_code.specs.Code.{arms_code, choose_of, code_of, for_of, offset_or};
 ghost use Rattle.scalar_code.specs.Code.{repeat_of, set_of, step_of, test_of, while_of};
 ghost use Rattle.scalar_code.specs.Formulas.{formula_of};
-ghost use Rattle.scalar_code.specs.View.{code_in, formula_in, step_in};
+ghost use Rattle.scalar_code.specs.View.{code_in, formula_in, head_in, step_in};
 
-use crate::codes::{Code, Step, in_front, placed};
+use crate::codes::{Code, Head, Step, in_front, placed, placed_head};
 use crate::formulas::{Formula, formula};
 use array_places::{Environment, Place, Thing, rank_of};
 use bumpalo::Bump;
 use name_kinds::is_above_zero;
 use std::alloc::{AllocError, Global};
 use zpl_nums::Op;
-use zpl_tree::{Arm, Expr, ExprForm, Form, Name, Stmt};
+use zpl_tree::{Arm, Expr, ExprForm, ForHead, Form, Name, Stmt};
 
 /// The formula of what an assignment assigns, with an operator or without one.
 fn assigned<'t>(
@@ -155,8 +156,8 @@ pub fn form_step<'t>(
         },
         Form::While(test, body) => while_step(arena, place, at, test, body),
         Form::Repeat(body, until, test) => repeat_step(arena, place, *until, test, body),
+        Form::For(head, body) => for_step(arena, place, at, head, body),
         Form::Call(_, _)
-        | Form::For(_, _)
         | Form::Border(_, _)
         | Form::Write(_, _)
         | Form::Return(_) => Ok(None),
@@ -218,6 +219,89 @@ fn repeat_step<'t>(
     };
     match code(arena, place, body)? {
         Some(body) => Ok(Some(Step::Repeat(body, at, test))),
+        None => Ok(None),
+    }
+}
+
+/// The formula of a step, which is 1 where none is written.
+fn step_formula<'t>(
+    arena: &'t Bump<Global>,
+    environment: &Environment<'_, '_>,
+    step: Option<&Expr<'_>>,
+) -> Result<Option<&'t Formula<'t>>, AllocError>
+    ensures { IfOk result (λ found. formula_of (environment_of environment.now)
+        (step_expr (option_map (λ step. expr_of step.now) step))
+        ≡ option_map (λ one. formula_in one.now) found) }
+{
+    let one = Expr {
+        at: 0,
+        form: ExprForm::Number(1),
+    };
+    match step {
+        Some(step) => formula(arena, environment, step),
+        None => formula(arena, environment, &one),
+    }
+}
+
+/// The head of a loop that counts in a scalar, where its three values have formulas.
+fn head_step<'t>(
+    arena: &'t Bump<Global>,
+    environment: &Environment<'_, '_>,
+    at: u32,
+    head: &ForHead<'_>,
+) -> Result<Option<&'t Head<'t>>, AllocError>
+    ensures { IfOk result (λ found. plain.head_of at
+        (thing_of (environment_of environment.now) head.now.name.text.now) head.now.down
+        (formula_of (environment_of environment.now) (head_of head.now).first)
+        (formula_of (environment_of environment.now) (head_of head.now).last)
+        (formula_of (environment_of environment.now) (step_expr (head_of head.now).step))
+        ≡ option_map (λ one. head_in one.now) found) }
+{
+    let Some(Thing::Scalar(target)) = environment.find(&head.name) else {
+        return Ok(None);
+    };
+    let Some(first) = formula(arena, environment, head.first)? else {
+        return Ok(None);
+    };
+    let Some(last) = formula(arena, environment, head.last)? else {
+        return Ok(None);
+    };
+    let Some(by) = step_formula(arena, environment, head.step)? else {
+        return Ok(None);
+    };
+    let down = head.down;
+    let made = placed_head(
+        arena,
+        Head {
+            at,
+            target,
+            down,
+            first,
+            last,
+            by,
+        },
+    )?;
+    Ok(Some(made))
+}
+
+/// A loop that counts.
+#[cycle(makers)]
+fn for_step<'t>(
+    arena: &'t Bump<Global>,
+    place: &Place<'_, '_>,
+    at: u32,
+    head: &ForHead<'_>,
+    body: &[Stmt<'_>],
+) -> Result<Option<Step<'t>>, AllocError>
+    ensures { IfOk result (λ found. for_of
+        (plain.head_step (place_of place.now) at (head_of head.now))
+        (code_of (place_of place.now) (stmts_of body.now)) ≡ option_map step_in found) }
+{
+    let Some(head) = head_step(arena, &place.environment, at, head)? else {
+        return Ok(None);
+    };
+    match code(arena, place, body)? {
+        Some(body) => Ok(Some(Step::For(head, body))),
         None => Ok(None),
     }
 }

@@ -1,11 +1,13 @@
 //! How code is run.
 ghost use Rattle.std.specs.Prelude.{◌≡◌};
+ghost use Rattle.scalar_code.specs.Counts.{count_in};
 ghost use Rattle.scalar_code.specs.Formulas.{value_at};
 ghost use Rattle.scalar_code.specs.Left as plain;
-ghost use Rattle.scalar_code.specs.Left.{answered, code_left, left_so, set_left, step_left};
+ghost use Rattle.scalar_code.specs.Left.{answered, code_left, from_left, left_so, set_left, step_left};
 ghost use Rattle.scalar_code.specs.View.{code_in, formula_in, step_in};
 
 use crate::codes::{Code, Step};
+use crate::counts::{Count, count_of, is_past, next_value};
 use crate::formulas::Formula;
 use crate::halts::Halt;
 use crate::values::value_at;
@@ -62,6 +64,10 @@ pub fn run_step(step: &Step<'_>, turns: u64, store: &mut Store) -> Result<(), Ha
         },
         Step::While(at, test, body) => run_while(*at, test, body, turns, store),
         Step::Repeat(body, at, test) => run_repeat(*at, test, body, turns, store),
+        Step::For(head, body) => match count_of(head, store) {
+            Ok(count) => run_from(head.target, &count, body, turns, store),
+            Err(kind) => Err(Halt::Trap(kind, head.at)),
+        },
     }
 }
 
@@ -111,4 +117,36 @@ fn run_repeat(
             return Ok(());
         }
     }
+}
+
+/// Runs the turns of a loop that counts. There is none where the step is below 1.
+#[cycle(runs)]
+fn run_from(
+    target: usize,
+    count: &Count,
+    body: &Code<'_>,
+    turns: u64,
+    store: &mut Store,
+) -> Result<(), Halt>
+    ensures { from_left turns target (count_in count.now)
+        (code_left turns (code_in body.now)) store.old ≡ left_so store.new result }
+{
+    if count.by < 1 {
+        return Ok(());
+    }
+    let mut value = Some(count.first);
+    let mut left = turns;
+    while let Some(now) = value {
+        if is_past(count, now) {
+            return Ok(());
+        }
+        if left == 0 {
+            return Err(Halt::More);
+        }
+        left -= 1;
+        store.set_scalar(target, now);
+        run(body, turns, store)?;
+        value = next_value(count, now);
+    }
+    Ok(())
 }

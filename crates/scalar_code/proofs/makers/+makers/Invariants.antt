@@ -27,6 +27,9 @@ decreases-while_step l = 8 * most (λ stmt. size-Stmt stmt) l.body.now + 3
 abbrev pub decreases-repeat_step : goal.decreases-repeat_step
 decreases-repeat_step l = 8 * most (λ stmt. size-Stmt stmt) l.body.now + 3
 
+abbrev pub decreases-for_step : goal.decreases-for_step
+decreases-for_step l = 8 * most (λ stmt. size-Stmt stmt) l.body.now + 3
+
 abbrev pub decreases-choice_step : goal.decreases-choice_step
 decreases-choice_step l = 8 * goal.size-choice_step l + 3
 
