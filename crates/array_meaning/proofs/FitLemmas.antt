@@ -12,8 +12,8 @@ use Rattle.zpl_names.specs.Ranks.{dims_count}
 use Rattle.zpl_bind.specs.Few.{is_few, is_few_bracket, are_few_vars, is_few_decl}
 use Rattle.zpl_bind.proofs.FaultlessLemmas.{faultless-bindable}
 use Rattle.array_statements.specs.of_array_regions.Fit.{IsFitInner}
-use Rattle.array_frames.specs.Heads.{IsFitDecl}
-use Rattle.array_frames.specs.Variables.{IsFitShape}
+use Rattle.array_statements.specs.of_array_frames.Heads.{IsFitDecl}
+use Rattle.array_statements.specs.of_array_frames.Variables.{IsFitShape}
 
 -- declared regions whose brackets have one to three dimensions
 abbrev pub HasFitRegions : Decl → Type 0

@@ -26,9 +26,9 @@ use Rattle.array_terms.specs.Sound.{IsSmall}
 use Rattle.array_places.specs.Sound.{IsRanked}
 use Rattle.array_statements.specs.of_array_regions.Fit.{IsFitInner}
 use Rattle.array_statements.proofs.of_array_regions.RegionLemmas.{small-within}
-use Rattle.array_frames.proofs.LoopLemmas.{append-nothing}
-use Rattle.array_frames.proofs.RankLemmas.{HasRank, behind-ranked, inner-ranked}
-use Rattle.array_frames.proofs.SmallLemmas.{has-count}
+use Rattle.array_statements.proofs.of_array_frames.LoopLemmas.{append-nothing}
+use Rattle.array_statements.proofs.of_array_frames.RankLemmas.{HasRank, behind-ranked, inner-ranked}
+use Rattle.array_statements.proofs.of_array_frames.SmallLemmas.{has-count}
 use Rattle.array_meaning.proofs.FitLemmas.{HasFitRegions}
 
 -- ---- what was computed for names is what stands beside them

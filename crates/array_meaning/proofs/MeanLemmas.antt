@@ -29,8 +29,8 @@ use Rattle.zpl_meaning.specs.Visited.{IsVisited, IsVisitedCall, first_setup}
 use Rattle.meaning_ranks.specs.Ranked.{IsRankedStmt}
 use Rattle.routine_walks.specs.declared.texts.Text.{Text}
 use Rattle.routine_walks.specs.Texts.{routine_of}
-use Rattle.array_frames.specs.declared.heads.Head.{Head}
-use Rattle.array_frames.specs.Heads.{names_in, names_of}
+use Rattle.array_statements.specs.of_array_frames.declared.heads.Head.{Head}
+use Rattle.array_statements.specs.of_array_frames.Heads.{names_in, names_of}
 use Rattle.array_statements.specs.declared.faults.MeanFault.{MeanFault}
 use Rattle.array_statements.specs.Runs.{Faults, Runs}
 use Rattle.array_meaning.specs.Means.{Means}

@@ -17,9 +17,9 @@ use Rattle.zpl_meaning.specs.Store.{Names, Store}
 use Rattle.routine_walks.specs.declared.texts.Text.{Text}
 use Rattle.routine_walks.specs.Texts.{IsText}
 use Rattle.array_places.specs.Sound.{IsRanked}
-use Rattle.array_frames.specs.declared.heads.Head.{Head}
-use Rattle.array_frames.specs.Heads.{IsHead, names_in, names_of}
-use Rattle.array_frames.specs.Variables.{framed}
+use Rattle.array_statements.specs.of_array_frames.declared.heads.Head.{Head}
+use Rattle.array_statements.specs.of_array_frames.Heads.{IsHead, names_in, names_of}
+use Rattle.array_statements.specs.of_array_frames.Variables.{framed}
 
 -- The names, the variables and the parts are those of a program without faults.
 pub record IsOpened (program : Program) (texts : Text) (tables : Known) (borders : List Part)

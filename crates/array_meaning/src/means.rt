@@ -16,8 +16,8 @@ ghost use Rattle.array_meaning.specs.Means.{Means};
 ghost use Rattle.array_meaning.specs.Opened.{IsOpened};
 ghost use Rattle.array_statements.specs.declared.faults.MeanFault.TheVariants.{SinkFailed};
 
-use array_frames::{Head, Opening, opening_of};
 use array_places::{Currents, Setup, Things};
+use array_statements::array_frames::{Head, Opening, opening_of};
 use array_statements::{Buffers, MeanFault, Run, call};
 use array_store::Store;
 use meaning_ranks::ranks_agree;

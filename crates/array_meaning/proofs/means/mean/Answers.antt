@@ -5,7 +5,7 @@ use Rattle.zpl_binding.specs.Storages.{storages_of}
 use Rattle.zpl_bind.specs.Lists.{bound_of}
 use Rattle.zpl_bind.specs.Storages.{borders_among}
 use Rattle.zpl_bind.proofs.BindLemmas.{text-borders}
-use Rattle.array_frames.specs.Heads.{IsHead, names_in}
+use Rattle.array_statements.specs.of_array_frames.Heads.{IsHead, names_in}
 use Rattle.array_meaning.proofs.FitLemmas.{fit-regions-of, fit-variables}
 use Rattle.array_meaning.proofs.KnownLemmas.{ranked-known, same-known}
 use Rattle.array_meaning.proofs.MeanLemmas.{means_nothing}

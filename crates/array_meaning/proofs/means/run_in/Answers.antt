@@ -2,7 +2,7 @@ use Rattle.std.proofs.Common.{map, sym, ◌∙◌, ap, subst}
 use Rattle.zpl_tree.specs.View.{syntax_of}
 use Rattle.zpl_meaning.specs.Program.{call_at}
 use Rattle.zpl_meaning.specs.Visited.{IsVisitedCall}
-use Rattle.array_frames.specs.Handed.{handed_of}
+use Rattle.array_statements.specs.of_array_frames.Handed.{handed_of}
 use Rattle.array_places.specs.View.{currents_of}
 use Rattle.array_meaning.proofs.MeanLemmas.{all_ranked, entry_is, means_so, names_are}
 use Rattle.array_meaning.proofs.MeanLemmas.{outcome_is, setup, visited_entry}
