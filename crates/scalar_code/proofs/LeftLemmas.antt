@@ -14,7 +14,7 @@ use Rattle.scalar_code.specs.Left as plain
 use Rattle.scalar_code.specs.Left.{Left, chosen, goes, stops, then_from, then_left, valued}
 use Rattle.scalar_code.specs.Quick.{Leaves, end_of}
 use Rattle.scalar_code.specs.declared.halts.Halt.{Halt}
-use Rattle.scalar_code.specs.declared.halts.Halt.TheVariants as halt
+use Rattle.scalar_code.specs.declared.halts.Halt.TheVariants as why
 
 abbrev pub Same : Place → Outcome → Left → Type 0
 Same place outcome left = Leaves place outcome left.store left.result
@@ -25,7 +25,7 @@ Does place does leaves = (store : Store) → Same place (does store) (leaves sto
 pub goes_same : (place : Place) → Does place goes_on goes
 goes_same place store = record { ending = refl; store_is = refl; nothing = refl }
 
-more_same : (place : Place) → Does place wants_more (stops halt.More)
+more_same : (place : Place) → Does place wants_more (stops why.More)
 more_same place store = record { ending = refl; store_is = refl; nothing = refl }
 
 -- ---- one after the other
@@ -41,8 +41,8 @@ at_result place (Ok done) store one next more same rest =
       store_is = after.store_is;
       nothing = ap₂ (λ x y. x ++ y) same.nothing after.nothing;
     }
-at_result place (Err halt.More) store one next more same rest = same
-at_result place (Err (halt.Trap kind at)) store one next more same rest = same
+at_result place (Err why.More) store one next more same rest = same
+at_result place (Err (why.Trap kind at)) store one next more same rest = same
 
 pub then_same : (place : Place) (one : Outcome) (first : Left) (next : Store → Outcome)
     (more : Store → Left) → Same place one first → Does place next more →
@@ -94,7 +94,7 @@ module _ (place : Place) (test : Expr) (at : ℕ) (formula : Formula)
     pub while_same : (n : ℕ) →
         Does place (while_turns n (test_of place test at) body) (plain.while_turns n formula at code)
     while_same zero store =
-        tested_same wants_more goes_on (stops halt.More) goes (more_same place) (goes_same place)
+        tested_same wants_more goes_on (stops why.More) goes (more_same place) (goes_same place)
         store
     while_same (suc n) store =
         tested_same (λ store. then_do (body store) (while_turns n (test_of place test at) body))
@@ -138,7 +138,7 @@ module _ (place : Place) (count : Count) (target : ℕ) (body : Store → Outcom
   pub for_same : (n : ℕ) (value : ℤ) →
       Does place (for_turns n count set body value) (plain.for_turns n count target code value)
   for_same zero value store =
-      chosen_same place (is_past count value) goes_on wants_more goes (stops halt.More)
+      chosen_same place (is_past count value) goes_on wants_more goes (stops why.More)
       (goes_same place) (more_same place) store
   for_same (suc n) value store =
       chosen_same place (is_past count value) goes_on

@@ -9,7 +9,7 @@ use Rattle.scalar_code.specs.Counts.{IsNext}
 use Rattle.scalar_code.specs.Formulas.{Formula, value_at}
 use Rattle.scalar_code.specs.Left.{Left, answered, chosen, for_turns, from_left, goes, left_so, repeat_turns, stops, tested, then_left, valued, while_turns}
 use Rattle.scalar_code.specs.declared.halts.Halt.{Halt}
-use Rattle.scalar_code.specs.declared.halts.Halt.TheVariants as halt
+use Rattle.scalar_code.specs.declared.halts.Halt.TheVariants as why
 
 -- ---- what is passed on
 
@@ -35,15 +35,15 @@ module _ (at : ℕ) (store : Store) (one other : Store → Left) where
       let has : Ok (is_true value) ≡ Ok b = is in
       let same : is_true value ≡ b = cc in ap (λ b. chosen b one other store) same
   valued_ok (Traps kind) b is =
-      absurd (let no : Err (halt.Trap kind at) ≡ Ok b = is in cc)
+      absurd (let no : Err (why.Trap kind at) ≡ Ok b = is in cc)
 
   valued_err : (o : Computed ℤ) (halt : Halt) → answered o at ≡ Err halt →
       valued o at store (λ value. chosen (is_true value) one other store) ≡ stops halt store
   valued_err (Gives value) halt is =
       absurd (let no : Ok (is_true value) ≡ Err halt = is in cc)
   valued_err (Traps kind) halt is =
-      let has : Err (halt.Trap kind at) ≡ Err halt = is in
-      let same : halt.Trap kind at ≡ halt = cc in ap (λ h. stops h store) same
+      let has : Err (why.Trap kind at) ≡ Err halt = is in
+      let same : why.Trap kind at ≡ halt = cc in ap (λ h. stops h store) same
 
   pub tested_ok : (test : Formula) (b : Bool) → answered (value_at store test) at ≡ Ok b →
       tested test at one other store ≡ chosen b one other store
@@ -60,9 +60,9 @@ positive left some = omega (arith, some)
 
 module _ (test : Formula) (at : ℕ) (body : Store → Left) (whole : Left) (left : ℕ) (store : Store)
     (so : whole ≡ while_turns left test at body store) where
-  over : (left : ℕ) → answered (value_at store test) at ≡ Ok false →
-      while_turns left test at body store ≡ goes store
-  over zero is = tested_ok at store (stops halt.More) goes test false is
+  over : (n : ℕ) → answered (value_at store test) at ≡ Ok false →
+      while_turns n test at body store ≡ goes store
+  over zero is = tested_ok at store (stops why.More) goes test false is
   over (suc n) is =
       tested_ok at store (λ store. then_left (body store) (while_turns n test at body)) goes test
       false is
@@ -70,9 +70,9 @@ module _ (test : Formula) (at : ℕ) (body : Store → Left) (whole : Left) (lef
   pub while_over : answered (value_at store test) at ≡ Ok false → whole ≡ goes store
   while_over is = so ∙ over left is
 
-  halts : (left : ℕ) (halt : Halt) → answered (value_at store test) at ≡ Err halt →
-      while_turns left test at body store ≡ stops halt store
-  halts zero halt is = tested_err at store (stops halt.More) goes test halt is
+  halts : (n : ℕ) (halt : Halt) → answered (value_at store test) at ≡ Err halt →
+      while_turns n test at body store ≡ stops halt store
+  halts zero halt is = tested_err at store (stops why.More) goes test halt is
   halts (suc n) halt is =
       tested_err at store (λ store. then_left (body store) (while_turns n test at body)) goes test
       halt is
@@ -82,10 +82,10 @@ module _ (test : Formula) (at : ℕ) (body : Store → Left) (whole : Left) (lef
   while_halts halt is = so ∙ halts left halt is
 
   module _ (yes : answered (value_at store test) at ≡ Ok true) where
-    pub while_wants : left ≡ 0 → whole ≡ stops halt.More store
+    pub while_wants : left ≡ 0 → whole ≡ stops why.More store
     while_wants none =
         so ∙ (ap (λ n. while_turns n test at body store) none
-        ∙ tested_ok at store (stops halt.More) goes test true yes)
+        ∙ tested_ok at store (stops why.More) goes test true yes)
 
     turned : (left ≡ 0 → ⊥) →
         whole ≡ then_left (body store) (while_turns (left - 1) test at body)
@@ -108,7 +108,7 @@ module _ (test : Formula) (at : ℕ) (body : Store → Left) (whole : Left) (lef
 
 module _ (test : Formula) (at : ℕ) (body : Store → Left) (whole : Left) (left : ℕ) (store : Store)
     (so : whole ≡ repeat_turns left test at body store) where
-  pub repeat_wants : left ≡ 0 → whole ≡ stops halt.More store
+  pub repeat_wants : left ≡ 0 → whole ≡ stops why.More store
   repeat_wants none = so ∙ ap (λ n. repeat_turns n test at body store) none
 
   module _ (some : left ≡ 0 → ⊥) (after : Store) where
@@ -164,7 +164,7 @@ from_begins turns target start body store is =
 behind_last : (count : Count) (target : ℕ) (body : Store → Left) (v : ℤ) (store : Store)
     (left : ℕ) → is_past count v ≡ true → for_turns left count target body v store ≡ goes store
 behind_last count target body v store zero is =
-    ap (λ b. chosen b goes (stops halt.More) store) is
+    ap (λ b. chosen b goes (stops why.More) store) is
 behind_last count target body v store (suc n) is =
     ap
     (λ b. chosen b goes (λ store. then_left (body (with_scalar store target v))
@@ -185,10 +185,10 @@ module _ (count : Count) (target : ℕ) (body : Store → Left) (whole : Left) (
   for_over is = so ∙ behind_last count target body v store left is
 
   module _ (not : is_past count v ≡ false) where
-    pub for_wants : left ≡ 0 → whole ≡ stops halt.More store
+    pub for_wants : left ≡ 0 → whole ≡ stops why.More store
     for_wants none =
         so ∙ (ap (λ n. for_turns n count target body v store) none
-        ∙ ap (λ b. chosen b goes (stops halt.More) store) not)
+        ∙ ap (λ b. chosen b goes (stops why.More) store) not)
 
     counted : (left ≡ 0 → ⊥) →
         whole ≡ then_left (body (with_scalar store target v))

@@ -9,7 +9,7 @@ use Rattle.scalar_code.specs.Code.{Head, Step, Set, Block, Choose, While, Repeat
 use Rattle.scalar_code.specs.Counts.{start_at}
 use Rattle.scalar_code.specs.Formulas.{Formula, value_at}
 use Rattle.scalar_code.specs.declared.halts.Halt.{Halt}
-use Rattle.scalar_code.specs.declared.halts.Halt.TheVariants as halt
+use Rattle.scalar_code.specs.declared.halts.Halt.TheVariants as why
 
 pub record Left : Type 0 where
   pub store : Store
@@ -35,7 +35,7 @@ then_left first next = then_from first.result first.store next
 -- goes on with a value, or stops with a trap of the statement at an offset
 abbrev pub valued : {A : Type 0} → Computed A → ℕ → Store → (A → Left) → Left
 valued (Gives value) at store next = next value
-valued (Traps kind) at store next = stops (halt.Trap kind at) store
+valued (Traps kind) at store next = stops (why.Trap kind at) store
 
 -- one of two
 abbrev pub chosen : Bool → (Store → Left) → (Store → Left) → Store → Left
@@ -49,7 +49,7 @@ tested test at one other store =
 -- what a test answers
 abbrev pub answered : Computed ℤ → ℕ → Result Bool Halt
 answered (Gives value) at = Ok (is_true value)
-answered (Traps kind) at = Err (halt.Trap kind at)
+answered (Traps kind) at = Err (why.Trap kind at)
 
 -- ---- steps
 
@@ -58,18 +58,18 @@ set_left at target formula store =
     valued (value_at store formula) at store (λ value. goes (with_scalar store target value))
 
 abbrev pub while_turns : ℕ → Formula → ℕ → (Store → Left) → Store → Left
-while_turns zero test at body = tested test at (stops halt.More) goes
+while_turns zero test at body = tested test at (stops why.More) goes
 while_turns (suc n) test at body =
     tested test at (λ store. then_left (body store) (while_turns n test at body)) goes
 
 abbrev pub repeat_turns : ℕ → Formula → ℕ → (Store → Left) → Store → Left
-repeat_turns zero test at body = stops halt.More
+repeat_turns zero test at body = stops why.More
 repeat_turns (suc n) test at body =
     λ store. then_left (body store) (tested test at goes (repeat_turns n test at body))
 
 -- each turn sets the scalar
 abbrev pub for_turns : ℕ → Count → ℕ → (Store → Left) → ℤ → Store → Left
-for_turns zero count target body value = chosen (is_past count value) goes (stops halt.More)
+for_turns zero count target body value = chosen (is_past count value) goes (stops why.More)
 for_turns (suc n) count target body value =
     chosen (is_past count value) goes (λ store.
     then_left (body (with_scalar store target value))

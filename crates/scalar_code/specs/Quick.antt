@@ -8,7 +8,7 @@ use Rattle.zpl_meaning.specs.Outcome.{Outcome}
 use Rattle.zpl_meaning.specs.Statement.{Context, line_of}
 use Rattle.zpl_meaning.specs.Store.{Store}
 use Rattle.scalar_code.specs.declared.halts.Halt.{Halt}
-use Rattle.scalar_code.specs.declared.halts.Halt.TheVariants as halt
+use Rattle.scalar_code.specs.declared.halts.Halt.TheVariants as why
 
 abbrev pub context_at : Place → (Called → Store → Outcome) → Context
 context_at place call = record { place = place; call = call }
@@ -16,8 +16,8 @@ context_at place call = record { place = place; call = call }
 -- how a run ends: a trap has the line of its statement
 abbrev pub end_of : Place → Result (Unit {0}) Halt → End
 end_of place (Ok done) = Done
-end_of place (Err halt.More) = More
-end_of place (Err (halt.Trap kind at)) = Trap kind (line_of place at)
+end_of place (Err why.More) = More
+end_of place (Err (why.Trap kind at)) = Trap kind (line_of place at)
 
 -- it ends so, with this store, and has printed nothing
 pub record Leaves (place : Place) (outcome : Outcome) (store : Store)

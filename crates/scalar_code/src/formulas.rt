@@ -54,7 +54,7 @@ fn named<'t>(thing: Option<Thing>) -> Option<Formula<'t>>
 /// The formula of an expression, where nothing else than numbers, truth values, scalars and
 /// operators on them stands in it.
 #[cycle(formulas)]
-pub fn formula<'t>(
+pub fn formula_of<'t>(
     arena: &'t Bump<Global>,
     environment: &Environment<'_, '_>,
     expr: &Expr<'_>,
@@ -69,7 +69,7 @@ pub fn formula<'t>(
             Some(formula) => Ok(Some(placed(arena, formula)?)),
             None => Ok(None),
         },
-        ExprForm::Paren(inside) => formula(arena, environment, inside),
+        ExprForm::Paren(inside) => formula_of(arena, environment, inside),
         ExprForm::Neg(operand) => unary(arena, environment, UnaryOp::Neg, operand),
         ExprForm::Not(operand) => unary(arena, environment, UnaryOp::Not, operand),
         ExprForm::Abs(operand) => unary(arena, environment, UnaryOp::Abs, operand),
@@ -97,7 +97,7 @@ fn unary<'t>(
         (formula_of (environment_of environment.now) (expr_of operand.now))
         ≡ option_map (λ one. formula_in one.now) found) }
 {
-    match formula(arena, environment, operand)? {
+    match formula_of(arena, environment, operand)? {
         Some(operand) => Ok(Some(placed(arena, Formula::Unary(op, operand))?)),
         None => Ok(None),
     }
@@ -117,10 +117,10 @@ fn binary<'t>(
         (formula_of (environment_of environment.now) (expr_of right.now)) (plain.Binary op)
         ≡ option_map (λ one. formula_in one.now) found) }
 {
-    let Some(left) = formula(arena, environment, left)? else {
+    let Some(left) = formula_of(arena, environment, left)? else {
         return Ok(None);
     };
-    match formula(arena, environment, right)? {
+    match formula_of(arena, environment, right)? {
         Some(right) => Ok(Some(placed(arena, Formula::Binary(op, left, right))?)),
         None => Ok(None),
     }

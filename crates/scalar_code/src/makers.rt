@@ -14,7 +14,7 @@ ghost use Rattle.scalar_code.specs.Formulas.{formula_of};
 ghost use Rattle.scalar_code.specs.View.{code_in, formula_in, head_in, step_in};
 
 use crate::codes::{Code, Head, Step, in_front, placed, placed_head};
-use crate::formulas::{Formula, formula};
+use crate::formulas::{Formula, formula_of};
 use array_places::{Environment, Place, Thing, rank_of};
 use bumpalo::Bump;
 use name_kinds::is_above_zero;
@@ -35,7 +35,7 @@ fn assigned<'t>(
         ≡ option_map (λ one. formula_in one.now) found) }
 {
     let Some(op) = op else {
-        return formula(arena, environment, value);
+        return formula_of(arena, environment, value);
     };
     let variable = Expr {
         at: name.at,
@@ -45,7 +45,7 @@ fn assigned<'t>(
         at: name.at,
         form: ExprForm::Pair(op, &variable, value),
     };
-    formula(arena, environment, &whole)
+    formula_of(arena, environment, &whole)
 }
 
 /// An assignment, where it is one of a formula to a scalar.
@@ -84,14 +84,14 @@ fn test_formula<'t>(
     if is_above_zero(rank_of(&place.scope, place.prefix, place.prefix, test)) {
         Ok(None)
     } else {
-        formula(arena, &place.environment, test)
+        formula_of(arena, &place.environment, test)
     }
 }
 
 /// The code of statements, where nothing else than scalars stands in them. It takes no more stack
 /// for many statements than for one.
 #[cycle(makers)]
-fn code<'t>(
+fn code_of<'t>(
     arena: &'t Bump<Global>,
     place: &Place<'_, '_>,
     body: &[Stmt<'_>],
@@ -103,7 +103,7 @@ fn code<'t>(
     let mut left = body.len();
     while left > 0 {
         left -= 1;
-        match step(arena, place, &body[left])? {
+        match step_of(arena, place, &body[left])? {
             Some(first) => behind = in_front(arena, first, behind)?,
             None => return Ok(None),
         }
@@ -113,7 +113,7 @@ fn code<'t>(
 
 /// The code of a statement without prefixes, where nothing else than scalars stands in it.
 #[cycle(makers)]
-fn step<'t>(
+fn step_of<'t>(
     arena: &'t Bump<Global>,
     place: &Place<'_, '_>,
     stmt: &Stmt<'_>,
@@ -145,7 +145,7 @@ pub fn form_step<'t>(
         }
         Form::Block(body) => block_step(arena, place, body),
         Form::If(arms, otherwise) => match otherwise {
-            Some(body) => match code(arena, place, body)? {
+            Some(body) => match code_of(arena, place, body)? {
                 Some(last) => choice_step(arena, place, at, arms, last),
                 None => Ok(None),
             },
@@ -174,7 +174,7 @@ fn block_step<'t>(
     ensures { IfOk result (λ found. option_map plain.Block
         (code_of (place_of place.now) (stmts_of body.now)) ≡ option_map step_in found) }
 {
-    match code(arena, place, body)? {
+    match code_of(arena, place, body)? {
         Some(body) => Ok(Some(Step::Block(body))),
         None => Ok(None),
     }
@@ -195,7 +195,7 @@ fn while_step<'t>(
     let Some(test) = test_formula(arena, place, test)? else {
         return Ok(None);
     };
-    match code(arena, place, body)? {
+    match code_of(arena, place, body)? {
         Some(body) => Ok(Some(Step::While(at, test, body))),
         None => Ok(None),
     }
@@ -217,7 +217,7 @@ fn repeat_step<'t>(
     let Some(test) = test_formula(arena, place, test)? else {
         return Ok(None);
     };
-    match code(arena, place, body)? {
+    match code_of(arena, place, body)? {
         Some(body) => Ok(Some(Step::Repeat(body, at, test))),
         None => Ok(None),
     }
@@ -238,8 +238,8 @@ fn step_formula<'t>(
         form: ExprForm::Number(1),
     };
     match step {
-        Some(step) => formula(arena, environment, step),
-        None => formula(arena, environment, &one),
+        Some(step) => formula_of(arena, environment, step),
+        None => formula_of(arena, environment, &one),
     }
 }
 
@@ -260,10 +260,10 @@ fn head_step<'t>(
     let Some(Thing::Scalar(target)) = environment.find(&head.name) else {
         return Ok(None);
     };
-    let Some(first) = formula(arena, environment, head.first)? else {
+    let Some(first) = formula_of(arena, environment, head.first)? else {
         return Ok(None);
     };
-    let Some(last) = formula(arena, environment, head.last)? else {
+    let Some(last) = formula_of(arena, environment, head.last)? else {
         return Ok(None);
     };
     let Some(by) = step_formula(arena, environment, head.step)? else {
@@ -300,7 +300,7 @@ fn for_step<'t>(
     let Some(head) = head_step(arena, &place.environment, at, head)? else {
         return Ok(None);
     };
-    match code(arena, place, body)? {
+    match code_of(arena, place, body)? {
         Some(body) => Ok(Some(Step::For(head, body))),
         None => Ok(None),
     }
@@ -351,7 +351,7 @@ fn choice_step<'t>(
         let Some(test) = test_formula(arena, place, arm.test)? else {
             return Ok(None);
         };
-        match code(arena, place, arm.body)? {
+        match code_of(arena, place, arm.body)? {
             Some(body) => behind = chosen(arena, offset, test, body, behind)?,
             None => return Ok(None),
         }

@@ -44,7 +44,7 @@ fn run(code: &Code<'_>, turns: u64, store: &mut Store) -> Result<(), Halt>
     let mut left = code;
     while let Code::Then(first, rest) = left {
         run_step(first, turns, store)?;
-        left = rest;
+        left = *rest;
     }
     Ok(())
 }

@@ -3,8 +3,8 @@ use Rattle.std.proofs.Common.{◌+◌, ◌*◌, max}
 use Rattle.zpl_tree.specs.declared.expressions.Expr.{size-Expr}
 use Rattle.scalar_code.proofs.formulas.+formulas.Given as goal
 
-abbrev pub decreases-formula : goal.decreases-formula
-decreases-formula l = 2 * size-Expr l.expr.now
+abbrev pub decreases-formula_of : goal.decreases-formula_of
+decreases-formula_of l = 2 * size-Expr l.expr.now
 
 abbrev pub decreases-unary : goal.decreases-unary
 decreases-unary l = 2 * size-Expr l.operand.now + 1

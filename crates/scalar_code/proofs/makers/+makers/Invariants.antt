@@ -9,11 +9,11 @@ use Rattle.scalar_code.specs.Code.{arms_code, code_of, offset_or}
 use Rattle.scalar_code.specs.View.{code_in}
 use Rattle.scalar_code.proofs.makers.+makers.Given as goal
 
-abbrev pub decreases-code : goal.decreases-code
-decreases-code l = 8 * goal.size-code l + 2
+abbrev pub decreases-code_of : goal.decreases-code_of
+decreases-code_of l = 8 * goal.size-code_of l + 2
 
-abbrev pub decreases-step : goal.decreases-step
-decreases-step l = 8 * goal.size-step l + 1
+abbrev pub decreases-step_of : goal.decreases-step_of
+decreases-step_of l = 8 * goal.size-step_of l + 1
 
 abbrev pub decreases-form_step : goal.decreases-form_step
 decreases-form_step l = 8 * goal.size-form_step l
@@ -35,11 +35,11 @@ decreases-choice_step l = 8 * goal.size-choice_step l + 3
 
 -- ---- loops
 
-abbrev pub decreases-code-loop-left : goal.decreases-code-loop-left
-decreases-code-loop-left l = l.left
+abbrev pub decreases-code_of-loop-left : goal.decreases-code_of-loop-left
+decreases-code_of-loop-left l = l.left
 
-abbrev pub invariant-code-loop-left : goal.invariant-code-loop-left
-invariant-code-loop-left l = record {
+abbrev pub invariant-code_of-loop-left : goal.invariant-code_of-loop-left
+invariant-code_of-loop-left l = record {
   within : l.left ≤ length l.body;
   rest : code_of (place_of l.place) (stmts_of (drop l.left l.body)) ≡ Some (code_in l.behind);
 }

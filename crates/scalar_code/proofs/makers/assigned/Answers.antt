@@ -11,15 +11,15 @@ use Rattle.scalar_code.proofs.makers.assigned.Goals as goal
 pub returns-in_default : goal.returns-in_default
 returns-in_default c =
     subst
-    (λ op. IfOk c.formula.result (λ found.
+    (λ op. IfOk c.formula_of.result (λ found.
     formula_of (environment_of c.args.environment.now)
     (assigned_expr (name_of c.args.name.now) op (expr_of c.args.value.now))
-    ≡ option_map (λ one. formula_in one.now) found)) (sym c.in_default.is) c.formula.ensures
+    ≡ option_map (λ one. formula_in one.now) found)) (sym c.in_default.is) c.formula_of.ensures
 
 pub returns : goal.returns
 returns c =
     subst
-    (λ op. IfOk c.formula-2.result (λ found.
+    (λ op. IfOk c.formula_of-2.result (λ found.
     formula_of (environment_of c.args.environment.now)
     (assigned_expr (name_of c.args.name.now) op (expr_of c.args.value.now))
-    ≡ option_map (λ one. formula_in one.now) found)) (sym c.in-Some.is) c.formula-2.ensures
+    ≡ option_map (λ one. formula_in one.now) found)) (sym c.in-Some.is) c.formula_of-2.ensures
