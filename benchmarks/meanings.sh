@@ -88,3 +88,26 @@ END
 for turns in 2500000 5000000 10000000; do
     row "$turns turns" loop "$turns" "$place/loop.zpl" "turns:=$turns"
 done
+
+echo "-- two scalar loops with a choice in them"
+cat >"$place/nest.zpl" <<'END'
+program nest;
+config var rows : integer = 10000;
+var i, j, sum : integer;
+procedure nest();
+begin
+  for i := 1 to rows do
+    for j := 1 to 1000 do
+      if i * j % 3 < 1 then
+        sum += j;
+      else
+        sum -= i;
+      end;
+    end;
+  end;
+  writeln(sum);
+end;
+END
+for rows in 2500 10000; do
+    row "$rows by 1000 turns" nest "$rows" "$place/nest.zpl" "rows:=$rows"
+done

@@ -217,6 +217,21 @@ fn turns(count: i64) {
     println!("{}", store.scalars[1]);
 }
 
+fn nest(count: i64) {
+    let mut store = Store::new(Vec::new(), 3);
+    let test = two('<', two('%', two('*', Scalar(0), Scalar(1)), Number(3)), Number(1));
+    let up = two('+', Scalar(2), Scalar(1));
+    let down = two('-', Scalar(2), Scalar(0));
+    for outer in 1..=count {
+        store.scalars[0] = outer;
+        for inner in 1..=1000 {
+            store.scalars[1] = inner;
+            store.scalars[2] = store.single(if store.single(&test) != 0 { &up } else { &down });
+        }
+    }
+    println!("{}", store.scalars[2]);
+}
+
 fn main() {
     let words: Vec<String> = std::env::args().collect();
     let size = words[2].parse().expect("a size");
@@ -224,6 +239,7 @@ fn main() {
         "jacobi" => jacobi(size),
         "matrix" => matrix(size),
         "scans" => scans(size),
+        "nest" => nest(size),
         _ => turns(size),
     }
 }

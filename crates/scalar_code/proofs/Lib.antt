@@ -1,4 +1,5 @@
 mod FormulaLemmas
 mod LeftLemmas
+mod MakerLemmas
 mod RunLemmas
 mod StatementLemmas

@@ -55,7 +55,7 @@ module _ (at : ℕ) (store : Store) (one other : Store → Left) where
 
 -- ---- a loop that tests before each turn
 
-positive : (left : ℕ) → (left ≡ 0 → ⊥) → suc (left - 1) ≡ left
+positive : (left : ℕ) → (left ≡ 0 → ⊥) → left ≡ suc (left - 1)
 positive left some = omega (arith, some)
 
 module _ (test : Formula) (at : ℕ) (body : Store → Left) (whole : Left) (left : ℕ) (store : Store)
@@ -90,7 +90,7 @@ module _ (test : Formula) (at : ℕ) (body : Store → Left) (whole : Left) (lef
     turned : (left ≡ 0 → ⊥) →
         whole ≡ then_left (body store) (while_turns (left - 1) test at body)
     turned some =
-        so ∙ (ap (λ n. while_turns n test at body store) (sym (positive left some))
+        so ∙ (ap (λ n. while_turns n test at body store) (positive left some)
         ∙ tested_ok at store
         (λ store. then_left (body store) (while_turns (left - 1) test at body)) goes test true yes)
 
@@ -116,7 +116,7 @@ module _ (test : Formula) (at : ℕ) (body : Store → Left) (whole : Left) (lef
     behind = tested test at goes (repeat_turns (left - 1) test at body)
 
     round : whole ≡ then_left (body store) behind
-    round = so ∙ ap (λ n. repeat_turns n test at body store) (sym (positive left some))
+    round = so ∙ ap (λ n. repeat_turns n test at body store) (positive left some)
 
     pub repeat_stops : (halt : Halt) → body store ≡ left_so after (Err halt) →
         whole ≡ stops halt after
@@ -194,7 +194,7 @@ module _ (count : Count) (target : ℕ) (body : Store → Left) (whole : Left) (
         whole ≡ then_left (body (with_scalar store target v))
         (for_turns (left - 1) count target body (next_value count v))
     counted some =
-        so ∙ (ap (λ n. for_turns n count target body v store) (sym (positive left some))
+        so ∙ (ap (λ n. for_turns n count target body v store) (positive left some)
         ∙ ap
         (λ b. chosen b goes (λ store. then_left (body (with_scalar store target v))
         (for_turns (left - 1) count target body (next_value count v))) store) not)
