@@ -1,6 +1,6 @@
 -- How code is made from the last statement on, and from the last arm on.
-use Rattle.std.proofs.Common.{◌≡◌, ◌<◌, ◌≤◌, ◌+◌, ◌-◌, ℕ, zero, suc, List, [], ◌∷◌, length, drop, get_or, Option, Some, None, refl, sym, ◌∙◌, ap, ap₂, subst, arith}
-use Rattle.zpl_tree.specs.Syntax.{Arms, Tested, ThenArm, ThenStmt}
+use Rattle.std.proofs.Common.{◌≡◌, ◌<◌, ◌≤◌, ◌+◌, ◌-◌, ℕ, zero, suc, List, [], ◌∷◌, length, drop, get_or, Bor, Option, Some, None, refl, sym, ◌∙◌, ap, ap₂, subst, arith}
+use Rattle.zpl_tree.specs.Syntax.{Arms, NoArm, Tested, ThenArm}
 use Rattle.zpl_tree.specs.View.{arm_of, arms_of, expr_of, stmt_of, stmts_of}
 use Rattle.zpl_tree.specs.declared.statements.Arm.{Arm as CodeArm, out-Arm}
 use Rattle.zpl_tree.specs.declared.statements.Stmt.{Stmt as CodeStmt}
@@ -10,6 +10,9 @@ use Rattle.zpl_meaning.specs.Statement.{arms_at}
 use Rattle.scalar_code.specs.Code as code
 use Rattle.scalar_code.specs.Code.{Code, Step, arms_code, choose_of, code_of, offset_or, step_of, test_of, then_of}
 use Rattle.scalar_code.specs.Formulas.{Formula}
+use Rattle.scalar_code.specs.View.{code_in, formula_in}
+use Rattle.scalar_code.specs.declared.codes.Code.{Code as CodeCode}
+use Rattle.scalar_code.specs.declared.formulas.Formula.{Formula as CodeFormula}
 
 drop_next : {X : Type 0} (xs : List X) (k : ℕ) (d : X) → k < length xs →
     drop k xs ≡ get_or xs k d ∷ drop (suc k) xs
@@ -25,6 +28,13 @@ drop_before xs (suc k) d some within =
     let back : k ≡ suc k - 1 = omega arith in
     subst (λ n. drop n xs ≡ get_or xs n d ∷ drop (suc k) xs) back
     (drop_next xs k d (omega (arith, within)))
+
+-- formulas and code that memory may hold
+abbrev pub formula_at : Bor CodeFormula → Formula
+formula_at one = formula_in one.now
+
+abbrev pub code_at : Bor CodeCode → Code
+code_at one = code_in one.now
 
 -- ---- statements
 
@@ -65,9 +75,16 @@ no_yes at (Some f) p q is = ap (λ p. choose_of at (Some f) p q) is
 no_yes at None p q is = refl
 
 no_no : (at : ℕ) (o : Option Formula) (p q : Option Code) → q ≡ None → choose_of at o p q ≡ None
-no_no at (Some f) (Some yes) q is = ap (λ q. choose_of at (Some f) (Some yes) q) is
+no_no at (Some f) (Some then_code) q is = ap (λ q. choose_of at (Some f) (Some then_code) q) is
 no_no at (Some f) None q is = refl
 no_no at None p q is = refl
+
+-- arms in front of what has no code
+pub no_last : (arms : Arms) (place : Place) (at : ℕ) → arms_code place at arms None ≡ None
+no_last NoArm place at = refl
+no_last (ThenArm (Tested own test body) rest) place at =
+    no_no at (test_of place test) (code_of place body) (arms_code place (arms_at rest) rest None)
+    (no_last rest place (arms_at rest))
 
 module _ (place : Place) (last : Option Code) where
   abbrev arm_test : CodeArm → Option Formula
@@ -119,16 +136,16 @@ module _ (place : Place) (last : Option Code) where
   offset_later (suc k) at own some = refl
 
   pub arm_more : (at : ℕ) (arms : List CodeArm) (left : ℕ) (d : CodeArm) → (left ≡ 0 → ⊥) →
-      left ≤ length arms → (f : Formula) (yes no all : Code) →
+      left ≤ length arms → (f : Formula) (then_code else_code all : Code) →
       arm_test (get_or arms (left - 1) d) ≡ Some f →
-      arm_body (get_or arms (left - 1) d) ≡ Some yes →
+      arm_body (get_or arms (left - 1) d) ≡ Some then_code →
       arms_code place (offset_or left at (arms_at (arms_of (drop left arms))))
-      (arms_of (drop left arms)) last ≡ Some no →
+      (arms_of (drop left arms)) last ≡ Some else_code →
       choose_of (offset_or (left - 1) at (out-Arm (get_or arms (left - 1) d)).at) (Some f)
-      (Some yes) (Some no) ≡ Some all →
+      (Some then_code) (Some else_code) ≡ Some all →
       arms_code place (offset_or (left - 1) at (arms_at (arms_of (drop (left - 1) arms))))
       (arms_of (drop (left - 1) arms)) last ≡ Some all
-  arm_more at arms left d some within f yes no all test body rest made =
+  arm_more at arms left d some within f then_code else_code all test body rest made =
       let arm = get_or arms (left - 1) d in
       let others = arms_of (drop left arms) in
       let here = offset_or (left - 1) at (out-Arm arm).at in
@@ -136,11 +153,11 @@ module _ (place : Place) (last : Option Code) where
       ap arms_of (drop_before arms left d some within) in
       let first : arms_at (arms_of (drop (left - 1) arms)) ≡ (out-Arm arm).at =
       ap arms_at (split ∙ ap (λ arm. ThenArm arm others) (arm_of-parts arm)) in
-      let behind : arms_code place (arms_at others) others last ≡ Some no =
+      let behind : arms_code place (arms_at others) others last ≡ Some else_code =
       ap (λ n. arms_code place n others last) (sym (offset_later left at (arms_at others) some))
       ∙ rest in
       ap₂ (λ n all. arms_code place n all last)
       (offset_first (left - 1) at (out-Arm arm).at (arms_of (drop (left - 1) arms)) first) split
       ∙ (arm_before here arm others
       ∙ (ap₂ (λ t b. choose_of here t b (arms_code place (arms_at others) others last)) test body
-      ∙ (ap (λ r. choose_of here (Some f) (Some yes) r) behind ∙ made)))
+      ∙ (ap (λ r. choose_of here (Some f) (Some then_code) r) behind ∙ made)))

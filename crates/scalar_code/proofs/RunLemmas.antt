@@ -81,18 +81,18 @@ module _ (test : Formula) (at : ℕ) (body : Store → Left) (whole : Left) (lef
       whole ≡ stops halt store
   while_halts halt is = so ∙ halts left halt is
 
-  module _ (yes : answered (value_at store test) at ≡ Ok true) where
+  module _ (holds : answered (value_at store test) at ≡ Ok true) where
     pub while_wants : left ≡ 0 → whole ≡ stops why.More store
     while_wants none =
         so ∙ (ap (λ n. while_turns n test at body store) none
-        ∙ tested_ok at store (stops why.More) goes test true yes)
+        ∙ tested_ok at store (stops why.More) goes test true holds)
 
     turned : (left ≡ 0 → ⊥) →
         whole ≡ then_left (body store) (while_turns (left - 1) test at body)
     turned some =
         so ∙ (ap (λ n. while_turns n test at body store) (positive left some)
         ∙ tested_ok at store
-        (λ store. then_left (body store) (while_turns (left - 1) test at body)) goes test true yes)
+        (λ store. then_left (body store) (while_turns (left - 1) test at body)) goes test true holds)
 
     pub while_stops : (left ≡ 0 → ⊥) → (after : Store) (halt : Halt) →
         body store ≡ left_so after (Err halt) → whole ≡ stops halt after
@@ -124,21 +124,21 @@ module _ (test : Formula) (at : ℕ) (body : Store → Left) (whole : Left) (lef
 
     module _ (is : body store ≡ left_so after (Ok tt)) where
       pub repeat_over : answered (value_at after test) at ≡ Ok true → whole ≡ goes after
-      repeat_over yes =
+      repeat_over holds =
           round ∙ (then_goes (body store) behind after is
-          ∙ tested_ok at after goes (repeat_turns (left - 1) test at body) test true yes)
+          ∙ tested_ok at after goes (repeat_turns (left - 1) test at body) test true holds)
 
       pub repeat_next : answered (value_at after test) at ≡ Ok false →
           whole ≡ repeat_turns (left - 1) test at body after
-      repeat_next no =
+      repeat_next fails =
           round ∙ (then_goes (body store) behind after is
-          ∙ tested_ok at after goes (repeat_turns (left - 1) test at body) test false no)
+          ∙ tested_ok at after goes (repeat_turns (left - 1) test at body) test false fails)
 
       pub repeat_halts : (halt : Halt) → answered (value_at after test) at ≡ Err halt →
           whole ≡ stops halt after
-      repeat_halts halt no =
+      repeat_halts halt fails =
           round ∙ (then_goes (body store) behind after is
-          ∙ tested_err at after goes (repeat_turns (left - 1) test at body) test halt no)
+          ∙ tested_err at after goes (repeat_turns (left - 1) test at body) test halt fails)
 
 -- ---- a loop that counts
 
@@ -178,6 +178,14 @@ follows count target body v store left (Some next) stands =
     ap (λ v. for_turns left count target body v store) stands
 follows count target body v store left None stands =
     behind_last count target body (next_value count v) store left stands
+
+-- all turns, from the first value on
+pub from_all : (turns target : ℕ) (start : Start) (body : Store → Left) (store : Store) (v : ℤ) →
+    int_lt start.count.by (pos 1) ≡ false → v ≡ start.first →
+    from_left turns target start body store ≡ for_turns turns start.count target body v store
+from_all turns target start body store v is same =
+    from_begins turns target start body store is
+    ∙ ap (λ v. for_turns turns start.count target body v store) (sym same)
 
 module _ (count : Count) (target : ℕ) (body : Store → Left) (whole : Left) (left : ℕ) (v : ℤ)
     (store : Store) (so : whole ≡ for_turns left count target body v store) where

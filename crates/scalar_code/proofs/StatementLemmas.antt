@@ -90,12 +90,12 @@ of_for None p step P is make = no_some step is
 
 of_choose : (at : ℕ) (o : Option Formula) (p q : Option Code) (all : Code) (P : Code → Type 0) →
     choose_of at o p q ≡ Some all →
-    ((f : Formula) (yes no : Code) → o ≡ Some f → p ≡ Some yes → q ≡ Some no →
-    P (code.Then (code.Choose at f yes no) code.End)) → P all
-of_choose at (Some f) (Some yes) (Some no) all P is make =
-    subst P (some_is (code.Then (code.Choose at f yes no) code.End) all is)
-    (make f yes no refl refl refl)
-of_choose at (Some f) (Some yes) None all P is make = no_some all is
+    ((f : Formula) (then_code else_code : Code) → o ≡ Some f → p ≡ Some then_code → q ≡ Some else_code →
+    P (code.Then (code.Choose at f then_code else_code) code.End)) → P all
+of_choose at (Some f) (Some then_code) (Some else_code) all P is make =
+    subst P (some_is (code.Then (code.Choose at f then_code else_code) code.End) all is)
+    (make f then_code else_code refl refl refl)
+of_choose at (Some f) (Some then_code) None all P is make = no_some all is
 of_choose at (Some f) None q all P is make = no_some all is
 of_choose at None p q all P is make = no_some all is
 
@@ -187,11 +187,11 @@ arms_low (ThenArm (Tested own test body) rest) place at last all is =
     of_choose at (test_of place test) (code_of place body)
     (arms_code place (arms_at rest) rest last) all
     (λ all. is_above_zero (arms_rank (reach_of place) (ThenArm (Tested own test body) rest))
-    ≡ false) is (λ f yes no has body_has rest_has.
+    ≡ false) is (λ f then_code else_code has body_has rest_has.
     first_low (test_rank (reach_of place) test) (arms_rank (reach_of place) rest)
     (unless_not (is_above_zero (test_rank (reach_of place) test))
     (formula_of place.environment test) f has)
-    (arms_low rest place (arms_at rest) last no rest_has))
+    (arms_low rest place (arms_at rest) last else_code rest_has))
 
 -- ---- statements
 
@@ -305,7 +305,7 @@ mutual
   step_same (Prefixed at [] form) law context n step is store =
       let same = form_same form law context n at step is store in
       record { ending = same.ending; store_is = same.store_is; nothing = same.nothing }
-  step_same (Prefixed at (prefix ∷ prefixes) form) law context n step is = no_some step is
+  step_same (Prefixed at (prefix ∷ prefixes) form) law context n step is store = no_some step is
 
   code_same : (body : Stmts) → Law → (context : Context) (n : ℕ) (all : Code) →
       code_of context.place body ≡ Some all →
@@ -340,13 +340,13 @@ mutual
   arm_same (Tested own test body) law context n at last otherwise same all is =
       of_choose at (test_of context.place test) (code_of context.place body) last all
       (λ all. Does context.place (exec_arm context n at (Tested own test body) otherwise)
-      (code_left n all)) is (λ f yes no has body_has last_has store.
+      (code_left n all)) is (λ f then_code else_code has body_has last_has store.
       last_same context.place (exec_arm context n at (Tested own test body) otherwise store)
-      (plain.tested f at (code_left n yes) (code_left n no) store).result
-      (plain.tested f at (code_left n yes) (code_left n no) store).store
+      (plain.tested f at (code_left n then_code) (code_left n else_code) store).result
+      (plain.tested f at (code_left n then_code) (code_left n else_code) store).store
       (tested_same context.place test at f (test_value law context.place test f has)
-      (exec_all context n body) otherwise (code_left n yes) (code_left n no)
-      (code_same body law context n yes body_has) (same no last_has) store))
+      (exec_all context n body) otherwise (code_left n then_code) (code_left n else_code)
+      (code_same body law context n then_code body_has) (same else_code last_has) store))
 
   last_code_same : (otherwise : Otherwise) → Law → (context : Context) (n : ℕ) (all : Code) →
       last_code context.place otherwise ≡ Some all →

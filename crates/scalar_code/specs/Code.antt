@@ -29,7 +29,7 @@ mutual
     Set : (at target : ℕ) (formula : Formula) → Step
     Block : (body : Code) → Step
     -- a test at an offset, and what is run where it is true, and where it is false
-    Choose : (at : ℕ) (test : Formula) (yes no : Code) → Step
+    Choose : (at : ℕ) (test : Formula) (one other : Code) → Step
     While : (at : ℕ) (test : Formula) (body : Code) → Step
     Repeat : (body : Code) (at : ℕ) (test : Formula) → Step
     For : (head : Head) (body : Code) → Step
@@ -48,10 +48,10 @@ set_of at (Some (Fixed value)) formula = None
 set_of at None formula = None
 
 abbrev pub choose_of : ℕ → Option Formula → Option Code → Option Code → Option Code
-choose_of at (Some test) (Some yes) (Some no) = Some (Then (Choose at test yes no) End)
-choose_of at (Some test) (Some yes) None = None
-choose_of at (Some test) None no = None
-choose_of at None yes no = None
+choose_of at (Some test) (Some one) (Some other) = Some (Then (Choose at test one other) End)
+choose_of at (Some test) (Some one) None = None
+choose_of at (Some test) None other = None
+choose_of at None one other = None
 
 abbrev pub while_of : ℕ → Option Formula → Option Code → Option Step
 while_of at (Some test) (Some body) = Some (While at test body)

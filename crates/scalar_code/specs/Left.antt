@@ -91,8 +91,8 @@ abbrev mutual
   pub step_left : ℕ → Step → Store → Left
   step_left turns (Set at target formula) = set_left at target formula
   step_left turns (Block body) = code_left turns body
-  step_left turns (Choose at test yes no) =
-      tested test at (code_left turns yes) (code_left turns no)
+  step_left turns (Choose at test one other) =
+      tested test at (code_left turns one) (code_left turns other)
   step_left turns (While at test body) = while_turns turns test at (code_left turns body)
   step_left turns (Repeat body at test) = repeat_turns turns test at (code_left turns body)
   step_left turns (For head body) = for_left turns head (code_left turns body)

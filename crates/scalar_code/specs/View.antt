@@ -30,8 +30,8 @@ abbrev mutual
   pub step_in : Step → code.Step
   step_in (Set at target formula) = code.Set at target (formula_in formula.now)
   step_in (Block' p body) = code.Block (code_in body)
-  step_in (Choose' at test p yes q no) =
-      code.Choose at (formula_in test.now) (code_in yes) (code_in no)
+  step_in (Choose' at test p one q other) =
+      code.Choose at (formula_in test.now) (code_in one) (code_in other)
   step_in (While' at test p body) = code.While at (formula_in test.now) (code_in body)
   step_in (Repeat' p body at test) = code.Repeat (code_in body) at (formula_in test.now)
   step_in (For' head p body) = code.For (head_in head.now) (code_in body)

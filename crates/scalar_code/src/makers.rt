@@ -230,7 +230,7 @@ fn step_formula<'t>(
     step: Option<&Expr<'_>>,
 ) -> Result<Option<&'t Formula<'t>>, AllocError>
     ensures { IfOk result (λ found. formula_of (environment_of environment.now)
-        (step_expr (option_map (λ step. expr_of step.now) step))
+        (step_expr (option_map (λ step. expr_of step.now) step.entry))
         ≡ option_map (λ one. formula_in one.now) found) }
 {
     let one = Expr {
@@ -311,15 +311,15 @@ fn chosen<'t>(
     arena: &'t Bump<Global>,
     at: u32,
     test: &'t Formula<'t>,
-    yes: &'t Code<'t>,
-    no: &'t Code<'t>,
+    one: &'t Code<'t>,
+    other: &'t Code<'t>,
 ) -> Result<&'t Code<'t>, AllocError>
     ensures { IfOk result (λ all. choose_of at (Some (formula_in test.entry.now))
-        (Some (code_in yes.entry.now)) (Some (code_in no.entry.now))
+        (Some (code_in one.entry.now)) (Some (code_in other.entry.now))
         ≡ Some (code_in all.now)) }
 {
     let end = placed(arena, Code::End)?;
-    in_front(arena, Step::Choose(at, test, yes, no), end)
+    in_front(arena, Step::Choose(at, test, one, other), end)
 }
 
 /// Where the test of an arm stands.
@@ -342,7 +342,7 @@ fn choice_step<'t>(
         (arms_code (place_of place.now) at (arms_of arms.now) (Some (code_in last.entry.now)))
         ≡ option_map step_in found) }
 {
-    let mut behind = last;
+    let mut behind = placed(arena, *last)?;
     let mut left = arms.len();
     while left > 0 {
         left -= 1;

@@ -57,9 +57,9 @@ pub fn run_step(step: &Step<'_>, turns: u64, store: &mut Store) -> Result<(), Ha
     match step {
         Step::Set(at, target, formula) => set(*at, *target, formula, store),
         Step::Block(body) => run(body, turns, store),
-        Step::Choose(at, test, yes, no) => match answer(*at, test, store) {
-            Ok(true) => run(yes, turns, store),
-            Ok(false) => run(no, turns, store),
+        Step::Choose(at, test, one, other) => match answer(*at, test, store) {
+            Ok(true) => run(one, turns, store),
+            Ok(false) => run(other, turns, store),
             Err(halt) => Err(halt),
         },
         Step::While(at, test, body) => run_while(*at, test, body, turns, store),
@@ -84,14 +84,17 @@ fn run_while(
         (code_left turns (code_in body.now)) store.old ≡ left_so store.new result }
 {
     let mut left = turns;
-    while answer(at, test, store)? {
+    loop {
+        let holds = answer(at, test, store)?;
+        if !holds {
+            return Ok(());
+        }
         if left == 0 {
             return Err(Halt::More);
         }
         left -= 1;
         run(body, turns, store)?;
     }
-    Ok(())
 }
 
 /// Runs a loop that tests after each turn.
@@ -113,7 +116,8 @@ fn run_repeat(
         }
         left -= 1;
         run(body, turns, store)?;
-        if answer(at, test, store)? {
+        let holds = answer(at, test, store)?;
+        if holds {
             return Ok(());
         }
     }

@@ -34,14 +34,14 @@ invariant-run-loop-left l = record {
 abbrev pub decreases-run-loop-left : goal.decreases-run-loop-left
 decreases-run-loop-left l = size-Code l.left
 
-abbrev pub invariant-run_while-loop-left : goal.invariant-run_while-loop-left
-invariant-run_while-loop-left l =
+abbrev pub invariant-run_while-loop-holds : goal.invariant-run_while-loop-holds
+invariant-run_while-loop-holds l =
     let body = code_left l.turns (code_in l.body) in
     while_turns l.turns (formula_in l.test) l.at body l.initial.store
     ≡ while_turns l.left (formula_in l.test) l.at body l.store
 
-abbrev pub decreases-run_while-loop-left : goal.decreases-run_while-loop-left
-decreases-run_while-loop-left l = l.left
+abbrev pub decreases-run_while-loop-holds : goal.decreases-run_while-loop-holds
+decreases-run_while-loop-holds l = l.left
 
 abbrev pub invariant-run_repeat-loop-left : goal.invariant-run_repeat-loop-left
 invariant-run_repeat-loop-left l =
