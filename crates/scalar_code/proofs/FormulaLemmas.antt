@@ -1,5 +1,5 @@
 -- What formulas are worth.
-use Rattle.std.proofs.Common.{◌≡◌, ℕ, ℤ, pos, List, [], ◌∷◌, Option, Some, None, refl, ◌∙◌, ap, ap₂, subst}
+use Rattle.std.proofs.Common.{◌≡◌, pos, List, [], ◌∷◌, Option, Some, None, refl, ◌∙◌, ap, ap₂, subst}
 use Rattle.std.specs.Option.{option_map}
 use Rattle.zpl_nums.specs.declared.operators.Op.{Op}
 use Rattle.zpl_nums.specs.declared.operators.UnaryOp.{UnaryOp}

@@ -1,5 +1,5 @@
 -- What code leaves, beside what its text comes to.
-use Rattle.std.proofs.Common.{◌≡◌, ℕ, zero, suc, ℤ, pos, int_lt, Some, Bool, true, false, [], ◌++◌, Result, Ok, Err, refl, sym, ap₂, subst}
+use Rattle.std.proofs.Common.{◌≡◌, ℕ, zero, suc, ℤ, pos, int_lt, Some, Bool, true, false, ◌++◌, Result, Ok, Err, refl, sym, ap₂, subst}
 use Rattle.zpl_nums.specs.Integer.{is_true}
 use Rattle.zpl_tree.specs.Syntax.{Expr}
 use Rattle.zpl_names.specs.Sites.{Test as TestRole}

@@ -1,5 +1,5 @@
 -- How code is made from the last statement on, and from the last arm on.
-use Rattle.std.proofs.Common.{◌≡◌, ◌<◌, ◌≤◌, ◌+◌, ◌-◌, ℕ, zero, suc, List, [], ◌∷◌, length, drop, get_or, Bor, Option, Some, None, refl, sym, ◌∙◌, ap, ap₂, subst, arith}
+use Rattle.std.proofs.Common.{◌≡◌, ◌<◌, ◌≤◌, ◌-◌, ℕ, zero, suc, List, [], ◌∷◌, length, drop, get_or, Bor, Option, Some, None, refl, sym, ◌∙◌, ap, ap₂, subst, arith}
 use Rattle.zpl_tree.specs.Syntax.{Arms, NoArm, Tested, ThenArm}
 use Rattle.zpl_tree.specs.View.{arm_of, arms_of, expr_of, stmt_of, stmts_of}
 use Rattle.zpl_tree.specs.declared.statements.Arm.{Arm as CodeArm, out-Arm}

@@ -1,5 +1,5 @@
 -- Steps of loops, and of statements that are run one after the other.
-use Rattle.std.proofs.Common.{◌≡◌, ℕ, zero, suc, ◌-◌, ℤ, pos, int_lt, Bool, true, false, Option, Some, None, Result, Ok, Err, IsErrAnd, refl, sym, ◌∙◌, ap, subst, arith}
+use Rattle.std.proofs.Common.{◌≡◌, ℕ, zero, suc, ◌-◌, ℤ, pos, int_lt, Bool, true, false, Option, Some, None, Result, Ok, Err, IsErrAnd, sym, ◌∙◌, ap, arith}
 use Rattle.zpl_nums.specs.Integer.{is_true}
 use Rattle.zpl_meaning.specs.Computed.{Computed, Gives, Traps}
 use Rattle.zpl_meaning.specs.Outcome.{Count, is_past, next_value}

@@ -13,8 +13,8 @@ use Rattle.zpl_meaning.specs.Statement.{arms_at, step_expr}
 use Rattle.zpl_meaning.specs.Store.{Thing, Scalar, ArrayAt, Fixed, thing_of}
 use Rattle.scalar_code.specs.Formulas.{Formula, formula_of}
 
--- a loop that counts: the offset of its statement, the place of the scalar that it counts in, whether
--- it counts down, and its first value, its last one and its step
+-- a loop that counts: the offset of its statement, the place of the scalar that it counts in,
+-- whether it counts down, and its first value, its last one and its step
 pub record Head : Type 0 where
   pub at : ℕ
   pub target : ℕ

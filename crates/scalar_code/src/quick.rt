@@ -26,8 +26,8 @@ fn is_loop(form: &Form<'_>) -> bool {
 }
 
 /// Runs a loop of scalars alone, behind its prefixes: in its tests and the statements in it stand
-/// numbers, scalars, operators on them, choices and loops, and no prefix. Their names are found once,
-/// before it begins. Another statement isn't run, nor one for whose code memory is wanting.
+/// numbers, scalars, operators on them, choices and loops, and no prefix. Their names are found
+/// once, before it begins. Another statement isn't run, nor one for whose code memory is wanting.
 pub fn run_loop(
     alloc: Global,
     place: &Place<'_, '_>,

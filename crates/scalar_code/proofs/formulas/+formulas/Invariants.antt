@@ -1,4 +1,5 @@
--- How deep an expression is, and then how far a function stands above those that it passes the same.
+-- How deep an expression is, and then how far a function stands above those that it passes the
+-- same.
 use Rattle.std.proofs.Common.{◌+◌, ◌*◌, max}
 use Rattle.zpl_tree.specs.declared.expressions.Expr.{size-Expr}
 use Rattle.scalar_code.proofs.formulas.+formulas.Given as goal

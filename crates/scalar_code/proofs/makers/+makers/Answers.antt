@@ -1,8 +1,7 @@
-use Rattle.std.proofs.Common.{◌≡◌, ◌-◌, arith, Option, Some, None, sym, ◌∙◌, ap, subst}
+use Rattle.std.proofs.Common.{◌≡◌, ◌-◌, arith, Some, sym, ◌∙◌, ap, subst}
 use Rattle.std.specs.Option.{option_map}
 use Rattle.std.specs.Prelude.{IfOk}
-use Rattle.zpl_tree.specs.Syntax as syntax
-use Rattle.zpl_tree.specs.View.{arms_of, expr_of, head_of, statement_of, stmts_of}
+use Rattle.zpl_tree.specs.View.{arms_of, expr_of, statement_of, stmts_of}
 use Rattle.zpl_tree.specs.declared.statements.Arm.{out-Arm}
 use Rattle.zpl_tree.specs.declared.statements.Form.TheVariants.{If as CodeIf}
 use Rattle.zpl_tree.proofs.Views.{statement_of-Block, statement_of-For, statement_of-If, statement_of-If_else, statement_of-Repeat, statement_of-While}

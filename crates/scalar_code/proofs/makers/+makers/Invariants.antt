@@ -1,4 +1,5 @@
--- How deep what has code is, and then how far a function stands above those that it passes the same.
+-- How deep what has code is, and then how far a function stands above those that it passes the
+-- same.
 use Rattle.std.proofs.Common.{◌≡◌, ◌≤◌, ◌+◌, ◌*◌, drop, length, Some}
 use denote.Param.Weighed.{most}
 use Rattle.zpl_tree.specs.View.{arms_of, stmts_of}

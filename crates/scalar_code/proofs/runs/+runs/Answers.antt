@@ -1,8 +1,8 @@
 use Rattle.std.proofs.Common.{◌≡◌, rules, Ok, Some, sym, ◌∙◌, ap, pos, int_lt, to_z, of_z, w64}
 use Rattle.scalar_code.specs.Counts.{count_in}
-use Rattle.scalar_code.specs.Left.{code_left, for_turns, from_left}
+use Rattle.scalar_code.specs.Left.{code_left}
 use Rattle.scalar_code.specs.View.{code_in, formula_in}
-use Rattle.scalar_code.proofs.RunLemmas.{for_next, for_over, for_stops, for_wants, from_all, passed, repeat_halts, repeat_next, repeat_over, repeat_stops, repeat_wants, turns_from, while_halts, while_next, while_over, while_stops, while_wants}
+use Rattle.scalar_code.proofs.RunLemmas.{for_next, for_over, from_all, passed, repeat_halts, repeat_next, repeat_over, repeat_stops, repeat_wants, turns_from, while_halts, while_next, while_over, while_stops, while_wants}
 use Rattle.scalar_code.proofs.runs.+runs.Goals as goal
 
 -- ---- a loop that tests before each turn
@@ -82,3 +82,37 @@ run_repeat-loop-left-preserved t c =
     (code_left c.args.turns (code_in c.args.body.now)) _ c.loop-left.left c.loop-left.store
     c.loop-left.invariant c.if-left-eq0.false c.run.new.store c.in_ok-run.ensures
     (c.in_ok-holds.ensures ∙ ap Ok c.if-holds.false)
+
+-- ---- a loop that counts
+
+pub run_from-returns-then-is_past : goal.run_from-returns-then-is_past
+run_from-returns-then-is_past t c =
+    let start = count_in c.args.count.now in
+    let body = code_left c.args.turns (code_in c.args.body.now) in
+    let v = to_z w64 (of_z w64 c.in-Some.now) in
+    let back : v ≡ c.in-Some.now = search rules in
+    let is : c.loop-value.value ≡ Some v = c.in-Some.is ∙ ap Some (sym back) in
+    let first : to_z w64 (of_z w64 c.args.count.now.first) ≡ c.args.count.now.first =
+    search rules in
+    let by : to_z w64 (of_z w64 c.args.count.now.by) ≡ c.args.count.now.by = search rules in
+    from_all c.args.turns c.args.target start body c.args.store.now
+    (to_z w64 (of_z w64 c.args.count.now.first))
+    (ap (λ by. int_lt by (pos 1)) (sym by) ∙ c.if-count-lt1.false) first
+    ∙ for_over start.count c.args.target body _ c.loop-value.left v c.loop-value.store
+    (c.loop-value.invariant
+    ∙ ap (λ o. turns_from c.loop-value.left start.count c.args.target body o c.loop-value.store) is)
+    (sym c.is_past.ensures ∙ c.if-is_past.true)
+
+pub run_from-loop-value-preserved : goal.run_from-loop-value-preserved
+run_from-loop-value-preserved t c =
+    let start = count_in c.args.count.now in
+    let body = code_left c.args.turns (code_in c.args.body.now) in
+    let v = to_z w64 (of_z w64 c.in-Some.now) in
+    let back : v ≡ c.in-Some.now = search rules in
+    let is : c.loop-value.value ≡ Some v = c.in-Some.is ∙ ap Some (sym back) in
+    for_next start.count c.args.target body _ c.loop-value.left v c.loop-value.store
+    (c.loop-value.invariant
+    ∙ ap (λ o. turns_from c.loop-value.left start.count c.args.target body o c.loop-value.store) is)
+    (sym c.is_past.ensures ∙ c.if-is_past.false) c.if-left-eq0.false c.set_scalar.new.self
+    c.run.new.store c.set_scalar.ensures c.next_value-value.result c.next_value-value.ensures
+    c.in_ok-run.ensures

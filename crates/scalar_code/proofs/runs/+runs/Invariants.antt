@@ -1,5 +1,5 @@
--- How deep code is, and then how far a function stands above those that it passes the same; and what
--- the rest of a loop makes of the whole.
+-- How deep code is, and then how far a function stands above those that it passes the same; and
+-- what the rest of a loop makes of the whole.
 use Rattle.std.proofs.Common.{◌≡◌, ◌≤◌, ◌+◌, ◌*◌}
 use Rattle.scalar_code.specs.Counts.{count_in}
 use Rattle.scalar_code.specs.Left.{code_left, repeat_turns, while_turns}
