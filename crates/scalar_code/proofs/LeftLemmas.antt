@@ -92,7 +92,8 @@ module _ (place : Place) (test : Expr) (at : ℕ) (formula : Formula)
 
   module _ (body : Store → Outcome) (code : Store → Left) (same : Does place body code) where
     pub while_same : (n : ℕ) →
-        Does place (while_turns n (test_of place test at) body) (plain.while_turns n formula at code)
+        Does place (while_turns n (test_of place test at) body)
+        (plain.while_turns n formula at code)
     while_same zero store =
         tested_same wants_more goes_on (stops why.More) goes (more_same place) (goes_same place)
         store
@@ -132,7 +133,8 @@ module _ (place : Place) (count : Count) (target : ℕ) (body : Store → Outcom
   turn_same n value rest store =
       let one = then_same place (body (set value store)) (code (with_scalar store target value))
       (for_turns n count set body (next_value count value))
-      (plain.for_turns n count target code (next_value count value)) (same (set value store)) rest in
+      (plain.for_turns n count target code (next_value count value)) (same (set value store))
+      rest in
       record { ending = one.ending; store_is = one.store_is; nothing = one.nothing }
 
   pub for_same : (n : ℕ) (value : ℤ) →

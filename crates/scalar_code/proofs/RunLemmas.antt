@@ -92,7 +92,8 @@ module _ (test : Formula) (at : ℕ) (body : Store → Left) (whole : Left) (lef
     turned some =
         so ∙ (ap (λ n. while_turns n test at body store) (positive left some)
         ∙ tested_ok at store
-        (λ store. then_left (body store) (while_turns (left - 1) test at body)) goes test true holds)
+        (λ store. then_left (body store) (while_turns (left - 1) test at body)) goes test true
+        holds)
 
     pub while_stops : (left ≡ 0 → ⊥) → (after : Store) (halt : Halt) →
         body store ≡ left_so after (Err halt) → whole ≡ stops halt after

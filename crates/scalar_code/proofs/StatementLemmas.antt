@@ -90,8 +90,8 @@ of_for None p step P is make = no_some step is
 
 of_choose : (at : ℕ) (o : Option Formula) (p q : Option Code) (all : Code) (P : Code → Type 0) →
     choose_of at o p q ≡ Some all →
-    ((f : Formula) (then_code else_code : Code) → o ≡ Some f → p ≡ Some then_code → q ≡ Some else_code →
-    P (code.Then (code.Choose at f then_code else_code) code.End)) → P all
+    ((f : Formula) (then_code else_code : Code) → o ≡ Some f → p ≡ Some then_code →
+    q ≡ Some else_code → P (code.Then (code.Choose at f then_code else_code) code.End)) → P all
 of_choose at (Some f) (Some then_code) (Some else_code) all P is make =
     subst P (some_is (code.Then (code.Choose at f then_code else_code) code.End) all is)
     (make f then_code else_code refl refl refl)
@@ -249,8 +249,8 @@ mutual
       (λ all has. code_same body law context n all has)
   form_same (If arms otherwise) law context n at step is =
       of_block (arms_code context.place at arms (last_code context.place otherwise)) step
-      (λ step. Does context.place (exec_form context n at (If arms otherwise)) (step_left n step)) is
-      (λ all has store.
+      (λ step. Does context.place (exec_form context n at (If arms otherwise))
+      (step_left n step)) is (λ all has store.
       subst
       (λ b. Same context.place
       (choose b (shattered context.place (line_of context.place at) n (If arms otherwise))
@@ -363,5 +363,5 @@ pub quick_same : Law → (place : Place) (call : Called → Store → Outcome) (
     Leaves place (exec_form (context_at place call) n at form before) after result
 quick_same law place call n at form before after step result has is =
     subst
-    (λ left. Leaves place (exec_form (context_at place call) n at form before) left.store left.result)
-    is (form_same form law (context_at place call) n at step has before)
+    (λ left. Leaves place (exec_form (context_at place call) n at form before) left.store
+    left.result) is (form_same form law (context_at place call) n at step has before)

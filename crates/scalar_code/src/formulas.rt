@@ -29,10 +29,7 @@ pub enum Formula<'a> {
 }
 
 /// Places a formula in an arena.
-fn placed<'t>(
-    arena: &'t Bump<Global>,
-    formula: Formula<'t>,
-) -> Result<&'t Formula<'t>, AllocError>
+fn placed<'t>(arena: &'t Bump<Global>, formula: Formula<'t>) -> Result<&'t Formula<'t>, AllocError>
     ensures { IfOk result (λ placed. placed.now ≡ formula.entry) }
 {
     let placed = arena.try_alloc(formula)?;

@@ -157,10 +157,7 @@ pub fn form_step<'t>(
         Form::While(test, body) => while_step(arena, place, at, test, body),
         Form::Repeat(body, until, test) => repeat_step(arena, place, *until, test, body),
         Form::For(head, body) => for_step(arena, place, at, head, body),
-        Form::Call(_, _)
-        | Form::Border(_, _)
-        | Form::Write(_, _)
-        | Form::Return(_) => Ok(None),
+        Form::Call(_, _) | Form::Border(_, _) | Form::Write(_, _) | Form::Return(_) => Ok(None),
     }
 }
 

@@ -146,5 +146,5 @@ form_step-returns-in_ok-last-in-None t c =
     ap (plain.form_step place stmt.at) is
     ∙ ap (λ last. option_map plain.Block (arms_code place stmt.at arms (Some (code_in last))))
     (sym c.in_ok-last-in-None.ensures) in
-    subst (λ o. IfOk c.choice_step-in-None.result (λ found. o ≡ option_map step_in found)) (sym whole)
-    c.choice_step-in-None.ensures
+    subst (λ o. IfOk c.choice_step-in-None.result (λ found. o ≡ option_map step_in found))
+    (sym whole) c.choice_step-in-None.ensures
