@@ -52,5 +52,6 @@ abbrev pub invariant-choice_step-loop-left : goal.invariant-choice_step-loop-lef
 invariant-choice_step-loop-left l = record {
   within : l.left ≤ length l.arms;
   rest : arms_code (place_of l.place)
-      (offset_or l.left l.at (arms_at (arms_of (drop l.left l.arms)))) (arms_of (drop l.left l.arms)) (Some (code_in l.last)) ≡ Some (code_in l.behind);
+      (offset_or l.left l.at (arms_at (arms_of (drop l.left l.arms)))) (arms_of (drop l.left l.arms))
+      (Some (code_in l.last)) ≡ Some (code_in l.behind);
 }
