@@ -11,9 +11,10 @@ use Rattle.grid_meaning.specs.Local.{Local, processor_numbers, processors, start
 use Rattle.grid_meaning.proofs.GridLemmas.{length-start_locals}
 use Rattle.node_local.specs.Workplace.{IsReady, Workplace}
 use Rattle.grid_sim.specs.declared.processors.Processors.{Processors}
+use Rattle.node_turn.specs.of_node_loop.Walk.{KnowsWalk, Walk}
 use Rattle.node_turn.specs.of_node_stages.Known.{Known as Partners, nothing_known}
 use Rattle.node_turn.specs.of_row_turn.Known.{Knows}
-use Rattle.grid_sim.specs.Processors.{AllKnow, AllReady, HaveMarks, HaveStates, has_ended, state_of}
+use Rattle.grid_sim.specs.Processors.{AllReady, AreAware, HaveMarks, HaveStates, has_ended, state_of}
 use Rattle.grid_sim.proofs.ReadLemmas.{ending_at, has_ended-map}
 
 range-push : (a n : ℕ) → range_with_len a (suc n) ≡ range_with_len a n ++ (a + n) ∷ []
@@ -76,20 +77,30 @@ none_marked zero p = refl
 none_marked (suc count) zero = refl
 none_marked (suc count) (suc p) = none_marked count p
 
--- of none the partners are known
-get_none : (count p : ℕ) (x : Partners) → get_or (replicate count x) p x ≡ x
+-- of none anything is kept
+get_none : {X : Type 0} (count p : ℕ) (x : X) → get_or (replicate count x) p x ≡ x
 get_none zero p x = refl
 get_none (suc count) zero x = refl
 get_none (suc count) (suc p) x = get_none count p x
 
-pub none_many : (code : Tables) (count : ℕ) (partners : List Partners) → partners ≡ replicate count nothing_known → count ≡ processors code
-    → length partners ≡ processors code
-none_many code count partners is many = ap length is ∙ (length-replicate count nothing_known ∙ many)
+none_many : {X : Type 0} (code : Tables) (count : ℕ) (xs : List X) (x : X) → xs ≡ replicate count x → count ≡ processors code
+    → length xs ≡ processors code
+none_many code count xs x is many = ap length is ∙ (length-replicate count x ∙ many)
 
-pub none_known : (code : Tables) (workplaces : List Workplace) (partners : List Partners) (count : ℕ) → partners ≡ replicate count nothing_known
-    → AllKnow code workplaces partners
-none_known code workplaces partners count is = λ p w found.
-    subst (Knows code p w.local) (sym (ap (λ list. get_or list p nothing_known) is ∙ get_none count p nothing_known)) (record { right = tt; routes = record { started = tt; finished = tt } })
+none_there : {X : Type 0} (count p : ℕ) (xs : List X) (x : X) → xs ≡ replicate count x → get_or xs p x ≡ x
+none_there count p xs x is = ap (λ list. get_or list p x) is ∙ get_none count p x
+
+pub none_aware : (code : Tables) (workplaces : List Workplace) (partners : List Partners) (walks : List (Option Walk)) (count : ℕ)
+    → partners ≡ replicate count nothing_known → walks ≡ replicate count None → count ≡ processors code
+    → AreAware code workplaces partners walks
+none_aware code workplaces partners walks count of_partners of_walks many = record {
+  many_partners = none_many code count partners nothing_known of_partners many;
+  known = λ p w found.
+      subst (Knows code p w.local) (sym (none_there count p partners nothing_known of_partners))
+      (record { right = tt; routes = record { started = tt; finished = tt } });
+  many_walks = none_many code count walks None of_walks many;
+  walked = λ p w found. subst (KnowsWalk code p w.local) (sym (none_there count p walks None of_walks)) tt;
+}
 
 pub start_marks : (code : Tables) (team : Processors) (count : ℕ) → HaveStates code team → map state_of team.locals.items ≡ start_locals code
     → count ≡ processors code → team.ended ≡ replicate count false → team.resting ≡ replicate count false → HaveMarks code team

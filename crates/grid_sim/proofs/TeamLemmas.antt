@@ -18,6 +18,7 @@ use Rattle.grid_meaning.specs.Local.{Local, processors, start_locals}
 use Rattle.grid_meaning.specs.Turn.{Turn, processes}
 use Rattle.grid_meaning.proofs.GridLemmas.{length-start_locals}
 use Rattle.node_local.specs.Workplace.{IsReady, Workplace}
+use Rattle.node_turn.specs.of_node_loop.Walk.{KnowsWalk, Walk}
 use Rattle.node_turn.specs.of_node_stages.Known.{Known as Partners, nothing_known}
 use Rattle.node_turn.specs.of_row_turn.Known.{Knows}
 use Rattle.node_turn.specs.Turned.{IsTraffic, is_resting, links_behind, turn_over}
@@ -25,7 +26,7 @@ use Rattle.node_turn.specs.declared.steps.Traffic.{Traffic}
 use Rattle.node_turn.specs.declared.steps.Traffic.TheVariants as traffic
 use Rattle.grid_sim.specs.declared.processors.Processors.{Processors}
 use Rattle.grid_sim.specs.Marks.{TellsWhere}
-use Rattle.grid_sim.specs.Processors.{AllKnow, AreProcessors, AreSame, AreUnsettled, AreWatched, Anywhere, HaveMarks, HaveMoved, HaveStates, IsAmong, IsAwake, has_ended, is_at_rest, looked_as, partner, state_of, turn_of, unmarked, world_of}
+use Rattle.grid_sim.specs.Processors.{AreAware, AreProcessors, AreSame, AreUnsettled, AreWatched, Anywhere, HaveMarks, HaveMoved, HaveStates, IsAmong, IsAwake, has_ended, is_at_rest, looked_as, partner, state_of, turn_of, unmarked, world_of}
 use Rattle.grid_sim.proofs.RestLemmas.{IsOtherThan, next_turn-awake, next_turn-other, slice_get-set_other}
 use Rattle.grid_sim.proofs.TellLemmas.{length-unmarked, mark_set, marks_all, tells_fewer, tells_same, tells_set, unmarked_left}
 
@@ -92,41 +93,76 @@ traffic_taken count (traffic.Sent to words) move q is other = subst (λ s. IfSom
 traffic_taken count (traffic.Took from) move q is other =
     subst (λ s. IfSome s (IsOtherThan count q)) (sym is.2) (is.0, λ same. other (ap Some same))
 
--- ---- what is known of partners
+-- ---- what is kept beside states
 -- that of one, where it stands
-pub known_there : (partners : List Partners) (p : ℕ) (x : Partners) → x ≡ get_or partners p x → p < length partners → get_or partners p nothing_known ≡ x
-known_there partners p x is inside = get_or_from_slice_get partners p x nothing_known (item_there partners p x is inside)
+pub kept_there : {X : Type 0} (xs : List X) (p : ℕ) (x d : X) → x ≡ get_or xs p x → p < length xs → get_or xs p d ≡ x
+kept_there xs p x d is inside = get_or_from_slice_get xs p x d (item_there xs p x is inside)
 
 pub known_at : (code : Tables) (team : Processors) (p : ℕ) (w : Workplace) (x : Partners) → HaveStates code team
     → slice_get team.locals.items p ≡ Some w → x ≡ get_or team.partners.items p x → p < processors code → Knows code p w.local x
 known_at code team p w x states there is here =
-    subst (Knows code p w.local) (known_there team.partners.items p x is (subst (λ n. p < n) (sym states.partners) here))
-    (states.known p w there)
+    subst (Knows code p w.local)
+    (kept_there team.partners.items p x nothing_known is (subst (λ n. p < n) (sym states.aware.many_partners) here))
+    (states.aware.known p w there)
 
--- another state of one, with what is known of that
-pub know_set : (code : Tables) (workplaces : List Workplace) (partners : List Partners) (p : ℕ) (after : Workplace) (x : Partners)
-    → p < length workplaces → p < length partners → AllKnow code workplaces partners → Knows code p after.local x
-    → AllKnow code (set workplaces p after) (set partners p x)
-know_set code workplaces partners p after x inside known_inside all knows = λ q w found. by q w found (q == p) refl
+pub walk_at : (code : Tables) (team : Processors) (p : ℕ) (w : Workplace) (x : Option Walk) → HaveStates code team
+    → slice_get team.locals.items p ≡ Some w → x ≡ get_or team.walks.items p x → p < processors code → KnowsWalk code p w.local x
+walk_at code team p w x states there is here =
+    subst (KnowsWalk code p w.local)
+    (kept_there team.walks.items p x None is (subst (λ n. p < n) (sym states.aware.many_walks) here))
+    (states.aware.walked p w there)
+
+-- another state of one, with what is kept of that
+pub hold_set : {X : Type 0} (Holds : ℕ → Workplace → X → Type 0) (d : X) (workplaces : List Workplace) (xs : List X) (p : ℕ)
+    (after : Workplace) (x : X) → p < length workplaces → p < length xs
+    → ((q : ℕ) (w : Workplace) → slice_get workplaces q ≡ Some w → Holds q w (get_or xs q d)) → Holds p after x
+    → (q : ℕ) (w : Workplace) → slice_get (set workplaces p after) q ≡ Some w → Holds q w (get_or (set xs p x) q d)
+hold_set {X} Holds d workplaces xs p after x inside kept_inside all holds = λ q w found. by q w found (q == p) refl
   where
     by : (q : ℕ) (w : Workplace) → slice_get (set workplaces p after) q ≡ Some w → (same : Bool) → (q == p) ≡ same
-        → Knows code q w.local (get_or (set partners p x) q nothing_known)
+        → Holds q w (get_or (set xs p x) q d)
     by q w found true is =
         let at : q ≡ p = eqb-true q p is in
         let here : slice_get (set workplaces p after) p ≡ Some w = subst (λ r. slice_get (set workplaces p after) r ≡ Some w) at found in
         let both : Some after ≡ Some w = sym (slice_get-set_same workplaces p after inside) ∙ here in
         let same : after ≡ w = cc in
-        subst (λ r. Knows code r w.local (get_or (set partners p x) r nothing_known)) (sym at)
-        (subst (Knows code p w.local) (sym (get_or-set_same partners p x nothing_known known_inside))
-        (subst (λ (v : Workplace). Knows code p v.local x) same knows))
+        subst (λ r. Holds r w (get_or (set xs p x) r d)) (sym at)
+        (subst (λ y. Holds p w y) (sym (get_or-set_same xs p x d kept_inside))
+        (subst (λ (v : Workplace). Holds p v x) same holds))
     by q w found false is =
         let apart : q ≢ p = eqb-false q p is in
-        subst (Knows code q w.local) (sym (get_or-set_other partners p q x nothing_known apart))
+        subst (λ y. Holds q w y) (sym (get_or-set_other xs p q x d apart))
         (all q w (sym (slice_get-set_other workplaces p q after apart) ∙ found))
 
--- the same states
-pub know_same : (code : Tables) (old new : List Workplace) (partners : List Partners) → new ≡ old → AllKnow code old partners → AllKnow code new partners
-know_same code old new partners same all = λ q w found. all q w (sym (ap (λ ws. slice_get ws q) same) ∙ found)
+module _ (code : Tables) (old : Processors) (p : ℕ) (after : Workplace) (states : HaveStates code old) (here : p < processors code) where
+  in_locals : p < length old.locals.items
+  in_locals = subst (λ n. p < n) (sym states.many) here
+
+  in_partners : p < length old.partners.items
+  in_partners = subst (λ n. p < n) (sym states.aware.many_partners) here
+
+  in_walks : p < length old.walks.items
+  in_walks = subst (λ n. p < n) (sym states.aware.many_walks) here
+
+  pub aware_set : (x : Partners) (walk : Option Walk) → Knows code p after.local x → KnowsWalk code p after.local walk
+      → AreAware code (set old.locals.items p after) (set old.partners.items p x) (set old.walks.items p walk)
+  aware_set x walk knows walks = record {
+    many_partners = length-set old.partners.items p x ∙ states.aware.many_partners;
+    known = hold_set (λ q w y. Knows code q w.local y) nothing_known old.locals.items old.partners.items p after x in_locals in_partners
+        states.aware.known knows;
+    many_walks = length-set old.walks.items p walk ∙ states.aware.many_walks;
+    walked = hold_set (λ q w y. KnowsWalk code q w.local y) None old.locals.items old.walks.items p after walk in_locals in_walks
+        states.aware.walked walks;
+  }
+
+  -- what is known of partners is as it was
+  pub aware_walk : (walk : Option Walk) → Knows code p after.local (get_or old.partners.items p nothing_known)
+      → KnowsWalk code p after.local walk
+      → AreAware code (set old.locals.items p after) old.partners.items (set old.walks.items p walk)
+  aware_walk walk knows walks =
+      subst (λ partners. AreAware code (set old.locals.items p after) partners (set old.walks.items p walk))
+      (set-get_or old.partners.items p nothing_known)
+      (aware_set (get_or old.partners.items p nothing_known) walk knows walks)
 
 -- ---- a move was made, and the marks are as they were
 pub record HaveChanged (code : Tables) (old new : Processors) (p : ℕ) (workplace : Workplace) (move : Move Local Message) : Type 0 where
@@ -139,8 +175,7 @@ pub record HaveChanged (code : Tables) (old new : Processors) (p : ℕ) (workpla
   pub ended : new.ended ≡ old.ended
   pub resting : new.resting ≡ old.resting
   pub awake : new.awake ≡ old.awake
-  pub partners : length new.partners.items ≡ processors code
-  pub known : AllKnow code new.locals.items new.partners.items
+  pub aware : AreAware code new.locals.items new.partners.items new.walks.items
 
 module _ (code : Tables) (old new : Processors) (p : ℕ) (workplace : Workplace) (move : Move Local Message)
     (states : HaveStates code old) (changed : HaveChanged code old new p workplace move) where
@@ -180,8 +215,7 @@ module _ (code : Tables) (old new : Processors) (p : ℕ) (workplace : Workplace
     many = ap length changed.locals ∙ (length-set old.locals.items p workplace ∙ states.many);
     ready = λ q other found. ready_by q other (sym (ap (λ ws. slice_get ws q) changed.locals) ∙ found) (q == p) refl;
     links = ap (λ (n : Network). n.count) changed.links ∙ states.links;
-    partners = changed.partners;
-    known = changed.known;
+    aware = changed.aware;
   }
 
   -- ---- the others
@@ -255,12 +289,54 @@ module _ (code : Tables) (old new : Processors) (p : ℕ) (workplace : Workplace
             (awake_still done told are (λ same. apart (changed.awake ∙ same)) are.watched);
       }
 
+  -- p doesn't rest, and has ended just where it had: so the marks are right still
+  ended_still : (w : Workplace) → slice_get old.locals.items p ≡ Some w → workplace.local.ended ≡ w.local.ended
+      → has_ended old.locals.items p ≡ has_ended new.locals.items p
+  ended_still w there same =
+      let at_end : Option Workplace → Bool = λ o. is_some (option_and_then (λ (v : Workplace). v.local.ended) o) in
+      ap at_end there
+      ∙ (ap is_some (sym same)
+      ∙ (ap at_end (sym (slice_get-set_same old.locals.items p workplace inside))
+      ∙ ap (λ ws. has_ended ws p) (sym changed.locals)))
+
+  ended_by : (w : Workplace) → slice_get old.locals.items p ≡ Some w → workplace.local.ended ≡ w.local.ended → (q : ℕ)
+      → (same : Bool) → (q == p) ≡ same → has_ended old.locals.items q ≡ has_ended new.locals.items q
+  ended_by w there same q true is =
+      subst (λ r. has_ended old.locals.items r ≡ has_ended new.locals.items r) (sym (eqb-true q p is)) (ended_still w there same)
+  ended_by w there same q false is = ended_other q (eqb-false q p is)
+
+  awake_by : is_at_rest code new p ≡ false → (new.awake ≢ p → IsAwake code new new.awake) → (same : Bool) → (new.awake == p) ≡ same
+      → IsAwake code new new.awake
+  awake_by awake others true is = record {
+    there = subst (λ q. q < processors code) (sym (eqb-true new.awake p is)) changed.here;
+    awake = subst (λ q. is_at_rest code new q ≡ false) (sym (eqb-true new.awake p is)) awake;
+  }
+  awake_by awake others false is = others (eqb-false new.awake p is)
+
+  pub changed_awake : (w : Workplace) → slice_get old.locals.items p ≡ Some w → workplace.local.ended ≡ w.local.ended
+      → IsTraffic (processors code) traffic.Quiet move → is_at_rest code new p ≡ false → AreProcessors code old → AreProcessors code new
+  changed_awake w there same told awake are =
+      let left = changed_unsettled traffic.Quiet told are in
+      record {
+        marks = record {
+          states = left.states;
+          ended = subst (TellsWhere Anywhere (has_ended new.locals.items) (processors code)) (sym changed.ended)
+              (tells_same Anywhere (has_ended old.locals.items) (has_ended new.locals.items) (processors code) old.ended are.marks.ended
+              (λ q below known. ended_by w there same q (q == p) refl));
+          resting = record {
+            many = left.resting.many;
+            each = λ q below known mark. left.resting.each q below (λ other. cc) mark;
+          };
+        };
+        watched = inr (awake_by awake left.awake (new.awake == p) refl);
+      }
+
 -- ---- looks
 -- one that rests is marked
 pub marked_states : (code : Tables) (team : Processors) (p : ℕ) → HaveMarks code team → is_at_rest code team p ≡ true
     → HaveMarks code (looked_as true team p)
 marked_states code team p marks rests = record {
-  states = record { many = marks.states.many; ready = marks.states.ready; links = marks.states.links; partners = marks.states.partners; known = marks.states.known };
+  states = record { many = marks.states.many; ready = marks.states.ready; links = marks.states.links; aware = marks.states.aware };
   ended = record { many = marks.ended.many; each = marks.ended.each };
   resting = record {
     many = length-set team.resting p true ∙ marks.resting.many;
@@ -290,7 +366,7 @@ pub awake_processors : (code : Tables) (team : Processors) (p : ℕ) → HaveMar
     → AreProcessors code (looked_as false team p)
 awake_processors code team p marks here awake = record {
   marks = record {
-    states = record { many = marks.states.many; ready = marks.states.ready; links = marks.states.links; partners = marks.states.partners; known = marks.states.known };
+    states = record { many = marks.states.many; ready = marks.states.ready; links = marks.states.links; aware = marks.states.aware };
     ended = record { many = marks.ended.many; each = marks.ended.each };
     resting = record { many = marks.resting.many; each = marks.resting.each };
   };
@@ -362,7 +438,7 @@ pub settled_marks : (code : Tables) (team : Processors) (p : ℕ) (done : Traffi
       resting = unmarked done team.resting;
     })
 settled_marks code team p done is here among = record {
-  states = record { many = is.states.many; ready = is.states.ready; links = is.states.links; partners = is.states.partners; known = is.states.known };
+  states = record { many = is.states.many; ready = is.states.ready; links = is.states.links; aware = is.states.aware };
   ended = tells_set (λ q. q ≢ p) Anywhere (has_ended team.locals.items) (processors code) team.ended p is.ended here
       (λ q below known apart. apart);
   resting = record {
@@ -391,16 +467,15 @@ turn_same code old new q same =
     ∙ ap (λ (n : Network). run.next_turn (system_over code n.capacity) (record { locals = map state_of old.locals.items; links = n.links }) q) same.links
 
 pub same_processors : (code : Tables) (old new : Processors) → AreSame old new → new.ended ≡ old.ended → new.resting ≡ old.resting
-    → new.awake ≡ old.awake → length new.partners.items ≡ processors code → AllKnow code new.locals.items new.partners.items
+    → new.awake ≡ old.awake → AreAware code new.locals.items new.partners.items new.walks.items
     → AreProcessors code old → AreProcessors code new
-same_processors code old new same ended resting awake partners known are = record {
+same_processors code old new same ended resting awake aware are = record {
   marks = record {
     states = record {
       many = ap length same.locals ∙ are.marks.states.many;
       ready = λ q w found. are.marks.states.ready q w (sym (ap (λ ws. slice_get ws q) same.locals) ∙ found);
       links = ap (λ (n : Network). n.count) same.links ∙ are.marks.states.links;
-      partners = partners;
-      known = known;
+      aware = aware;
     };
     ended = record {
       many = ap length ended ∙ are.marks.ended.many;

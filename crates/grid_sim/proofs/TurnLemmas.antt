@@ -1,7 +1,7 @@
 -- Turns of processors in memory.
-use Rattle.std.proofs.Common.{◌≡◌, ◌⊎◌, inl, inr, ℕ, zero, suc, ◌<◌, ◌≤◌, Bool, true, false, List, [], ◌++◌, length, map, set, get_or, Option, Some, None, refl, sym, ◌∙◌, ap, subst, append-nil, arith, length-set}
+use Rattle.std.proofs.Common.{◌≡◌, ◌⊎◌, inl, inr, ℕ, zero, suc, ◌<◌, ◌≤◌, Bool, true, false, List, [], ◌++◌, length, map, set, get_or, Option, Some, None, refl, sym, ◌∙◌, ap, subst, append-nil, arith}
 use Rattle.std.specs.Prelude.{Result, Ok, Err, OnErr, is_some, slice_get}
-use Rattle.std.specs.Option.{option_and_then}
+use Rattle.std.specs.Option.{IfSome, option_and_then}
 use Rattle.std.specs.Vec.{with_item}
 use Rattle.std.proofs.lemmas.List.{set-get_or}
 use Rattle.std.proofs.lemmas.Option.{slice_get_cases}
@@ -16,8 +16,11 @@ use Rattle.grid_meaning.specs.Grid.{printed_by, shown_in, system_over}
 use Rattle.grid_meaning.specs.Local.{Local, processors}
 use Rattle.grid_meaning.specs.Turn.{Turn}
 use Rattle.node_local.specs.Workplace.{IsReady, Workplace}
+use Rattle.node_turn.specs.Alone.{IsInLoop, IsQuietMove}
+use Rattle.node_turn.specs.of_node_loop.LocalTurn.{StaysInRow}
+use Rattle.node_turn.specs.of_node_loop.Walk.{KnowsWalk, Walk}
 use Rattle.node_turn.specs.of_node_stages.Known.{Known as Partners, nothing_known}
-use Rattle.node_turn.specs.of_row_turn.Known.{Knows}
+use Rattle.node_turn.specs.of_row_turn.Known.{Knows, partners_at, partners_of}
 use Rattle.node_turn.specs.Turned.{IsAnswered, IsMade, IsPrinting, IsStuckAs, IsTurn, is_resting, kind_told, printing, turn_over}
 use Rattle.node_turn.specs.declared.steps.Step.{Step}
 use Rattle.node_turn.specs.declared.steps.Step.TheVariants as step
@@ -27,13 +30,13 @@ use Rattle.grid_sim.specs.declared.counts.Counts.{Counts}
 use Rattle.grid_sim.specs.declared.processors.Processors.{Processors}
 use Rattle.grid_sim.specs.Counting.{with_traffic}
 use Rattle.grid_sim.specs.Inside.{simulation_in}
-use Rattle.grid_sim.specs.Processors.{AllKnow, AreLeft, AreProcessors, AreSame, HaveMoved, HaveMovedOn, HavePrinted, HaveStates, HaveTurned, PrintsNext, has_ended, is_at_rest, rested, state_of, turn_of, unmarked}
+use Rattle.grid_sim.specs.Processors.{AreAware, AreLeft, AreProcessors, AreSame, HaveMoved, HaveMovedOn, HavePrinted, HaveStates, HaveTurned, PrintsNext, has_ended, is_at_rest, rested, state_of, turn_of, unmarked}
 use Rattle.grid_sim.specs.Simulation.{IsGiven, IsTold, Simulation, printed_next, turn_given}
 use Rattle.grid_sim.specs.Simulation as sim
 use Rattle.grid_sim.specs.Telling.{told_of}
 use Rattle.grid_sim.proofs.GivenLemmas.{moved_is, same_simulation, told_moved}
 use Rattle.grid_sim.proofs.RestLemmas.{rest_turn, turn_at_rest}
-use Rattle.grid_sim.proofs.TeamLemmas.{HaveChanged, changed_moved, changed_unsettled, know_same, know_set, known_at, marked_processors, same_processors, traffic_among, turn_is, turn_same}
+use Rattle.grid_sim.proofs.TeamLemmas.{HaveChanged, aware_set, aware_walk, changed_awake, changed_moved, changed_unsettled, known_at, marked_processors, same_processors, slice_get-set_same, traffic_among, turn_is, turn_same}
 
 -- ---- answers
 pub on_err : {V E : Type 0} {P : Type 0} (answer : Result V E) → P → OnErr answer P
@@ -84,26 +87,28 @@ rests_marked code team p resting are rests is =
     subst (λ marks. AreProcessors code (record team { resting = marks })) (sym is) (marked_processors code team p are rests)
 
 -- ---- moves
--- with another state of a processor, and other links
-abbrev pub with_state : Processors → ℕ → Workplace → Network → Processors
-with_state team p workplace links = record {
+-- with another state of a processor, and with where its loop is
+abbrev pub with_walk : Processors → ℕ → Workplace → Option Walk → Processors
+with_walk team p workplace walk = record {
   locals = with_item team.locals p workplace;
-  links = links;
+  links = team.links;
   ended = team.ended;
   resting = team.resting;
   awake = team.awake;
   partners = team.partners;
+  walks = with_item team.walks p walk;
 }
 
--- and with what is known of its partners
-abbrev pub with_known : Processors → ℕ → Workplace → Network → Partners → Processors
-with_known team p workplace links known = record {
+-- and with other links, and what is known of its partners
+abbrev pub with_known : Processors → ℕ → Workplace → Network → Partners → Option Walk → Processors
+with_known team p workplace links known walk = record {
   locals = with_item team.locals p workplace;
   links = links;
   ended = team.ended;
   resting = team.resting;
   awake = team.awake;
   partners = with_item team.partners p known;
+  walks = with_item team.walks p walk;
 }
 
 pub same_item : {X : Type 0} (xs : List X) (i : ℕ) (x y : X) → x ≡ get_or xs i x → y ≡ x → set xs i y ≡ xs
@@ -112,7 +117,7 @@ same_item xs i x y is same = ap (set xs i) (same ∙ is) ∙ set-get_or xs i x
 module _ (code : Tables) (old new : Processors) (p : ℕ) (w after : Workplace) (states : HaveStates code old) (here : p < processors code)
     (there : slice_get old.locals.items p ≡ Some w) (locals : new.locals.items ≡ set old.locals.items p after)
     (ended : new.ended ≡ old.ended) (resting : new.resting ≡ old.resting) (awake : new.awake ≡ old.awake)
-    (partners : length new.partners.items ≡ processors code) (known : AllKnow code new.locals.items new.partners.items) where
+    (aware : AreAware code new.locals.items new.partners.items new.walks.items) where
   pub made_changed : (done : Traffic) (m : IsMade code p (turn_over code p w.local old.links) done w after old.links new.links)
       → HaveChanged code old new p after m.move
   made_changed done m = record {
@@ -125,8 +130,7 @@ module _ (code : Tables) (old new : Processors) (p : ℕ) (w after : Workplace) 
     ended = ended;
     resting = resting;
     awake = awake;
-    partners = partners;
-    known = known;
+    aware = aware;
   }
 
   pub made_moved : (done : Traffic) → IsMade code p (turn_over code p w.local old.links) done w after old.links new.links
@@ -151,8 +155,7 @@ module _ (code : Tables) (old new : Processors) (p : ℕ) (w after : Workplace) 
     ended = ended;
     resting = resting;
     awake = awake;
-    partners = partners;
-    known = known;
+    aware = aware;
   }
 
   -- no move was made
@@ -190,7 +193,7 @@ module _ (code : Tables) (old new : Processors) (p : ℕ) (w after : Workplace) 
 
   -- what is left behind it
   same_left : AreSame old new → AreProcessors code old → AreProcessors code new
-  same_left same are = same_processors code old new same ended resting awake partners known are
+  same_left same are = same_processors code old new same ended resting awake aware are
 
   rests_left : (answer : Turn) → is_resting answer ≡ true → w ≡ get_or old.locals.items p w
       → IsAnswered (turn_over code p w.local old.links) answer w after old.links new.links
@@ -219,16 +222,16 @@ module _ (code : Tables) (old new : Processors) (p : ℕ) (w after : Workplace) 
   turn_left step.Over item h are = rests_left Over refl item h are
   turn_left (step.Stuck kind) item h are = stuck_left (kind_told kind) item h are
 
-pub kept_same : (old : Processors) (p : ℕ) (w after : Workplace) (links : Network) → w ≡ get_or old.locals.items p w → after ≡ w → links ≡ old.links
-    → AreSame old (with_state old p after links)
-kept_same old p w after links item same kept = record {
+pub kept_walk : (old : Processors) (p : ℕ) (w after : Workplace) (walk : Option Walk) → w ≡ get_or old.locals.items p w → after ≡ w
+    → AreSame old (with_walk old p after walk)
+kept_walk old p w after walk item same = record {
   locals = same_item old.locals.items p w after item same;
-  links = kept;
+  links = refl;
 }
 
-pub kept_known : (old : Processors) (p : ℕ) (w after : Workplace) (links : Network) (x : Partners) → w ≡ get_or old.locals.items p w → after ≡ w
-    → links ≡ old.links → AreSame old (with_known old p after links x)
-kept_known old p w after links x item same kept = record {
+pub kept_known : (old : Processors) (p : ℕ) (w after : Workplace) (links : Network) (x : Partners) (walk : Option Walk)
+    → w ≡ get_or old.locals.items p w → after ≡ w → links ≡ old.links → AreSame old (with_known old p after links x walk)
+kept_known old p w after links x walk item same kept = record {
   locals = same_item old.locals.items p w after item same;
   links = kept;
 }
@@ -260,44 +263,93 @@ turned_marks code old mid new p step.Waiting locals links h = (h.0, same_on old 
 turned_marks code old mid new p step.Over locals links h = (h.0, same_on old mid new h.1 locals links)
 turned_marks code old mid new p (step.Stuck kind) locals links h = (h.0, same_on old mid new h.1 locals links)
 
--- ---- what is known of partners behind a turn
-pub partners_many : (code : Tables) (old : Processors) (p : ℕ) (x : Partners) → HaveStates code old
-    → length (set old.partners.items p x) ≡ processors code
-partners_many code old p x states = length-set old.partners.items p x ∙ states.partners
+-- ---- what is kept beside states behind a turn
+pub no_walk : (code : Tables) (p : ℕ) (local : Local) (walk : Option Walk) → walk ≡ None → KnowsWalk code p local walk
+no_walk code p local walk none = subst (KnowsWalk code p local) (sym none) tt
 
-pub partners_known : (code : Tables) (old : Processors) (p : ℕ) (after : Workplace) (x : Partners) → HaveStates code old → p < processors code
-    → Knows code p after.local x → AllKnow code (set old.locals.items p after) (set old.partners.items p x)
-partners_known code old p after x states here knows =
-    know_set code old.locals.items old.partners.items p after x (subst (λ n. p < n) (sym states.many) here)
-    (subst (λ n. p < n) (sym states.partners) here) states.known knows
-
--- and where the state is as it was
-pub known_kept : (code : Tables) (old : Processors) (p : ℕ) (w after : Workplace) → w ≡ get_or old.locals.items p w → after ≡ w → HaveStates code old
-    → AllKnow code (set old.locals.items p after) old.partners.items
-known_kept code old p w after item same states =
-    know_same code old.locals.items (set old.locals.items p after) old.partners.items (same_item old.locals.items p w after item same) states.known
+pub aware_turned : (code : Tables) (old : Processors) (p : ℕ) (after : Workplace) (x : Partners) (walk : Option Walk)
+    → HaveStates code old → p < processors code → Knows code p after.local x → walk ≡ None
+    → AreAware code (set old.locals.items p after) (set old.partners.items p x) (set old.walks.items p walk)
+aware_turned code old p after x walk states here knows none =
+    aware_set code old p after states here x walk knows (no_walk code p after.local walk none)
 
 -- those in the row are known no more
-pub forgotten : (code : Tables) (old : Processors) (p : ℕ) (w after : Workplace) (before x : Partners) → HaveStates code old → p < processors code
-    → slice_get old.locals.items p ≡ Some w → before ≡ get_or old.partners.items p before
-    → ((q : ℕ) (one two : Local) → Knows code q one before → Knows code q two x)
-    → AllKnow code (set old.locals.items p after) (set old.partners.items p x)
-forgotten code old p w after before x states here there is forget =
-    partners_known code old p after x states here (forget p w.local after.local (known_at code old p w before states there is here))
+pub forgotten : (code : Tables) (old : Processors) (p : ℕ) (w after : Workplace) (before x : Partners) (walk : Option Walk)
+    → HaveStates code old → p < processors code → slice_get old.locals.items p ≡ Some w → before ≡ get_or old.partners.items p before
+    → ((q : ℕ) (one two : Local) → Knows code q one before → Knows code q two x) → KnowsWalk code p after.local walk
+    → AreAware code (set old.locals.items p after) (set old.partners.items p x) (set old.walks.items p walk)
+forgotten code old p w after before x walk states here there is forget walks =
+    aware_set code old p after states here x walk
+    (forget p w.local after.local (known_at code old p w before states there is here)) walks
+
+-- the state is as it was
+pub aware_same : (code : Tables) (old : Processors) (p : ℕ) (w after : Workplace) (walk : Option Walk) → HaveStates code old
+    → p < processors code → slice_get old.locals.items p ≡ Some w → after ≡ w → KnowsWalk code p after.local walk
+    → AreAware code (set old.locals.items p after) old.partners.items (set old.walks.items p walk)
+aware_same code old p w after walk states here there same walks =
+    aware_walk code old p after states here walk
+    (subst (λ (v : Workplace). Knows code p v.local (get_or old.partners.items p nothing_known)) (sym same)
+    (states.aware.known p w there)) walks
+
+-- in a loop, it is at the same row with the same regions in its slots
+partners_still : (code : Tables) (p : ℕ) (before after : Local) → StaysInRow before after → partners_of code p after ≡ partners_of code p before
+partners_still code p before after stays =
+    ap (λ n. option_and_then (partners_at code p after.slots) (slice_get code.code n)) stays.at
+    ∙ ap (λ slots. option_and_then (partners_at code p slots) (slice_get code.code before.at)) stays.slots
+
+knows_still : (code : Tables) (p : ℕ) (before after : Local) (known : Partners) → StaysInRow before after → Knows code p before known
+    → Knows code p after known
+knows_still code p before after known stays knows = record {
+  right = subst (λ o. IfSome known.here (λ list. o ≡ Some list)) (sym (partners_still code p before after stays)) knows.right;
+  routes = knows.routes;
+}
+
+pub aware_still : (code : Tables) (old : Processors) (p : ℕ) (w after : Workplace) (walk : Option Walk) → HaveStates code old
+    → p < processors code → slice_get old.locals.items p ≡ Some w → StaysInRow w.local after.local → KnowsWalk code p after.local walk
+    → AreAware code (set old.locals.items p after) old.partners.items (set old.walks.items p walk)
+aware_still code old p w after walk states here there stays walks =
+    aware_walk code old p after states here walk
+    (knows_still code p w.local after.local (get_or old.partners.items p nothing_known) stays (states.aware.known p w there)) walks
+
+-- ---- a move in a loop
+module _ (code : Tables) (old : Processors) (p : ℕ) (w after : Workplace) (walk : Option Walk) (states : HaveStates code old)
+    (here : p < processors code) (there : slice_get old.locals.items p ≡ Some w) (made : IsQuietMove code p w after)
+    (loops : IsInLoop code p w after) (walks : KnowsWalk code p after.local walk) where
+  abbrev new : Processors
+  new = with_walk old p after walk
+
+  aware_new : AreAware code (set old.locals.items p after) old.partners.items (set old.walks.items p walk)
+  aware_new = aware_still code old p w after walk states here there loops.row walks
+
+  pub loop_moved : HaveMovedOn code old (with_walk old p after walk) p traffic.Quiet
+  loop_moved = made_moved code old new p w after states here there refl refl refl refl aware_new traffic.Quiet (made old.links)
+
+  stands : slice_get (set old.locals.items p after) p ≡ Some after
+  stands = slice_get-set_same old.locals.items p after (subst (λ n. p < n) (sym states.many) here)
+
+  awake_still : is_at_rest code new p ≡ false
+  awake_still = ap is_resting (turn_is code new p after stands states.links) ∙ loops.awake old.links
+
+  pub loop_left : AreProcessors code old → AreProcessors code (with_walk old p after walk)
+  loop_left are =
+      let m = made old.links in
+      changed_awake code old new p after m.move states
+      (made_changed code old new p w after states here there refl refl refl refl aware_new traffic.Quiet m)
+      w there loops.row.ended m.told awake_still are
 
 -- ---- prints
 -- the move that prints, made of the state that stands at its place
-pub print_changed : (code : Tables) (old : Processors) (p : ℕ) (w after : Workplace) (bytes : List ℕ) (before x : Partners) → HaveStates code old
-    → p < processors code → before ≡ get_or old.partners.items p before
-    → ((q : ℕ) (one two : Local) → Knows code q one before → Knows code q two x)
+pub print_changed : (code : Tables) (old : Processors) (p : ℕ) (w after : Workplace) (bytes : List ℕ) (before x : Partners) (walk : Option Walk)
+    → HaveStates code old → p < processors code → before ≡ get_or old.partners.items p before
+    → ((q : ℕ) (one two : Local) → Knows code q one before → Knows code q two x) → walk ≡ None
     → slice_get old.locals.items p ≡ Some w → PrintsNext code old p bytes → after ≡ record w { local = goes_on w.local } → IsReady code p after
-    → HaveChanged code old (with_known old p after old.links x) p after (record { next = goes_on w.local; sent = None; taken = None; shown = bytes })
-print_changed code old p w after bytes before x states here is forget there next made ready =
+    → HaveChanged code old (with_known old p after old.links x walk) p after (record { next = goes_on w.local; sent = None; taken = None; shown = bytes })
+print_changed code old p w after bytes before x walk states here is forget none there next made ready =
     let both : Some next.workplace ≡ Some w = sym next.there ∙ there in
     let same : next.workplace ≡ w = cc in
     let turn : turn_of code old p ≡ printing w.local bytes = next.turn ∙ ap (λ (v : Workplace). printing v.local bytes) same in
-    printed_changed code old (with_known old p after old.links x) p w after states here there refl refl refl refl
-    (partners_many code old p x states) (forgotten code old p w after before x states here there is forget) bytes turn made ready refl
+    printed_changed code old (with_known old p after old.links x walk) p w after states here there refl refl refl refl
+    (forgotten code old p w after before x walk states here there is forget (no_walk code p after.local walk none)) bytes turn made ready refl
 
 pub print_next : (code : Tables) (old : Processors) (p : ℕ) (w : Workplace) (bytes : List ℕ) → slice_get old.locals.items p ≡ Some w
     → PrintsNext code old p bytes → IsPrinting code p bytes w.local
@@ -306,15 +358,16 @@ print_next code old p w bytes there next =
     let same : next.workplace ≡ w = cc in
     subst (λ (v : Workplace). IsPrinting code p bytes v.local) same next.prints
 
-pub print_moved : (code : Tables) (old new : Processors) (p : ℕ) (w after : Workplace) (bytes : List ℕ) (before x : Partners) → HaveStates code old → p < processors code
-    → before ≡ get_or old.partners.items p before → ((q : ℕ) (one two : Local) → Knows code q one before → Knows code q two x)
+pub print_moved : (code : Tables) (old new : Processors) (p : ℕ) (w after : Workplace) (bytes : List ℕ) (before x : Partners) (walk : Option Walk)
+    → HaveStates code old → p < processors code
+    → before ≡ get_or old.partners.items p before → ((q : ℕ) (one two : Local) → Knows code q one before → Knows code q two x) → walk ≡ None
     → slice_get old.locals.items p ≡ Some w → PrintsNext code old p bytes → after ≡ record w { local = goes_on w.local } → IsReady code p after
     → new.locals ≡ with_item old.locals p after → new.links ≡ old.links → HavePrinted code old new p bytes
-print_moved code old new p w after bytes before x states here is forget there next made ready locals links =
-    let mid = with_known old p after old.links x in
+print_moved code old new p w after bytes before x walk states here is forget none there next made ready locals links =
+    let mid = with_known old p after old.links x walk in
     let move : Move Local Message = record { next = goes_on w.local; sent = None; taken = None; shown = bytes } in
     let moved : HaveMoved code old mid p move =
-    changed_moved code old mid p after move states (print_changed code old p w after bytes before x states here is forget there next made ready) in
+    changed_moved code old mid p after move states (print_changed code old p w after bytes before x walk states here is forget none there next made ready) in
     record {
       move = move;
       moved = record {

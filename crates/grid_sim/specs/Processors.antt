@@ -5,6 +5,8 @@
 --   turn_of        the next turn of a processor
 --   has_ended, is_at_rest   what the marks tell
 --   AllKnow        what is known of each one's partners in an exchange is right
+--   AllWalk        and what is known of where each one's loop is
+--   AreAware       both are known of each one
 --   HaveStates     the states are those of the code's processors, and may be, and that is so
 --   HaveMarks      and the marks are right
 --   AreProcessors  and it is known of one that it doesn't rest, if not all are marked
@@ -24,6 +26,7 @@ use Rattle.grid_meaning.specs.Turn.{Turn}
 use Rattle.node_local.specs.Workplace.{IsReady, Workplace}
 use Rattle.node_turn.specs.Turned.{IsTraffic, is_resting, printing, IsPrinting}
 use Rattle.node_turn.specs.of_node_stages.Known.{Known as Partners, nothing_known}
+use Rattle.node_turn.specs.of_node_loop.Walk.{KnowsWalk, Walk}
 use Rattle.node_turn.specs.of_row_turn.Known.{Knows}
 use Rattle.node_turn.specs.declared.steps.Step.{Step}
 use Rattle.node_turn.specs.declared.steps.Step.TheVariants as step
@@ -62,12 +65,23 @@ AllKnow code workplaces partners =
     (p : ℕ) (workplace : Workplace) → slice_get workplaces p ≡ Some workplace
     → Knows code p workplace.local (slice_index_or partners p nothing_known)
 
+abbrev pub AllWalk : Tables → List Workplace → List (Option Walk) → Type 0
+AllWalk code workplaces walks =
+    (p : ℕ) (workplace : Workplace) → slice_get workplaces p ≡ Some workplace
+    → KnowsWalk code p workplace.local (slice_index_or walks p None)
+
+pub record AreAware (code : Tables) (workplaces : List Workplace) (partners : List Partners)
+    (walks : List (Option Walk)) : Type 0 where
+  pub many_partners : length partners ≡ processors code
+  pub known : AllKnow code workplaces partners
+  pub many_walks : length walks ≡ processors code
+  pub walked : AllWalk code workplaces walks
+
 pub record HaveStates (code : Tables) (team : Processors) : Type 0 where
   pub many : length team.locals.items ≡ processors code
   pub ready : AllReady code team.locals.items
   pub links : team.links.count ≡ processors code
-  pub partners : length team.partners.items ≡ processors code
-  pub known : AllKnow code team.locals.items team.partners.items
+  pub aware : AreAware code team.locals.items team.partners.items team.walks.items
 
 abbrev pub Anywhere : ℕ → Type 0
 Anywhere p = ⊤

@@ -1,7 +1,7 @@
 //! States of processors that are told one after another.
 ghost use Rattle.std.specs.Prelude.{◌≡◌, ◌++◌, [], ◌∷◌, OnErr, OnOk};
 
-use node_turn::{Local, Partners};
+use node_turn::{Local, Partners, Walk};
 use std::alloc::{AllocError, Global};
 use std::marker::Model;
 
@@ -13,6 +13,7 @@ pub struct Locals {
     pub(crate) ended: Vec<bool>,
     pub(crate) resting: Vec<bool>,
     pub(crate) partners: Vec<Partners>,
+    pub(crate) walks: Vec<Walk>,
 }
 
 impl Model for Locals {
@@ -25,7 +26,7 @@ impl Model for Locals {
     ghost view = { λ inside. inside.locals.items };
 
     ghost invariant = { λ inside. AreNoted inside.locals.items inside.ended.items
-        inside.resting.items inside.partners.items };
+        inside.resting.items inside.partners.items inside.walks.items };
 }
 
 impl Locals {
@@ -38,6 +39,7 @@ impl Locals {
             ended: Vec::new(alloc),
             resting: Vec::new(alloc),
             partners: Vec::new(alloc),
+            walks: Vec::new(alloc),
         }
     }
 
@@ -50,9 +52,11 @@ impl Locals {
         self.ended.reserve(1)?;
         self.resting.reserve(1)?;
         self.partners.reserve(1)?;
+        self.walks.reserve(1)?;
         self.ended.push_reserved(local.ending().is_some());
         self.resting.push_reserved(false);
         self.partners.push_reserved(Partners::unknown());
+        self.walks.push_reserved(Walk::unknown());
         self.locals.push_reserved(local);
         Ok(())
     }

@@ -18,7 +18,8 @@ use crate::marks::Marks;
 use grid_layout::Layout;
 use grid_links::Links;
 use node_form::NodeProgram;
-use node_turn::{Local, Partners, Step, Traffic, leave_partners, moves_alone, printed, turn_of};
+use node_turn::{Alone, Local, Partners, Step, Traffic, Walk};
+use node_turn::{leave_partners, moves_alone, printed, turn_of};
 use std::alloc::{AllocError, Global};
 
 /// The processors of a program between their turns.
@@ -29,7 +30,8 @@ use std::alloc::{AllocError, Global};
 /// all are marked, and another one is sought only when it has moved.
 ///
 /// Of a processor that is in an exchange it is known with whom it exchanges words there, once it
-/// has had a turn in it, and the routes that were found last.
+/// has had a turn in it, and the routes that were found last; of one that is in a loop, where it is
+/// among the tuples of the region.
 #[derive(Drop)]
 pub(crate) struct Processors {
     pub(crate) locals: Vec<Local>,
@@ -38,6 +40,7 @@ pub(crate) struct Processors {
     pub(crate) resting: Marks,
     pub(crate) awake: u32,
     pub(crate) partners: Vec<Partners>,
+    pub(crate) walks: Vec<Walk>,
 }
 
 impl Processors {
@@ -71,6 +74,7 @@ impl Processors {
         if self.resting.has(p) {
             return Ok(self.rested(p));
         }
+        self.walks[p as usize].forget();
         let local = &mut self.locals[p as usize];
         let known = &mut self.partners[p as usize];
         let step = turn_of(alloc, code, layout, p, local, &mut self.links, known)?;
@@ -92,12 +96,18 @@ impl Processors {
         if self.resting.has(p) {
             return false;
         }
-        if !moves_alone(code, layout, p, &mut self.locals[p as usize]) {
-            return false;
+        let local = &mut self.locals[p as usize];
+        let walk = &mut self.walks[p as usize];
+        match moves_alone(code, layout, p, local, walk) {
+            Alone::Other => false,
+            // the marks are right still
+            Alone::InLoop => true,
+            Alone::Moved => {
+                leave_partners(&mut self.partners[p as usize]);
+                self.settle(code, layout, p, Traffic::Quiet);
+                true
+            }
         }
-        leave_partners(&mut self.partners[p as usize]);
-        self.settle(code, layout, p, Traffic::Quiet);
-        true
     }
 
     /// Makes the turn of processor p that prints.
@@ -112,6 +122,7 @@ impl Processors {
     {
         printed(code, layout, p, &mut self.locals[p as usize]);
         leave_partners(&mut self.partners[p as usize]);
+        self.walks[p as usize].forget();
         self.settle(code, layout, p, Traffic::Quiet);
     }
 }

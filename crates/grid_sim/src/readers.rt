@@ -33,6 +33,7 @@ impl Sim {
 
     /// Whether it is neither over nor idle, if that shows at a glance: a processor isn't marked as
     /// resting.
+    #[inline(always)]
     pub(crate) fn is_going(&self) -> bool
         ensures { IsTrue result → IsStopped self.now.code self.now.capacity self.now.grid → ⊥ }
     {

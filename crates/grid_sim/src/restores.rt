@@ -32,6 +32,7 @@ impl Processors {
             ended,
             resting,
             partners,
+            walks,
         } = locals;
         let mut team = Processors {
             locals,
@@ -40,6 +41,7 @@ impl Processors {
             resting: Marks::of(resting),
             awake: 0,
             partners,
+            walks,
         };
         team.seek(code, layout);
         team

@@ -75,13 +75,23 @@ pub fn next_turn(order: &mut Order, rounds: &mut Rounds) -> Option<u32>
 }
 
 impl Sim {
-    /// How a run ends here, if it does: the grid is over, or idle.
+    /// How a run ends here, if it does: the grid is over, or idle. While a processor isn't marked
+    /// as resting, that is one comparison.
+    #[inline(always)]
     pub fn stop(&self) -> Option<Result<End, SimFault>>
         ensures { IsStop self.now.code self.now.capacity self.now.grid result }
     {
         if self.is_going() {
             return None;
         }
+        self.stop_at_rest()
+    }
+
+    /// The same, where it doesn't show at a glance.
+    #[inline(never)]
+    fn stop_at_rest(&self) -> Option<Result<End, SimFault>>
+        ensures { IsStop self.now.code self.now.capacity self.now.grid result }
+    {
         if let Some(ending) = self.ending() {
             return Some(Ok(ending));
         }

@@ -1,5 +1,5 @@
 //! Processors before their first turn.
-ghost use Rattle.std.specs.Prelude.{◌≡◌, IfOk, map, replicate};
+ghost use Rattle.std.specs.Prelude.{◌≡◌, IfOk, None, map, replicate};
 ghost use Rattle.grid_links.specs.Network.{empty_network};
 ghost use Rattle.grid_links.specs.Run.{start_world};
 ghost use Rattle.grid_meaning.specs.Grid.{system_over};
@@ -13,7 +13,7 @@ use crate::processors::Processors;
 use grid_layout::Layout;
 use grid_links::Links;
 use node_form::NodeProgram;
-use node_turn::{Local, Partners};
+use node_turn::{Local, Partners, Walk};
 use std::alloc::{AllocError, Global};
 
 /// The states of all processors before their first turn.
@@ -46,6 +46,17 @@ fn none_known(alloc: Global, count: u32) -> Result<Vec<Partners>, AllocError>
     Ok(partners)
 }
 
+/// Of none of so many processors it is known where its loop is.
+fn none_walked(alloc: Global, count: u32) -> Result<Vec<Walk>, AllocError>
+    ensures { IfOk result (λ walks. walks.items ≡ replicate count None) }
+{
+    let mut walks = Vec::new(alloc);
+    for _p in 0..count {
+        walks.push(Walk::unknown())?;
+    }
+    Ok(walks)
+}
+
 impl Processors {
     /// All processors before their first turn, over links with no message on them.
     pub(crate) fn start(
@@ -66,6 +77,7 @@ impl Processors {
         let ended = Marks::none(alloc, count)?;
         let resting = Marks::none(alloc, count)?;
         let partners = none_known(alloc, count)?;
+        let walks = none_walked(alloc, count)?;
         let mut team = Processors {
             locals,
             links,
@@ -73,6 +85,7 @@ impl Processors {
             resting,
             awake: 0,
             partners,
+            walks,
         };
         team.seek(code, layout);
         Ok(team)

@@ -4,3 +4,4 @@ mod RanLemmas
 mod RoomLemmas
 mod StepLemmas
 mod TurnLemmas
+mod WalkLemmas

@@ -12,13 +12,13 @@ use zpl_region::{Dim, Region, Vec3};
 
 /// Numbers that follow one another.
 #[derive(Clone, Copy)]
-struct Line {
-    first: i64,
-    count: u64,
+pub(crate) struct Line {
+    pub(crate) first: i64,
+    pub(crate) count: u64,
 }
 
 /// The coordinates of a dimension, where they follow one another.
-fn numbers_of(dim: Dim) -> Option<Line>
+pub(crate) fn numbers_of(dim: Dim) -> Option<Line>
     requires { IsDim dim }
     ensures short { IfSome result IsShort }
     ensures numbers { IfSome result (λ line. terms (progression_of line) ≡ coordinates dim) }
@@ -39,7 +39,7 @@ fn numbers_of(dim: Dim) -> Option<Line>
 
 /// How often a number goes into another, and what is left; there is no division by 1, nor of a
 /// lesser number.
-fn digits(i: u64, n: u64) -> (u64, u64)
+pub(crate) fn digits(i: u64, n: u64) -> (u64, u64)
     requires { 1 ≤ n }
     ensures often { result.0 ≡ i / n }
     ensures left { result.1 ≡ i % n }

@@ -3,7 +3,7 @@ ghost use Rattle.std.specs.Prelude.{◌≡◌, ◌<◌, ◌≤◌, ◌+◌, ◌^
 ghost use Rattle.node_form.specs.Group.{ran_from};
 ghost use Rattle.grid_meaning.specs.Loop.{access_at, after_members, flagged, point_of};
 ghost use Rattle.node_local.specs.Workplace.{HasRoom};
-ghost use Rattle.node_loop.specs.LocalTurn.{StaysWhereStuck, turned};
+ghost use Rattle.node_loop.specs.LocalTurn.{IsIndexAfter, StaysWhereStuck, told_at, turned};
 ghost use Rattle.node_loop.specs.Step.{Changes, ran_of};
 
 use crate::brackets::{innermost, outermost};
@@ -26,10 +26,23 @@ enum Ran {
     Unheld,
 }
 
+/// What a turn at an index comes to.
+#[derive(Clone, Copy)]
+pub(crate) enum IndexTurn {
+    /// A move, and the next index is next.
+    Done,
+    /// A move, and the next turn is at this index again.
+    Again,
+    /// A place isn't held.
+    Unheld,
+}
+
 /// What a turn of a loop comes to.
 #[derive(Clone, Copy, Debug)]
 pub enum LocalTurn {
-    /// The processor makes a move.
+    /// The processor makes a move, and is in the loop still.
+    Stays,
+    /// It makes a move, and goes on to the next row.
     Moves,
     /// It is stuck at a place that it doesn't hold.
     Unheld,
@@ -79,35 +92,36 @@ pub(crate) fn turn_at(
     code: &Tables,
     index: &Vec3,
     members: &[Member],
-) -> LocalTurn
+) -> IndexTurn
     requires room { HasRoom code.now local.old }
     requires log { length members.now ≤ local.old.room }
     requires quiet { local.old.log ≡ [] }
     requires next { local.old.local.index + 1 < 2 ^ 64 }
     ensures turn { after_members local.old.local (ran_from code.now (access_at index.now)
         members.now local.old.local.member (point_of local.old.local))
-        ≡ turned result local.new.local }
+        ≡ turned (told_at result) local.new.local }
     ensures same { local.new ≡ record local.old { local = local.new.local } }
-    ensures stuck { StaysWhereStuck result local.old local.new }
+    ensures stuck { StaysWhereStuck (told_at result) local.old local.new }
+    ensures index { IsIndexAfter result local.old.local local.new.local }
 {
     let first = local.member() as usize;
     match run_members(local, code, index, members, first) {
         Ran::Through => {
             local.next_index();
-            LocalTurn::Moves
+            IndexTurn::Done
         }
         Ran::Again(member) => {
             local.begin_with(member);
-            LocalTurn::Moves
+            IndexTurn::Again
         }
         Ran::Divided(member) => {
             local.next_index();
             local.set_flag(flagged(local.flag(), member));
-            LocalTurn::Moves
+            IndexTurn::Done
         }
         Ran::Unheld => {
             local.take_back();
-            LocalTurn::Unheld
+            IndexTurn::Unheld
         }
     }
 }

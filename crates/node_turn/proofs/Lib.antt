@@ -1,4 +1,5 @@
 mod ActLemmas
+mod AloneLemmas
 mod OwnLemmas
 mod QuietLemmas
 mod TurnLemmas

@@ -11,8 +11,9 @@ mod steps;
 mod together;
 mod turns;
 
-pub use moves::moves_alone;
+pub use moves::{Alone, moves_alone};
 pub use node_local::{Kept, KeptWords, Local, Slots, Standing, Store, Stores};
+pub use node_loop::Walk;
 pub use node_loop::node_stages::Partners;
 pub use prints::printed;
 pub use resting::rests;

@@ -10,7 +10,7 @@ ghost use Rattle.row_turn.specs.Together.{IsAlone};
 use grid_layout::Layout;
 use node_form::{Instr, NodeProgram};
 use node_local::Local;
-use node_loop::{LocalTurn, clear, loop_turn, room};
+use node_loop::{LocalTurn, Walk, clear, loop_turn, room};
 use row_turn::OwnTurn;
 use row_turn::node_control::{run_control, run_print};
 use std::alloc::{AllocError, Global};
@@ -30,8 +30,9 @@ fn own_loop(
         local.new result }
 {
     let _rows = code.tables().code.len();
-    match loop_turn(local, code, layout, p, slot, group) {
-        LocalTurn::Moves => OwnTurn::Moves,
+    let mut walk = Walk::unknown();
+    match loop_turn(local, &mut walk, code, layout, p, slot, group) {
+        LocalTurn::Stays | LocalTurn::Moves => OwnTurn::Moves,
         LocalTurn::Unheld | LocalTurn::Undefined => OwnTurn::Unheld,
     }
 }
@@ -56,7 +57,7 @@ fn own_room(
     let _rows = code.tables().code.len();
     let turn = room(alloc, local, code, layout, p, array, slot)?;
     match turn {
-        LocalTurn::Moves => Ok(OwnTurn::Moves),
+        LocalTurn::Stays | LocalTurn::Moves => Ok(OwnTurn::Moves),
         LocalTurn::Unheld => Ok(OwnTurn::Unheld),
         LocalTurn::Undefined => Ok(OwnTurn::Unheld),
     }
@@ -70,7 +71,7 @@ fn own_clear(code: &NodeProgram, p: u32, local: &mut Local, array: u32) -> OwnTu
 {
     let _rows = code.tables().code.len();
     match clear(local, array) {
-        LocalTurn::Moves => OwnTurn::Moves,
+        LocalTurn::Stays | LocalTurn::Moves => OwnTurn::Moves,
         LocalTurn::Unheld => OwnTurn::Unheld,
         LocalTurn::Undefined => OwnTurn::Unheld,
     }

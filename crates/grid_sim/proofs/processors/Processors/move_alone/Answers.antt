@@ -1,9 +1,11 @@
 use Rattle.std.proofs.Common.{◌≡◌, ◌<◌, ap, sym, subst, length, refl}
+use Rattle.node_turn.specs.Alone.{IsInLoop, IsQuietMove, MovesAlone}
+use Rattle.node_turn.specs.declared.moves.Alone.TheVariants.{Other, Moved, InLoop}
 use Rattle.node_turn.specs.declared.steps.Step.TheVariants as step
 use Rattle.node_turn.specs.declared.steps.Traffic.TheVariants.{Quiet}
 use Rattle.grid_sim.specs.declared.processors.Processors.{Processors as Team}
-use Rattle.grid_sim.proofs.TeamLemmas.{item_there, same_processors}
-use Rattle.grid_sim.proofs.TurnLemmas.{forgotten, kept_same, known_kept, partners_many, turn_left, turned_marks, turned_on, with_known, with_state}
+use Rattle.grid_sim.proofs.TeamLemmas.{item_there, same_processors, walk_at}
+use Rattle.grid_sim.proofs.TurnLemmas.{aware_same, forgotten, kept_walk, loop_left, loop_moved, turn_left, turned_marks, turned_on, with_known, with_walk}
 use Rattle.grid_sim.proofs.processors.Processors.move_alone.Goals as goal
 
 pub has-requires : goal.has-requires
@@ -13,50 +15,100 @@ pub moves_alone-requires-clause-ready : goal.moves_alone-requires-clause-ready
 moves_alone-requires-clause-ready c =
     let items = c.args.self.now.locals.items in
     let inside : c.args.p < length items = subst (λ n. c.args.p < n) (sym c.requires.processors.marks.states.many) c.requires.processor in
-    c.requires.processors.marks.states.ready c.args.p c.index_mut.result.now
-    (item_there items c.args.p c.index_mut.result.now c.index_mut.ensures.value inside)
+    c.requires.processors.marks.states.ready c.args.p c.index_mut-local.result.now
+    (item_there items c.args.p c.index_mut-local.result.now c.index_mut-local.ensures.value inside)
 
-pub returns-then-not-moves_alone-clause-processors : goal.returns-then-not-moves_alone-clause-processors
-returns-then-not-moves_alone-clause-processors c =
+pub moves_alone-requires-clause-walk : goal.moves_alone-requires-clause-walk
+moves_alone-requires-clause-walk c =
     let old = c.args.self.now in
-    same_processors c.args.code.now old (with_state old c.args.p c.moves_alone.new.local old.links)
-    (kept_same old c.args.p c.index_mut.result.now c.moves_alone.new.local old.links c.index_mut.ensures.value
-    (c.moves_alone.ensures.same c.if-not-moves_alone.true) refl) refl refl refl c.requires.processors.marks.states.partners
-    (known_kept c.args.code.now old c.args.p c.index_mut.result.now c.moves_alone.new.local c.index_mut.ensures.value
-    (c.moves_alone.ensures.same c.if-not-moves_alone.true) c.requires.processors.marks.states) c.requires.processors
+    let states = c.requires.processors.marks.states in
+    let inside : c.args.p < length old.locals.items = subst (λ n. c.args.p < n) (sym states.many) c.requires.processor in
+    walk_at c.args.code.now old c.args.p c.index_mut-local.result.now c.index_mut-walk.result.now states
+    (item_there old.locals.items c.args.p c.index_mut-local.result.now c.index_mut-local.ensures.value inside) c.index_mut-walk.ensures.value c.requires.processor
 
-pub returns-then-not-moves_alone-clause-same : goal.returns-then-not-moves_alone-clause-same
-returns-then-not-moves_alone-clause-same c = λ none.
+-- ---- no such move
+pub returns-in-Other-clause-processors : goal.returns-in-Other-clause-processors
+returns-in-Other-clause-processors c =
+    let code = c.args.code.now in
     let old = c.args.self.now in
-    kept_same old c.args.p c.index_mut.result.now c.moves_alone.new.local old.links c.index_mut.ensures.value
-    (c.moves_alone.ensures.same c.if-not-moves_alone.true) refl
+    let w = c.index_mut-local.result.now in
+    let after = c.moves_alone.new.local in
+    let walk = c.moves_alone.new.walk in
+    let states = c.requires.processors.marks.states in
+    let inside : c.args.p < length old.locals.items = subst (λ n. c.args.p < n) (sym states.many) c.requires.processor in
+    let there = item_there old.locals.items c.args.p w c.index_mut-local.ensures.value inside in
+    let same : after ≡ w = subst (MovesAlone code c.args.p w after) c.in-Other.is c.moves_alone.ensures.made in
+    same_processors code old (with_walk old c.args.p after walk) (kept_walk old c.args.p w after walk c.index_mut-local.ensures.value same)
+    refl refl refl (aware_same code old c.args.p w after walk states c.requires.processor there same c.moves_alone.ensures.walk) c.requires.processors
 
+pub returns-in-Other-clause-same : goal.returns-in-Other-clause-same
+returns-in-Other-clause-same c = λ none.
+    let w = c.index_mut-local.result.now in
+    let after = c.moves_alone.new.local in
+    let same : after ≡ w = subst (MovesAlone c.args.code.now c.args.p w after) c.in-Other.is c.moves_alone.ensures.made in
+    kept_walk c.args.self.now c.args.p w after c.moves_alone.new.walk c.index_mut-local.ensures.value same
+
+-- ---- a move in a loop
+pub returns-in-InLoop-clause-moved : goal.returns-in-InLoop-clause-moved
+returns-in-InLoop-clause-moved c = λ moved.
+    let code = c.args.code.now in
+    let old = c.args.self.now in
+    let w = c.index_mut-local.result.now in
+    let after = c.moves_alone.new.local in
+    let states = c.requires.processors.marks.states in
+    let inside : c.args.p < length old.locals.items = subst (λ n. c.args.p < n) (sym states.many) c.requires.processor in
+    let there = item_there old.locals.items c.args.p w c.index_mut-local.ensures.value inside in
+    let made : IsQuietMove code c.args.p w after × IsInLoop code c.args.p w after =
+    subst (MovesAlone code c.args.p w after) c.in-InLoop.is c.moves_alone.ensures.made in
+    loop_moved code old c.args.p w after c.moves_alone.new.walk states c.requires.processor there made.0 made.1 c.moves_alone.ensures.walk
+
+pub returns-in-InLoop-clause-processors : goal.returns-in-InLoop-clause-processors
+returns-in-InLoop-clause-processors c =
+    let code = c.args.code.now in
+    let old = c.args.self.now in
+    let w = c.index_mut-local.result.now in
+    let after = c.moves_alone.new.local in
+    let states = c.requires.processors.marks.states in
+    let inside : c.args.p < length old.locals.items = subst (λ n. c.args.p < n) (sym states.many) c.requires.processor in
+    let there = item_there old.locals.items c.args.p w c.index_mut-local.ensures.value inside in
+    let made : IsQuietMove code c.args.p w after × IsInLoop code c.args.p w after =
+    subst (MovesAlone code c.args.p w after) c.in-InLoop.is c.moves_alone.ensures.made in
+    loop_left code old c.args.p w after c.moves_alone.new.walk states c.requires.processor there made.0 made.1 c.moves_alone.ensures.walk
+    c.requires.processors
+
+-- ---- another move
 pub settle-requires-clause-moved : goal.settle-requires-clause-moved
 settle-requires-clause-moved c =
+    let code = c.args.code.now in
     let old = c.args.self.now in
-    let mid : Team = with_known old c.args.p c.moves_alone.new.local old.links c.leave_partners.new.known in
-    let w = c.index_mut.result.now in
+    let w = c.index_mut-local.result.now in
+    let after = c.moves_alone.new.local in
+    let walk = c.moves_alone.new.walk in
+    let mid : Team = with_known old c.args.p after old.links c.leave_partners.new.known walk in
     let states = c.requires.processors.marks.states in
     let inside : c.args.p < length old.locals.items = subst (λ n. c.args.p < n) (sym states.many) c.requires.processor in
-    let there = item_there old.locals.items c.args.p w c.index_mut.ensures.value inside in
-    (turn_left c.args.code.now old mid c.args.p w c.moves_alone.new.local states c.requires.processor there refl refl refl refl
-    (partners_many c.args.code.now old c.args.p c.leave_partners.new.known states)
-    (forgotten c.args.code.now old c.args.p w c.moves_alone.new.local c.index_mut-2.result.now c.leave_partners.new.known states c.requires.processor there
-    c.index_mut-2.ensures.value (c.leave_partners.ensures.known c.args.code.now))
-    (step.Moved Quiet) c.index_mut.ensures.value (c.moves_alone.ensures.made c.if-not-moves_alone.false old.links) c.requires.processors).0
+    let there = item_there old.locals.items c.args.p w c.index_mut-local.ensures.value inside in
+    let made : IsQuietMove code c.args.p w after = subst (MovesAlone code c.args.p w after) c.in-Moved.is c.moves_alone.ensures.made in
+    (turn_left code old mid c.args.p w after states c.requires.processor there refl refl refl refl
+    (forgotten code old c.args.p w after c.index_mut.result.now c.leave_partners.new.known walk states c.requires.processor there
+    c.index_mut.ensures.value (c.leave_partners.ensures.known code) c.moves_alone.ensures.walk)
+    (step.Moved Quiet) c.index_mut-local.ensures.value (made old.links) c.requires.processors).0
 
-pub returns-clause-moved : goal.returns-clause-moved
-returns-clause-moved c = λ made.
+pub returns-in-Moved-clause-moved : goal.returns-in-Moved-clause-moved
+returns-in-Moved-clause-moved c = λ moved.
+    let code = c.args.code.now in
     let old = c.args.self.now in
-    let mid : Team = with_known old c.args.p c.moves_alone.new.local old.links c.leave_partners.new.known in
-    let w = c.index_mut.result.now in
+    let w = c.index_mut-local.result.now in
+    let after = c.moves_alone.new.local in
+    let walk = c.moves_alone.new.walk in
+    let mid : Team = with_known old c.args.p after old.links c.leave_partners.new.known walk in
     let states = c.requires.processors.marks.states in
     let inside : c.args.p < length old.locals.items = subst (λ n. c.args.p < n) (sym states.many) c.requires.processor in
-    let there = item_there old.locals.items c.args.p w c.index_mut.ensures.value inside in
-    turned_marks c.args.code.now old mid c.settle.new.self c.args.p (step.Moved Quiet) (ap (λ l. l.items) c.settle.ensures.locals)
+    let there = item_there old.locals.items c.args.p w c.index_mut-local.ensures.value inside in
+    let made : IsQuietMove code c.args.p w after = subst (MovesAlone code c.args.p w after) c.in-Moved.is c.moves_alone.ensures.made in
+    turned_marks code old mid c.settle.new.self c.args.p (step.Moved Quiet) (ap (λ l. l.items) c.settle.ensures.locals)
     c.settle.ensures.links
-    (turned_on c.args.code.now old mid c.args.p w c.moves_alone.new.local states c.requires.processor there refl refl refl refl
-    (partners_many c.args.code.now old c.args.p c.leave_partners.new.known states)
-    (forgotten c.args.code.now old c.args.p w c.moves_alone.new.local c.index_mut-2.result.now c.leave_partners.new.known states c.requires.processor there
-    c.index_mut-2.ensures.value (c.leave_partners.ensures.known c.args.code.now))
-    (step.Moved Quiet) c.index_mut.ensures.value (c.moves_alone.ensures.made c.if-not-moves_alone.false old.links))
+    (turned_on code old mid c.args.p w after states c.requires.processor there refl refl refl refl
+    (forgotten code old c.args.p w after c.index_mut.result.now c.leave_partners.new.known walk states c.requires.processor there
+    c.index_mut.ensures.value (c.leave_partners.ensures.known code) c.moves_alone.ensures.walk)
+    (step.Moved Quiet) c.index_mut-local.ensures.value (made old.links))

@@ -27,9 +27,9 @@ settle-requires-clause-moved c =
     let states = c.requires.processors.marks.states in
     let inside : c.args.p < length items = subst (λ n. c.args.p < n) (sym states.many) c.requires.processor in
     let there = item_there items c.args.p c.index_mut.result.now c.index_mut.ensures.value inside in
-    changed_unsettled c.args.code.now old (with_known old c.args.p c.printed.new.local old.links c.leave_partners.new.known) c.args.p c.printed.new.local _ states
-    (print_changed c.args.code.now old c.args.p c.index_mut.result.now c.printed.new.local c.requires.prints.0 c.index_mut-2.result.now c.leave_partners.new.known states c.requires.processor
-    c.index_mut-2.ensures.value (c.leave_partners.ensures.known c.args.code.now) there
+    changed_unsettled c.args.code.now old (with_known old c.args.p c.printed.new.local old.links c.leave_partners.new.known c.forget.new.self) c.args.p c.printed.new.local _ states
+    (print_changed c.args.code.now old c.args.p c.index_mut.result.now c.printed.new.local c.requires.prints.0 c.index_mut-2.result.now c.leave_partners.new.known c.forget.new.self states
+    c.requires.processor c.index_mut-2.ensures.value (c.leave_partners.ensures.known c.args.code.now) c.forget.ensures there
     c.requires.prints.1 c.printed.ensures.made c.printed.ensures.ready)
     Quiet (refl, refl) c.requires.processors
 
@@ -39,6 +39,6 @@ returns-clause-moved c bytes next =
     let inside : c.args.p < length items = subst (λ n. c.args.p < n) (sym c.requires.processors.marks.states.many) c.requires.processor in
     let there = item_there items c.args.p c.index_mut.result.now c.index_mut.ensures.value inside in
     print_moved c.args.code.now c.args.self.now c.settle.new.self c.args.p c.index_mut.result.now c.printed.new.local bytes
-    c.index_mut-2.result.now c.leave_partners.new.known c.requires.processors.marks.states c.requires.processor c.index_mut-2.ensures.value
-    (c.leave_partners.ensures.known c.args.code.now) there next c.printed.ensures.made c.printed.ensures.ready
+    c.index_mut-2.result.now c.leave_partners.new.known c.forget.new.self c.requires.processors.marks.states c.requires.processor c.index_mut-2.ensures.value
+    (c.leave_partners.ensures.known c.args.code.now) c.forget.ensures there next c.printed.ensures.made c.printed.ensures.ready
     c.settle.ensures.locals c.settle.ensures.links

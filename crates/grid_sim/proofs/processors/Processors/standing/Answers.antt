@@ -14,4 +14,5 @@ seek-requires-clause-marks c =
       ended_is = c.of.ensures ∙ noted.ended_is;
       resting_is = c.of-2.ensures ∙ noted.resting_is;
       partners_is = noted.partners_is;
+      walks_is = noted.walks_is;
     })

@@ -4,7 +4,7 @@ use Rattle.grid_layout.specs.Layout.{Arrangement}
 use Rattle.grid_links.specs.Network.{Network}
 use Rattle.grid_meaning.specs.Local.{processors}
 use Rattle.grid_meaning.proofs.WorldLemmas.{processors_alike}
-use Rattle.grid_sim.proofs.StartLemmas.{none_known, none_many, start_many, start_marks}
+use Rattle.grid_sim.proofs.StartLemmas.{none_aware, start_many, start_marks}
 use Rattle.grid_sim.proofs.processors.Processors.start.Goals as goal
 
 pub start_locals-requires-clause-count : goal.start_locals-requires-clause-count
@@ -22,6 +22,6 @@ seek-requires-clause-marks c =
       many = start_many code c.in_ok-locals.locals.items c.in_ok-locals.ensures.start;
       ready = c.in_ok-locals.ensures.ready;
       links = ap (λ (l : Network). l.count) c.requires.links;
-      partners = none_many code c.count-count.result c.in_ok-partners.partners.items c.in_ok-partners.ensures n;
-      known = none_known code c.in_ok-locals.locals.items c.in_ok-partners.partners.items c.count-count.result c.in_ok-partners.ensures;
+      aware = none_aware code c.in_ok-locals.locals.items c.in_ok-partners.partners.items c.in_ok-walks.walks.items c.count-count.result
+          c.in_ok-partners.ensures c.in_ok-walks.ensures n;
     }) c.in_ok-locals.ensures.start n c.in_ok-ended.ensures c.in_ok-resting.ensures

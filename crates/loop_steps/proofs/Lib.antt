@@ -1,0 +1,3 @@
+mod AccumulatorLemmas
+mod PreparedLemmas
+mod RowLemmas

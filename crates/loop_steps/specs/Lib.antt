@@ -1,0 +1,3 @@
+pub mod Accumulator
+pub mod Prepared
+pub mod RowOfPlaces
