@@ -1,12 +1,12 @@
 -- Acts make of the stack what the words make of it.
-use Rattle.std.proofs.Common.{◌≡◌, List, [], ◌∷◌, refl, sym, ap, ◌∙◌, ℤ}
+use Rattle.std.proofs.Common.{◌≡◌, List, [], ◌∷◌, refl, ap, ◌∙◌, ℤ}
 use Rattle.std.specs.Prelude.{Option, Some, None, option_and_then}
 use Rattle.std.specs.Option.{option_map}
 use Rattle.grid_meaning.specs.of_zpl_nums.declared.operators.Op.{Op}
 use Rattle.grid_meaning.specs.of_node_form.declared.words.ExprOp.{ExprOp}
 use Rattle.grid_meaning.specs.of_node_form.declared.words.ExprOp.TheVariants as word
-use Rattle.grid_meaning.specs.of_node_form.Value.{Computed, Gives, Divides, Lacks, Operands, and_then, divided, evaluated, pushed, stepped, unmoved}
-use Rattle.loop_steps.specs.Accumulator.{Act, Fetch, With, Operate, Negate, Deny, Size, Leaf, Constant, OfScalar, OfArray, OfCell, OfIndex, accumulated, acted, acted_once, fused, leaf_value, operated, resolved, resolved_once, with_top}
+use Rattle.grid_meaning.specs.of_node_form.Value.{Computed, Gives, Divides, Lacks, Operands, and_then, evaluated, pushed, stepped, unmoved}
+use Rattle.loop_steps.specs.Accumulator.{Act, Fetch, With, Operate, Negate, Deny, Size, Leaf, Constant, OfScalar, OfArray, OfCell, OfIndex, accumulated, acted, acted_once, fused, leaf_value, operated, resolved, resolved_once}
 
 -- ---- a leaf, and what is done behind it
 module _ (operands : Operands) where

@@ -1,20 +1,19 @@
 -- What is made ready for a row has at each of its tuples the value of the expression.
-use Rattle.std.proofs.Common.{◌≡◌, ◌≢◌, ℕ, zero, suc, ◌+◌, ◌-◌, ◌<◌, ◌==◌, Bool, true, false, nat_lt, List, [], ◌∷◌, length, map, All, ℤ, pos, ◌+ℤ◌, refl, sym, ◌∙◌, ap, subst, arith, eqb-true, ltb-true}
+use Rattle.std.proofs.Common.{◌≡◌, ◌≢◌, ℕ, zero, suc, ◌+◌, ◌-◌, ◌<◌, ◌==◌, Bool, true, false, nat_lt, List, [], ◌∷◌, length, All, ℤ, pos, ◌+ℤ◌, refl, sym, ◌∙◌, ap, subst, eqb-true, ltb-true}
 use Rattle.std.specs.Prelude.{Option, Some, None, if◌then◌else◌, option_and_then, slice_get, slice_index_or}
 use Rattle.std.specs.Option.{option_map}
 use Rattle.std.proofs.lemmas.Bool.{eqb-false}
 use Rattle.std.proofs.lemmas.Option.{get_or_from_slice_get, slice_get-get_or, slice_get-map, slice_get_within}
-use Rattle.grid_meaning.specs.of_zpl_region.declared.regions.Region.{Region}
 use Rattle.grid_meaning.specs.of_zpl_region.Hull.{IsBoxed}
 use Rattle.grid_meaning.specs.of_zpl_arrays.Array.{Array, place_among}
 use Rattle.grid_meaning.specs.of_node_form.declared.words.ExprOp.{ExprOp}
 use Rattle.grid_meaning.specs.of_node_form.Group.{Point, operands_at}
-use Rattle.grid_meaning.specs.of_node_form.Value.{Computed, Gives, and_then, evaluated, only_value, read, value_of}
+use Rattle.grid_meaning.specs.of_node_form.Value.{Computed, Gives, and_then, only_value, read, value_of}
 use Rattle.grid_meaning.specs.Loop.{access_at}
 use Rattle.grid_meaning.specs.Place.{held_value, moved_by}
 use Rattle.loop_steps.specs.Accumulator.{Act, Leaf, Constant, OfScalar, OfArray, OfCell, OfIndex, accumulated, acted, leaf_value}
-use Rattle.loop_steps.specs.Prepared.{AreBoxes, CellAt, CountedFrom, Number, PlaceAt, Row, ScalarAt, Shape, Source, box_of, coordinate_from, place_from, prepared, shape_of, source_of, source_value, stored, tuple_at}
-use Rattle.loop_steps.specs.RowOfPlaces.{IsRowOf, along, is_row_of}
+use Rattle.loop_steps.specs.Prepared.{AreBoxes, CellAt, CountedFrom, Number, PlaceAt, Row, ScalarAt, Source, box_of, place_from, prepared, shape_of, source_of, source_value, stored, tuple_at}
+use Rattle.loop_steps.specs.RowOfPlaces.{along, is_row_of}
 use Rattle.loop_steps.proofs.AccumulatorLemmas.{accumulated_is, resolved_is}
 use Rattle.loop_steps.proofs.RowLemmas.{moved_along, value_along}
 

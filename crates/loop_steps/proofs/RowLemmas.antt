@@ -1,9 +1,8 @@
 -- Along a row of a box each tuple has a place, which is as far behind the first one's.
-use Rattle.std.proofs.Common.{◌≡◌, ℕ, zero, suc, ◌+◌, ◌-◌, ◌*◌, ◌/◌, ◌<◌, ◌≤◌, ◌==◌, Bool, true, false, ◌&&◌, List, [], ◌∷◌, All, ℤ, pos, ◌+ℤ◌, ◌-ℤ◌, ◌*ℤ◌, ◌≤ℤ◌, unsigned_abs, refl, sym, ◌∙◌, ap, subst, set, arith, eqb-true}
-use Rattle.std.specs.Prelude.{Option, Some, if◌then◌else◌, slice_index_or}
+use Rattle.std.proofs.Common.{◌≡◌, ℕ, zero, suc, ◌+◌, ◌-◌, ◌*◌, ◌/◌, ◌<◌, ◌≤◌, Bool, true, false, ◌&&◌, List, [], ◌∷◌, All, ℤ, pos, ◌+ℤ◌, ◌-ℤ◌, ◌*ℤ◌, ◌≤ℤ◌, unsigned_abs, refl, sym, ◌∙◌, ap, set, arith, eqb-true}
+use Rattle.std.specs.Prelude.{Some, if◌then◌else◌, slice_index_or}
 use Rattle.std.proofs.lemmas.Int.{ints}
 use Rattle.std.proofs.lemmas.List.Elements.{All-head, All-tail}
-use Rattle.std.proofs.Math.Bool.{and-true}
 use Rattle.grid_meaning.specs.of_zpl_region.declared.dims.Dim.{Dim}
 use Rattle.grid_meaning.specs.of_zpl_region.declared.dims.Dim.TheVariants.{Range, Flood}
 use Rattle.grid_meaning.specs.of_zpl_region.Dim.{is_multiple}
@@ -16,7 +15,7 @@ use Rattle.grid_meaning.specs.Place.{held_value, held_with, moved_by, where_held
 use Rattle.grid_meaning.proofs.of_zpl_region.DimLemmas.{multiple_passes}
 use Rattle.grid_meaning.proofs.of_zpl_region.HullLemmas.{first-all_from}
 use Rattle.grid_meaning.proofs.of_zpl_region.ProgressionLemmas.{between-true, true-between}
-use Rattle.loop_steps.specs.RowOfPlaces.{IsRowOf, along, is_last_range, is_row_of, row_value, row_with}
+use Rattle.loop_steps.specs.RowOfPlaces.{IsRowOf, along, is_last_range, row_value, row_with}
 
 -- ---- both of two tests
 left_true : (a b : Bool) → (a && b) ≡ true → a ≡ true

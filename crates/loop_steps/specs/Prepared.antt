@@ -5,7 +5,7 @@
 --   Source         where a value is, and what it is at a tuple of the row
 --   source_of      where that of a leaf is, if it is there at each tuple
 --   prepared       the acts of an expression with these in the place of its leaves
-use Rattle.std.specs.Prelude.{◌≡◌, ℕ, ◌+◌, ◌-◌, ◌==◌, nat_lt, ℤ, pos, ◌+ℤ◌, List, All, length, map, Option, Some, None, if◌then◌else◌, option_and_then, slice_get, slice_index_or}
+use Rattle.std.specs.Prelude.{ℕ, ◌+◌, ◌-◌, ◌==◌, nat_lt, ℤ, pos, ◌+ℤ◌, List, All, length, map, Option, Some, None, if◌then◌else◌, option_and_then, slice_get, slice_index_or}
 use Rattle.std.specs.Option.{option_map}
 use Rattle.grid_meaning.specs.of_zpl_region.declared.regions.Region.{Region}
 use Rattle.grid_meaning.specs.of_zpl_region.Hull.{IsBoxed}

@@ -1,11 +1,10 @@
 -- Walks over the tuples of a region: the tuple at a place, the place behind it, and what a turn leaves known.
-use Rattle.std.proofs.Common.{◌≡◌, ℕ, zero, suc, ◌+◌, ◌*◌, ◌/◌, ◌%◌, ◌<◌, ◌≤◌, ◌^◌, true, List, [], ◌∷◌, length, map, refl, sym, ap, ◌∙◌, subst, ℤ, pos, ◌+ℤ◌, arith}
+use Rattle.std.proofs.Common.{◌≡◌, ℕ, ◌+◌, ◌*◌, ◌/◌, ◌%◌, ◌<◌, ◌^◌, true, List, [], ◌∷◌, length, refl, sym, ap, ◌∙◌, subst, ℤ, pos, ◌+ℤ◌, arith}
 use Rattle.std.specs.Prelude.{Option, Some, None, if◌then◌else◌, option_and_then, slice_get}
 use Rattle.std.specs.Option.{IfSome, option_map}
 use Rattle.std.proofs.lemmas.Nat.{div-add-mod'}
 use Rattle.std.proofs.lemmas.Option.{slice_get_within}
 use Rattle.zpl_region.specs.declared.regions.Region.{Region}
-use Rattle.zpl_region.specs.Dim.{coordinates}
 use Rattle.zpl_region.specs.Progression.{terms}
 use Rattle.zpl_region.specs.Region.{members, tuples}
 use Rattle.zpl_region.proofs.ProgressionLemmas.{length-progression, slice_get-progression}
@@ -24,7 +23,7 @@ use Rattle.node_loop.specs.declared.turns.IndexTurn.{IndexTurn}
 use Rattle.node_loop.specs.declared.turns.IndexTurn.TheVariants.{Done, Again, Unheld}
 use Rattle.node_loop.specs.declared.walks.Walk.TheInside.{Inside}
 use Rattle.node_loop.specs.Along.{IsAlong, number_at, place_along, tuples_along, walk_in}
-use Rattle.node_loop.specs.Line.{IsShort, progression_of}
+use Rattle.node_loop.specs.Line.{progression_of}
 use Rattle.node_loop.specs.LocalTurn.{IsIndexAfter, StaysInRow, StaysWhereTold, told_at}
 use Rattle.node_loop.specs.Walk.{IsStepped, IsWalk, IsWalkAfter, KnowsWalk, Walk, loop_tuples, next_tuple, stepped, tuples_at}
 use Rattle.node_loop.proofs.TurnLemmas.{few_tuples, is_slot}

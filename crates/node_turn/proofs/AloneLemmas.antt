@@ -1,12 +1,12 @@
 -- Moves that a processor makes by itself.
-use Rattle.std.proofs.Common.{◌≡◌, ℕ, [], refl, sym, ap, ◌∙◌, subst}
+use Rattle.std.proofs.Common.{◌≡◌, ℕ, [], sym, ap, ◌∙◌, subst}
 use Rattle.std.specs.Prelude.{Some, slice_get}
 use Rattle.node_form.specs.declared.instructions.Instr.{Instr}
 use Rattle.node_form.specs.declared.tables.Tables.{Tables}
 use Rattle.grid_meaning.specs.Action.{Action, moves}
 use Rattle.grid_meaning.specs.State.{IsLocal}
 use Rattle.grid_meaning.specs.Turn.{act, act_at}
-use Rattle.node_local.specs.Workplace.{IsReady, Workplace}
+use Rattle.node_local.specs.Workplace.{Workplace}
 use Rattle.node_loop.specs.LocalTurn.{StaysInRow}
 use Rattle.row_turn.specs.of_node_control.Moving.{MovesOn}
 use Rattle.row_turn.specs.Placed.{IsAtRow}

@@ -1,6 +1,6 @@
 use Rattle.std.proofs.Common.{◌≡◌, ◌<◌, ap, sym, subst, length, refl}
 use Rattle.node_turn.specs.Alone.{IsInLoop, IsQuietMove, MovesAlone}
-use Rattle.node_turn.specs.declared.moves.Alone.TheVariants.{Other, Moved, InLoop}
+use Rattle.node_turn.specs.declared.moves.Alone.TheVariants.{Moved}
 use Rattle.node_turn.specs.declared.steps.Step.TheVariants as step
 use Rattle.node_turn.specs.declared.steps.Traffic.TheVariants.{Quiet}
 use Rattle.grid_sim.specs.declared.processors.Processors.{Processors as Team}
