@@ -18,8 +18,9 @@ use crate::marks::Marks;
 use grid_layout::Layout;
 use grid_links::Links;
 use node_form::NodeProgram;
-use node_turn::{Alone, Local, Partners, Step, Traffic, Walk};
-use node_turn::{leave_partners, moves_alone, printed, turn_of};
+use node_turn::{
+    Alone, Local, Partners, Step, Traffic, Walk, leave_partners, moves_alone, printed, turn_of,
+};
 use std::alloc::{AllocError, Global};
 
 /// The processors of a program between their turns.

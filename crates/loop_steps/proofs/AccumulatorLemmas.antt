@@ -54,25 +54,25 @@ module _ (operands : Operands) where
   pub accumulated_is : (words : List ExprOp) (stack : List ℤ) → acted (leaf_value operands) (accumulated words) stack ≡ evaluated operands words stack
   accumulated_is [] stack = refl
   accumulated_is (word.Const value ∷ words) stack =
-      fused_is (Constant value) (accumulated words) stack ∙ behind words _ (accumulated_is words)
+      fused_is (Constant value) (accumulated words) stack ∙ behind words (pushed stack (leaf_value operands (Constant value))) (accumulated_is words)
   accumulated_is (word.Scalar scalar ∷ words) stack =
-      fused_is (OfScalar scalar) (accumulated words) stack ∙ behind words _ (accumulated_is words)
+      fused_is (OfScalar scalar) (accumulated words) stack ∙ behind words (pushed stack (leaf_value operands (OfScalar scalar))) (accumulated_is words)
   accumulated_is (word.Here array ∷ words) stack =
-      fused_is (OfArray array unmoved) (accumulated words) stack ∙ behind words _ (accumulated_is words)
+      fused_is (OfArray array unmoved) (accumulated words) stack ∙ behind words (pushed stack (leaf_value operands (OfArray array unmoved))) (accumulated_is words)
   accumulated_is (word.Shifted array shift ∷ words) stack =
-      fused_is (OfArray array shift) (accumulated words) stack ∙ behind words _ (accumulated_is words)
+      fused_is (OfArray array shift) (accumulated words) stack ∙ behind words (pushed stack (leaf_value operands (OfArray array shift))) (accumulated_is words)
   accumulated_is (word.Cell cell ∷ words) stack =
-      fused_is (OfCell cell) (accumulated words) stack ∙ behind words _ (accumulated_is words)
+      fused_is (OfCell cell) (accumulated words) stack ∙ behind words (pushed stack (leaf_value operands (OfCell cell))) (accumulated_is words)
   accumulated_is (word.Coord dimension ∷ words) stack =
-      fused_is (OfIndex dimension) (accumulated words) stack ∙ behind words _ (accumulated_is words)
+      fused_is (OfIndex dimension) (accumulated words) stack ∙ behind words (pushed stack (leaf_value operands (OfIndex dimension))) (accumulated_is words)
   accumulated_is (word.Pair op ∷ words) stack =
-      ap (and_then (acted (leaf_value operands) (accumulated words))) (pair_is op stack) ∙ behind words _ (accumulated_is words)
+      ap (and_then (acted (leaf_value operands) (accumulated words))) (pair_is op stack) ∙ behind words (stepped operands (word.Pair op) stack) (accumulated_is words)
   accumulated_is (word.Neg ∷ words) stack =
-      ap (and_then (acted (leaf_value operands) (accumulated words))) (neg_is stack) ∙ behind words _ (accumulated_is words)
+      ap (and_then (acted (leaf_value operands) (accumulated words))) (neg_is stack) ∙ behind words (stepped operands word.Neg stack) (accumulated_is words)
   accumulated_is (word.Not ∷ words) stack =
-      ap (and_then (acted (leaf_value operands) (accumulated words))) (not_is stack) ∙ behind words _ (accumulated_is words)
+      ap (and_then (acted (leaf_value operands) (accumulated words))) (not_is stack) ∙ behind words (stepped operands word.Not stack) (accumulated_is words)
   accumulated_is (word.Abs ∷ words) stack =
-      ap (and_then (acted (leaf_value operands) (accumulated words))) (abs_is stack) ∙ behind words _ (accumulated_is words)
+      ap (and_then (acted (leaf_value operands) (accumulated words))) (abs_is stack) ∙ behind words (stepped operands word.Abs stack) (accumulated_is words)
 
 -- ---- other leaves that have the same values
 module _ {L M : Type 0} (value : L → Computed ℤ) (kept : M → Computed ℤ) (other : L → Option M)

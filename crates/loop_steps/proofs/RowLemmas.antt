@@ -117,7 +117,9 @@ place_behind_along j zero (Flood ∷ dims) (x ∷ t) boxed range first = cc
 place_behind_along j zero (Range lo hi step align ∷ dims) (x ∷ t) boxed range first =
     place_range lo hi step align x j dims t (All-head IsBoxed (Range lo hi step align) dims boxed) (eqb-true (tuple_count dims) 1 range) first
 place_behind_along j (suc d) (Flood ∷ dims) (x ∷ t) boxed range first =
-    place_behind_along j d dims t (All-tail IsBoxed Flood dims boxed) range first
+    let rest = place_behind_along j d dims t (All-tail IsBoxed Flood dims boxed) range first in
+    let whole = 0 * tuple_count dims in
+    ap (λ n. whole + n) rest ∙ (let regrouped : whole + (place_among dims t + j) ≡ whole + place_among dims t + j = omega arith in regrouped)
 place_behind_along j (suc d) (Range lo hi step align ∷ dims) (x ∷ t) boxed range first =
     let rest = place_behind_along j d dims t (All-tail IsBoxed (Range lo hi step align) dims boxed) range
     (right_true (is_coordinate (Range lo hi step align) x) (each_has_place dims t) first) in

@@ -4,5 +4,6 @@
 
 mod laws;
 
-pub use laws::{acts_make_what_words_make, rows_of_places_are_counted};
-pub use laws::what_is_prepared_has_its_value;
+pub use laws::{
+    acts_make_what_words_make, rows_of_places_are_counted, what_is_prepared_has_its_value,
+};
