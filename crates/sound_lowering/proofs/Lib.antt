@@ -6,3 +6,15 @@ pub mod SegmentLemmas
 pub mod KeptLemmas
 pub mod AssembleLemmas
 pub mod SoundLemmas
+pub mod OldLemmas
+pub mod RoomLemmas
+pub mod OperatorLemmas
+pub mod BracketLemmas
+pub mod PhaseLemmas
+mod Examples
+pub mod WalkLemmas
+pub mod SettledLemmas
+pub mod StatementLemmas
+pub mod BorderLemmas
+pub mod PrefixLemmas
+pub mod LawLemmas
