@@ -6,3 +6,8 @@ pub mod SegmentLemmas
 pub mod KeptLemmas
 pub mod AssembleLemmas
 pub mod SoundLemmas
+pub mod OldLemmas
+pub mod RoomLemmas
+pub mod OperatorLemmas
+pub mod BracketLemmas
+pub mod PhaseLemmas

@@ -1,3 +1,6 @@
 pub mod Uniform
 pub mod Goes
 pub mod Undecided
+pub mod Tells
+pub mod Steady
+pub mod Deep
