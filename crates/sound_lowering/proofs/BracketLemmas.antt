@@ -24,7 +24,7 @@ use Rattle.sound_lowering.specs.Deep.{AreOf}
 use Rattle.sound_lowering.specs.Steady.{KeepsBelow}
 use Rattle.sound_lowering.specs.Tells.{IsReady, Tells}
 use Rattle.sound_lowering.proofs.UniformLemmas.{learnt_made}
-use Rattle.sound_lowering.proofs.OldLemmas.{behind_both, fills_keep, keeps_both, keeps_so, met_both}
+use Rattle.sound_lowering.proofs.OldLemmas.{behind_both, below_more, fills_keep, met_both}
 use Rattle.sound_lowering.proofs.RoomLemmas.{of_left, of_right}
 
 -- ---- checks that are decided
@@ -142,14 +142,6 @@ module _ (code : Tables) where
   ready_kept n m facts after slot kept less ready =
       let below = ready.0 in
       (omega (arith, below, less), tells_kept n facts after slot kept below ready.1)
-
-pub below_more : (code : Tables) (n m : ℕ) (facts between after : List Fact) → n ≤ m
-    → KeepsBelow code n facts between → KeepsBelow code m between after
-    → KeepsBelow code n facts after
-below_more code n m facts between after less first rest =
-    keeps_both code (λ slot. slot < n) 0 0 facts between after (omega arith) first
-    (keeps_so code (λ slot. slot < n) (λ slot. slot < m) (λ slot below. omega (arith, less, below)) 0
-    between after rest)
 
 -- ---- brackets: their rows go, leave what was known of the slots before, and tell of their own
 pub record OpensWell (code : Tables) (n : ℕ) (facts : List Fact) (opened : Opened) : Type 0 where

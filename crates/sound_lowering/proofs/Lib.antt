@@ -11,3 +11,6 @@ pub mod RoomLemmas
 pub mod OperatorLemmas
 pub mod BracketLemmas
 pub mod PhaseLemmas
+mod Examples
+pub mod WalkLemmas
+pub mod SettledLemmas

@@ -18,7 +18,7 @@ use Rattle.node_check.specs.declared.facts.Fact.TheVariants.{Agree, Border, Held
 use Rattle.node_check.specs.Learn.{is_among, learnt, loses, roomed_arrays}
 use Rattle.node_check.specs.Demand.{is_stored}
 use Rattle.sound_lowering.specs.Goes.{AreMet, ByCheck, ByRegion, HasMask, HasWords, IsHere, behind_row, behind_rows, is_of_slots}
-use Rattle.sound_lowering.specs.Steady.{HasTree, HasTrees, IsOld, IsOldArray, Keeps}
+use Rattle.sound_lowering.specs.Steady.{HasTree, HasTrees, IsOld, IsOldArray, Keeps, KeepsBelow}
 use Rattle.sound_lowering.proofs.UniformLemmas.{learnt_kept, learnt_made}
 
 pub older : (code : Tables) (n m array : ℕ) → n ≤ m → IsOldArray code n array
@@ -95,6 +95,14 @@ module _ (code : Tables) (Few Many : ℕ → Type 0) (so : (slot : ℕ) → Few 
   pub keeps_so : (n : ℕ) (facts after : List Fact) → Keeps code Many n facts after
       → Keeps code Few n facts after
   keeps_so n facts after kept fact h old = kept fact h (old_so n fact old)
+
+pub below_more : (code : Tables) (n m : ℕ) (facts between after : List Fact) → n ≤ m
+    → KeepsBelow code n facts between → KeepsBelow code m between after
+    → KeepsBelow code n facts after
+below_more code n m facts between after less first rest =
+    keeps_both code (λ slot. slot < n) 0 0 facts between after (omega arith) first
+    (keeps_so code (λ slot. slot < n) (λ slot. slot < m) (λ slot below. omega (arith, less, below)) 0
+    between after rest)
 
 -- ---- what a row loses, by the lists of what it writes
 abbrev lost_by : List ℕ → List ℕ → Fact → Bool

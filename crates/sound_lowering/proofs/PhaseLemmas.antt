@@ -87,8 +87,8 @@ module _ (Q : ℕ → ℕ → List ℤ → Type 0) where
       (all.0, once_has refs (filtered_has one (each_once refs) all.0 all.1))
 
 -- ---- rows of checks
-abbrev Any : ℕ → Type 0
-Any slot = Unit {0}
+abbrev AnySlot : ℕ → Type 0
+AnySlot slot = Unit {0}
 
 module _ (code : Tables) where
   needs_met : (line : ℕ) (refs : List Reference) (facts : List Fact)
@@ -104,10 +104,10 @@ module _ (code : Tables) where
       → Keeps code Stays n facts (behind_rows code facts (map (need_of line) refs))
   needs_keep Stays n line [] facts = keeps_all code Stays n facts
   needs_keep Stays n line (one ∷ refs) facts =
-      let row = instr.Need one.slot one.array one.shift line in
-      let next = learnt code facts row in
+      let check = instr.Need one.slot one.array one.shift line in
+      let next = learnt code facts check in
       keeps_both code Stays n n facts next (behind_rows code next (map (need_of line) refs))
-      (omega arith) (still_keeps code Stays n facts row (refl, refl))
+      (omega arith) (still_keeps code Stays n facts check (refl, refl))
       (needs_keep Stays n line refs next)
 
   -- a check tells that its array has the places
@@ -118,10 +118,10 @@ module _ (code : Tables) where
       → Each (IsHeld (behind_rows code facts (map (need_of line) refs))) refs
   needs_hold line [] facts = tt
   needs_hold line (one ∷ refs) facts =
-      let row = instr.Need one.slot one.array one.shift line in
-      let next = learnt code facts row in (
-        needs_keep Any (suc one.array) line refs next (Held one.slot one.array one.shift)
-            (learnt_made code facts row (Held one.slot one.array one.shift) (inl refl))
+      let check = instr.Need one.slot one.array one.shift line in
+      let next = learnt code facts check in (
+        needs_keep AnySlot (suc one.array) line refs next (Held one.slot one.array one.shift)
+            (learnt_made code facts check (Held one.slot one.array one.shift) (inl refl))
             (tt, inr (omega arith)),
         needs_hold line refs next,
       )
@@ -154,7 +154,7 @@ module _ (code : Tables) where
           ByRegion told.0 told.1.0 both.0 told.1.1
 
   module _ (Stays : ℕ → Type 0) where
-    tells_kept : (n : ℕ) (facts after : List Fact) → Keeps code Any n facts after
+    tells_kept : (n : ℕ) (facts after : List Fact) → Keeps code AnySlot n facts after
         → (refs : List Reference) → AllTell code Stays facts refs → AllTell code Stays after refs
     tells_kept n facts after kept [] all = tt
     tells_kept n facts after kept (one ∷ refs) all = (
@@ -221,7 +221,7 @@ module _ (code : Tables) where
         let same = instr.Same target source kind line in
         let next = learnt code facts same in (
           (
-            conform_keep Any 0 rows all.1 next (Agree target source kind)
+            conform_keep AnySlot 0 rows all.1 next (Agree target source kind)
                 (learnt_made code facts same (Agree target source kind) (inl refl)) (tt, tt),
             all.0.0,
             all.0.1,
@@ -230,7 +230,7 @@ module _ (code : Tables) where
         )
     conform_agree (one ∷ rows) all facts = absurd all.0
 
-    agree_kept : (facts after : List Fact) → Keeps code Any 0 facts after → (rows : List Row)
+    agree_kept : (facts after : List Fact) → Keeps code AnySlot 0 facts after → (rows : List Row)
         → AllConform rows → AllAgree Stays facts rows → AllAgree Stays after rows
     agree_kept facts after kept [] same all = tt
     agree_kept facts after kept (row.Plain (instr.Same target source kind line) ∷ rows) same all = (
@@ -315,7 +315,7 @@ module _ (code : Tables) (Stays : ℕ → Type 0)
       (once_has (IsChecked code after) refs
       (each_both code (IsHeld code after) (λ slot array shift. is_stored code array ≡ true) few
       (needs_hold code line few facts) (needs_stored line few of)))
-      (tells_kept code Stays 0 facts after (needs_keep code Any 0 line few facts) refs tells)
+      (tells_kept code Stays 0 facts after (needs_keep code AnySlot 0 line few facts) refs tells)
 
   pub phases_go : (numbers : Numbers) (line : ℕ) (free : Free) (slots : List ℕ) (rows : List Row)
       (all : Slates) (own last : List Reference) (facts : List Fact) → AreMet code facts rows
@@ -347,10 +347,10 @@ module _ (code : Tables) (Stays : ℕ → Type 0)
       of_right code same checks (of_right code rows (same ++ checks) of) in
       let there : AreReferred Stays code three refs =
       needs_there line refs two
-      (tells_kept code Stays 0 one two (conform_keep code Stays Any 0 same conform one) refs tells)
+      (tells_kept code Stays 0 one two (conform_keep code Stays AnySlot 0 same conform one) refs tells)
       of_checks in
       let agree : AllAgree Stays three same =
-      agree_kept code Stays two three (needs_keep code Any 0 line (each_once refs) two) same conform
+      agree_kept code Stays two three (needs_keep code AnySlot 0 line (each_once refs) two) same conform
       (conform_agree code Stays same conform one) in
       let behind : AreReferred Stays code three (inside ++ last) =
       referred_right code Stays three own (inside ++ last) there in

@@ -4,3 +4,5 @@ pub mod Undecided
 pub mod Tells
 pub mod Steady
 pub mod Deep
+pub mod Walks
+pub mod Served

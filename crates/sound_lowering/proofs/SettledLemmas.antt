@@ -1,0 +1,882 @@
+-- The rows of an expression's brackets go; each element is read under a slot that stays, of which is
+-- known what checks ask for.
+use Rattle.std.proofs.Common.{◌≡◌, ◌⊎◌, inl, inr, ℕ, zero, suc, ◌+◌, ◌<◌, ◌≤◌, Bool, true, false, if◌then◌else◌, ℤ, List, [], ◌∷◌, ◌++◌, length, take, refl, sym, ap, ◌∙◌, subst, arith, length-append}
+use Rattle.std.specs.Prelude.{Option, Some, None, IsSome, option_map, slice_get}
+use Rattle.std.specs.Option.{IsSomeAnd}
+use Rattle.code_parts.specs.of_zpl_region.declared.regions.Region.{Region}
+use Rattle.zpl_lowering.specs.of_zpl_tree.Syntax.{Name, Expr, Number, Truth, Coord, Named, Shifted, Around, Remap, Call, Paren, Neg, Not, Abs, Pair, Reduce, Scan, Flood, Exprs, NoExpr, ThenExpr, Dir, NamedRegion, Ditto, Inner, Rexpr, Dims, NoBracket, Bracketed}
+use Rattle.zpl_lowering.specs.of_zpl_names.Kinds.{Rank}
+use Rattle.zpl_lowering.specs.of_zpl_names.Scope.{kind_of}
+use Rattle.zpl_lowering.specs.of_zpl_names.Ranks.{inner_rank, is_index, operand_rank, own_rank, region_shape}
+use Rattle.zpl_binding.specs.Regions.{no_region}
+use Rattle.zpl_meaning.specs.Store.{Thing, Scalar, ArrayAt, Fixed, thing_of}
+use Rattle.zpl_meaning.specs.Context.{Currents, Edge, Mask, Over, with_over}
+use Rattle.zpl_meaning.specs.Regions.{vector_in}
+use Rattle.zpl_meaning.specs.Proper.{AreProper, HasCurrent, IsArrayRank, IsArrayRead, IsProper, IsProperRegion, IsRead}
+use Rattle.meaning_ranks.specs.Ranked.{AreOfRank, IsOfRank, IsRegionOf}
+use Rattle.zpl_lowering.specs.of_node_form.declared.tables.Tables.{Tables}
+use Rattle.code_parts.specs.Uses.{written_slots}
+use Rattle.code_parts.proofs.ListLemmas.{In, in_append, in_back, in_front}
+use Rattle.zpl_lowering.specs.of_flat_form.Row as row
+use Rattle.zpl_lowering.specs.of_flat_form.Row.{Row}
+use Rattle.zpl_lowering.specs.of_node_form.declared.instructions.Instr.TheVariants as instr
+use Rattle.zpl_lowering.specs.Where.{Next, Numbers, SlotCurrents, Slotted, Stored, Where, slotted_at, slotted_or, with_slotted}
+use Rattle.zpl_lowering.specs.Bracket.{Form, Opened, bracket, computed, constant_region, filled, fixed_or, formed, forms_of, name_opened, named_region, one_row, region_slot, standing}
+use Rattle.zpl_lowering.specs.Reference.{Reference, all_referred, at_place, mask_reference, over_reference, refer_to, referred}
+use Rattle.zpl_lowering.specs.Slate as slate
+use Rattle.zpl_lowering.specs.Slate.{NoSlate, Placed, Settled, Slate, Slates, ThenSlate, alone, around_slate, behind, mapped, named_slate, of_opened, opened_source, remap_slate, settled, settled_all, settled_each, shifted_slate, source_of, source_rank, under_source}
+use Rattle.lowering_fits.specs.Reach.{place_at}
+use Rattle.lowering_fits.specs.Slates.{FitsSlate, FitsSlates, IsMaskOf, IsRemapOf, slates_count}
+use Rattle.node_check.specs.declared.facts.Fact.{Fact}
+use Rattle.sound_lowering.specs.Goes.{AreMet, behind_rows}
+use Rattle.sound_lowering.specs.Steady.{KeepsBelow}
+use Rattle.sound_lowering.specs.Tells.{IsReady}
+use Rattle.sound_lowering.specs.Deep.{AreDeep, AreDeepAt, AreOf, HasIndices, IsDeep, IsNumbered, IsVector, count_of}
+use Rattle.sound_lowering.specs.Served.{AllHold, AllUsable, AllWrapped, AreWrapped, Holds, IsServed, IsUsable, filled_by}
+use Rattle.sound_lowering.proofs.OldLemmas.{behind_both, below_more, met_both}
+use Rattle.sound_lowering.proofs.RoomLemmas.{of_left, of_right}
+use Rattle.sound_lowering.proofs.BracketLemmas.{OpensWell, StandsOn, bracket_well, ready_kept}
+use Rattle.sound_lowering.proofs.WalkLemmas.{none_below}
+
+-- ---- slots that rows fill
+pub filled_left : (xs ys : List Row) (slot : ℕ) → In (filled_by xs) slot
+    → In (filled_by (xs ++ ys)) slot
+filled_left [] ys slot h = absurd h
+filled_left (row.Plain one ∷ xs) ys slot h =
+    by (in_append (written_slots one) (filled_by xs) slot h)
+  where
+    by : In (written_slots one) slot ⊎ In (filled_by xs) slot
+        → In (written_slots one ++ filled_by (xs ++ ys)) slot
+    by (inl here) = in_front (written_slots one) (filled_by (xs ++ ys)) slot here
+    by (inr later) =
+        in_back (written_slots one) (filled_by (xs ++ ys)) slot (filled_left xs ys slot later)
+filled_left (row.Dims own parts line ∷ xs) ys slot (inl same) = inl same
+filled_left (row.Dims own parts line ∷ xs) ys slot (inr h) = inr (filled_left xs ys slot h)
+filled_left (one ∷ xs) ys slot h = filled_left xs ys slot h
+
+pub filled_right : (xs ys : List Row) (slot : ℕ) → In (filled_by ys) slot
+    → In (filled_by (xs ++ ys)) slot
+filled_right [] ys slot h = h
+filled_right (row.Plain one ∷ xs) ys slot h =
+    in_back (written_slots one) (filled_by (xs ++ ys)) slot (filled_right xs ys slot h)
+filled_right (row.Dims own parts line ∷ xs) ys slot h = inr (filled_right xs ys slot h)
+filled_right (one ∷ xs) ys slot h = filled_right xs ys slot h
+
+-- ---- current regions
+module _ (Has : ℕ → Type 0) where
+  there_holds : (over : Option Over) (slotted : Option Slotted) → IsSome over
+      → Holds Has over slotted → Has (slotted_or slotted).slot
+  there_holds None slotted is holds = let no : ⊥ = cc in absurd no
+  there_holds (Some over) slotted is holds = holds
+
+  pub hold_at : (currents : Currents) (slots : SlotCurrents) (rank : Rank)
+      → AllHold Has currents slots → HasCurrent currents rank → Has (slotted_at slots rank).slot
+  hold_at currents slots None hold has = absurd has
+  hold_at currents slots (Some zero) hold has = absurd has
+  hold_at currents slots (Some (suc zero)) hold has =
+      there_holds currents.one slots.one has hold.one
+  hold_at currents slots (Some (suc (suc zero))) hold has =
+      there_holds currents.two slots.two has hold.two
+  hold_at currents slots (Some (suc (suc (suc zero)))) hold has =
+      there_holds currents.three slots.three has hold.three
+  hold_at currents slots (Some (suc (suc (suc (suc rank))))) hold has = absurd has
+
+  pub hold_with : (currents : Currents) (slots : SlotCurrents) (rank : Rank) (over : Over)
+      (slotted : Slotted) → AllHold Has currents slots → Has slotted.slot
+      → AllHold Has (with_over currents rank over) (with_slotted slots rank slotted)
+  hold_with currents slots None over slotted hold has = hold
+  hold_with currents slots (Some zero) over slotted hold has = hold
+  hold_with currents slots (Some (suc zero)) over slotted hold has =
+      record { one = has; two = hold.two; three = hold.three }
+  hold_with currents slots (Some (suc (suc zero))) over slotted hold has =
+      record { one = hold.one; two = has; three = hold.three }
+  hold_with currents slots (Some (suc (suc (suc zero)))) over slotted hold has =
+      record { one = hold.one; two = hold.two; three = has }
+  hold_with currents slots (Some (suc (suc (suc (suc rank))))) over slotted hold has = hold
+
+module _ (Has More : ℕ → Type 0) (so : (slot : ℕ) → Has slot → More slot) where
+  one_so : (over : Option Over) (slotted : Option Slotted) → Holds Has over slotted
+      → Holds More over slotted
+  one_so None slotted hold = tt
+  one_so (Some over) slotted hold = so (slotted_or slotted).slot hold
+
+  hold_so : (currents : Currents) (slots : SlotCurrents) → AllHold Has currents slots
+      → AllHold More currents slots
+  hold_so currents slots hold = record {
+    one = one_so currents.one slots.one hold.one;
+    two = one_so currents.two slots.two hold.two;
+    three = one_so currents.three slots.three hold.three;
+  }
+
+-- the current region of a rank is the one that was put there
+pub slotted_with : (currents : Currents) (slots : SlotCurrents) (rank : Rank) (over : Over)
+    (slotted : Slotted) → HasCurrent (with_over currents rank over) rank
+    → HasCurrent currents rank → slotted_at (with_slotted slots rank slotted) rank ≡ slotted
+slotted_with currents slots None over slotted has had = absurd had
+slotted_with currents slots (Some zero) over slotted has had = absurd had
+slotted_with currents slots (Some (suc zero)) over slotted has had = refl
+slotted_with currents slots (Some (suc (suc zero))) over slotted has had = refl
+slotted_with currents slots (Some (suc (suc (suc zero)))) over slotted has had = refl
+slotted_with currents slots (Some (suc (suc (suc (suc rank))))) over slotted has had = absurd had
+
+-- ---- vectors, masks and indices
+vector_is : (shift : List ℤ) → length shift ≡ 3 → IsVector shift
+vector_is [] three = tt
+vector_is (d ∷ shift) three = three
+
+numbered_is : (numbers : Numbers) (rank : ℕ) (mask : Option Mask) → IsMaskOf numbers rank mask
+    → IsNumbered numbers mask
+numbered_is numbers rank None is = tt
+numbered_is numbers rank (Some mask) is = by (slice_get numbers.arrays mask.array) refl is
+  where
+    by : (stored : Option Stored) → slice_get numbers.arrays mask.array ≡ stored
+        → IsSomeAnd stored (λ stored. stored.storage.rank ≡ rank)
+        → (one : Stored) × (slice_get numbers.arrays mask.array ≡ Some one)
+    by None same is = absurd is
+    by (Some one) same is = (one, same)
+
+take_few : {X : Type 0} (n : ℕ) (xs : List X) → length (take n xs) ≤ n
+take_few zero xs = omega arith
+take_few (suc n) [] = omega arith
+take_few (suc n) (x ∷ xs) = let few = take_few n xs in omega (arith, few)
+
+indices_are : (count : ℕ) (stored : Option Stored) → IsRemapOf count stored
+    → HasIndices count stored
+indices_are count None is = tt
+indices_are count (Some stored) is =
+    let few = take_few stored.storage.rank stored.storage.dims in
+    let same = is.0 in
+    omega (arith, few, same)
+
+count_same : (all : Slates) → count_of all ≡ slates_count all
+count_same NoSlate = refl
+count_same (ThenSlate one rest) = ap suc (count_same rest)
+
+module _ (code : Tables) (Stays : ℕ → Type 0) where
+  -- ---- more is known later
+  usable_kept : (n m : ℕ) (facts after : List Fact) → KeepsBelow code n facts after → n ≤ m
+      → (slot : ℕ) → IsUsable code Stays n facts slot → IsUsable code Stays m after slot
+  usable_kept n m facts after kept less slot usable =
+      (ready_kept code n m facts after slot kept less usable.0, usable.1)
+
+  all_usable_kept : (n m : ℕ) (facts after : List Fact) → KeepsBelow code n facts after → n ≤ m
+      → (refs : List Reference) → AllUsable code Stays n facts refs
+      → AllUsable code Stays m after refs
+  all_usable_kept n m facts after kept less [] all = tt
+  all_usable_kept n m facts after kept less (one ∷ refs) all = (
+    usable_kept n m facts after kept less one.slot all.0,
+    all_usable_kept n m facts after kept less refs all.1,
+  )
+
+  usable_both : (n : ℕ) (facts : List Fact) (xs ys : List Reference)
+      → AllUsable code Stays n facts xs → AllUsable code Stays n facts ys
+      → AllUsable code Stays n facts (xs ++ ys)
+  usable_both n facts [] ys first rest = rest
+  usable_both n facts (x ∷ xs) ys first rest = (first.0, usable_both n facts xs ys first.1 rest)
+
+  refer_usable : (n : ℕ) (facts : List Fact) (slot : ℕ) (shift : List ℤ) (stored : Option Stored)
+      → IsUsable code Stays n facts slot → AllUsable code Stays n facts (refer_to slot shift stored)
+  refer_usable n facts slot shift None usable = tt
+  refer_usable n facts slot shift (Some stored) usable = (usable, tt)
+
+  pub over_usable : (n : ℕ) (facts : List Fact) (numbers : Numbers) (over : Slotted)
+      → IsUsable code Stays n facts over.slot
+      → AllUsable code Stays n facts (over_reference numbers over)
+  over_usable n facts numbers over usable = by over.mask
+    where
+      by : (mask : Option Mask)
+          → AllUsable code Stays n facts (mask_reference numbers over.slot mask)
+      by None = tt
+      by (Some mask) =
+          refer_usable n facts over.slot [] (slice_get numbers.arrays mask.array) usable
+
+  pub served_more : (w : Where) (currents : Currents) (n m : ℕ) (facts after : List Fact)
+      → KeepsBelow code n facts after → n ≤ m → IsServed code Stays w currents n facts
+      → IsServed code Stays w currents m after
+  served_more w currents n m facts after kept less served = record {
+    vectors = served.vectors;
+    regions = λ rank name is.
+        usable_kept n m facts after kept less (region_slot w.setup.known name)
+        (served.regions rank name is);
+    held = hold_so (IsUsable code Stays n facts) (IsUsable code Stays m after)
+        (usable_kept n m facts after kept less) currents w.currents served.held;
+  }
+
+  served_under : (w : Where) (currents : Currents) (n : ℕ) (facts : List Fact) (rank : Rank)
+      (over : Over) (source : Slotted) → IsServed code Stays w currents n facts
+      → IsUsable code Stays n facts source.slot
+      → IsServed code Stays (under_source w rank source) (with_over currents rank over) n facts
+  served_under w currents n facts rank over source served usable = record {
+    vectors = served.vectors;
+    regions = served.regions;
+    held = hold_with (IsUsable code Stays n facts) currents w.currents rank over source served.held
+        usable;
+  }
+
+  -- ---- brackets
+  formed_rows : (next line : ℕ) (forms : List Form) (opened : Opened) (slot : ℕ)
+      → In (filled_by opened.rows) slot → In (filled_by (formed next line forms opened).rows) slot
+  formed_rows next line [] opened slot h = h
+  formed_rows next line (one ∷ rest) opened slot h =
+      let made = row.Plain (instr.Formed one.form next opened.slot one.shift line) in
+      formed_rows (suc next) line rest
+      (record {
+        rows = opened.rows ++ made ∷ [];
+        slots = opened.slots ++ length opened.flood ∷ [];
+        slot = next;
+        flood = opened.flood;
+      }) slot (filled_left opened.rows (made ∷ []) slot h)
+
+  formed_stays : (next line : ℕ) (forms : List Form) (opened : Opened) → Stays opened.slot
+      → ((slot : ℕ) → In (filled_by (formed next line forms opened).rows) slot → Stays slot)
+      → Stays (formed next line forms opened).slot
+  formed_stays next line [] opened stays filled = stays
+  formed_stays next line (one ∷ rest) opened stays filled =
+      let made = row.Plain (instr.Formed one.form next opened.slot one.shift line) in
+      let more : Opened = record {
+        rows = opened.rows ++ made ∷ [];
+        slots = opened.slots ++ length opened.flood ∷ [];
+        slot = next;
+        flood = opened.flood;
+      } in
+      formed_stays (suc next) line rest more
+      (filled next
+      (formed_rows (suc next) line rest more next
+      (filled_right opened.rows (made ∷ []) next (inl refl)))) filled
+
+  -- what a bracket stands on stays
+  abbrev StaysOn : Where → Slotted → Inner → Type 0
+  StaysOn w current (Rexpr pre (NamedRegion name) post) =
+      is_index w.scope pre name post ≡ false → Stays (region_slot w.setup.known name)
+  StaysOn w current (Rexpr pre (Ditto at) post) = Stays current.slot
+  StaysOn w current (Dims dims) = Unit {0}
+
+  computed_stays : (w : Where) (n line : ℕ) (current : Slotted) (inner : Inner)
+      → StaysOn w current inner
+      → ((slot : ℕ) → In (filled_by (computed w n line current inner).rows) slot → Stays slot)
+      → Stays (computed w n line current inner).slot
+  computed_stays w n line current (Rexpr pre (NamedRegion name) post) stays filled =
+      by (is_index w.scope pre name post) stays filled
+    where
+      by : (b : Bool) → (b ≡ false → Stays (region_slot w.setup.known name))
+          → ((slot : ℕ) → In (filled_by (name_opened b w n line current pre name post).rows) slot
+          → Stays slot)
+          → Stays (name_opened b w n line current pre name post).slot
+      by true stays filled = filled n (inl refl)
+      by false stays filled =
+          formed_stays n line (forms_of w.setup.known pre post) (named_region w.setup.known name)
+          (stays refl) filled
+  computed_stays w n line current (Rexpr pre (Ditto at) post) stays filled =
+      formed_stays n line (forms_of w.setup.known pre post) (standing current.slot current.flood)
+      stays filled
+  computed_stays w n line current (Dims dims) stays filled = filled n (inl refl)
+
+  bracket_stays : (w : Where) (n line : ℕ) (current : Slotted) (inner : Inner)
+      → StaysOn w current inner
+      → ((slot : ℕ) → In (filled_by (bracket w n line current inner).rows) slot → Stays slot)
+      → Stays (bracket w n line current inner).slot
+  bracket_stays w n line current inner stays filled =
+      by (constant_region w inner) (computed w n line current inner)
+      (computed_stays w n line current inner stays) filled
+    where
+      which : (opened : Opened) (fixed : Opened) (rows : List Row) → opened.rows ≡ rows
+          → (((slot : ℕ) → In (filled_by opened.rows) slot → Stays slot) → Stays opened.slot)
+          → (((slot : ℕ) → In (filled_by fixed.rows) slot → Stays slot) → Stays fixed.slot)
+          → ((slot : ℕ) → In (filled_by (one_row rows opened fixed).rows) slot → Stays slot)
+          → Stays (one_row rows opened fixed).slot
+      which opened fixed [] is first rest filled = first filled
+      which opened fixed (one ∷ rows) is first rest filled = rest filled
+
+      by : (found : Option Region) (opened : Opened)
+          → (((slot : ℕ) → In (filled_by opened.rows) slot → Stays slot) → Stays opened.slot)
+          → ((slot : ℕ) → In (filled_by (fixed_or found n opened).rows) slot → Stays slot)
+          → Stays (fixed_or found n opened).slot
+      by None opened first filled = first filled
+      by (Some region) opened first filled =
+          which opened _ opened.rows refl first (λ own. own n (inl refl)) filled
+
+  stands_usable : (n : ℕ) (facts : List Fact) (w : Where) (result : ℕ) (currents : Currents)
+      (edge : Option Edge) (hint : Rank) (inner : Inner)
+      → IsServed code Stays w currents n facts
+      → IsProperRegion (place_at w result currents edge) hint inner
+      → IsRegionOf (place_at w result currents edge) hint inner
+      → (let current = slotted_at w.currents (inner_rank w.scope hint w.prefix inner) in
+      StandsOn code w n facts current inner × StaysOn w current inner)
+  stands_usable n facts w result currents edge hint (Rexpr pre (NamedRegion name) post) served
+      proper ranked =
+      ((λ is. (usable is).0), (λ is. (usable is).1))
+    where
+      rank : Rank
+      rank = option_map length (region_shape (kind_of w.scope name))
+
+      number : (r : Rank) → IsArrayRank r → (k : ℕ) × (r ≡ Some k)
+      number None is = absurd is
+      number (Some k) is = (k, refl)
+
+      usable : is_index w.scope pre name post ≡ false
+          → IsUsable code Stays n facts (region_slot w.setup.known name)
+      usable not_index =
+          let is : IsArrayRank rank =
+          subst (λ b. IsArrayRank (if b then Some 1 else rank)) not_index ranked.0 in
+          let found = number rank is in
+          served.regions found.0 name found.1
+  stands_usable n facts w result currents edge hint (Rexpr pre (Ditto at) post) served proper
+      ranked =
+      hold_at (IsUsable code Stays n facts) currents w.currents
+      (inner_rank w.scope hint w.prefix (Rexpr pre (Ditto at) post)) served.held proper
+  stands_usable n facts w result currents edge hint (Dims dims) served proper ranked = (tt, tt)
+
+-- ---- expressions
+
+-- its rows go and leave what was known; each element is read under a slot that stays, of which
+-- enough is known behind them
+pub record Settles (code : Tables) (Stays : ℕ → Type 0) (numbers : Numbers) (line : ℕ)
+    (next : Next) (slot : ℕ) (facts : List Fact) (done : Settled Slate) : Type 0 where
+  pub after : List Fact
+  pub is : behind_rows code facts done.rows ≡ after
+  pub met : AreMet code facts done.rows
+  pub kept : KeepsBelow code next.slots facts after
+  pub deep : IsDeep code Stays numbers line slot done.slate
+  pub usable : AllUsable code Stays (next.slots + length done.slots) after
+      (referred numbers done.slate)
+
+pub record SettlesAll (code : Tables) (Stays : ℕ → Type 0) (numbers : Numbers) (line : ℕ)
+    (next : Next) (slot : ℕ) (facts : List Fact) (done : Settled Slates) : Type 0 where
+  pub after : List Fact
+  pub is : behind_rows code facts done.rows ≡ after
+  pub met : AreMet code facts done.rows
+  pub kept : KeepsBelow code next.slots facts after
+  pub deep : AreDeep code Stays numbers line slot done.slate
+  pub usable : AllUsable code Stays (next.slots + length done.slots) after
+      (all_referred numbers done.slate)
+
+-- ---- an operator over a region, and its operand under it
+abbrev after_source : Where → ℕ → Next → Inner → Expr → Next
+after_source w line next source operand =
+    behind next (of_opened (opened_source w next line source operand))
+
+abbrev under_of : Where → ℕ → Next → Inner → Expr → Where
+under_of w line next source operand =
+    under_source w (source_rank w source operand)
+    (source_of (opened_source w next line source operand))
+
+abbrev currents_of : Where → Currents → Inner → Expr → Currents
+currents_of w currents source operand =
+    with_over currents (source_rank w source operand)
+    (record { region = no_region; mask = None })
+
+abbrev rest_of : Where → ℕ → Next → Inner → Expr → Settled Slate
+rest_of w line next source operand =
+    settled (under_of w line next source operand) line (after_source w line next source operand)
+    (source_rank w source operand) operand
+
+pub record SourceSettles (code : Tables) (Stays : ℕ → Type 0) (w : Where) (line : ℕ) (next : Next)
+    (source : Inner) (operand : Expr) (facts : List Fact) : Type 0 where
+  pub after : List Fact
+  pub is : behind_rows code facts
+      ((opened_source w next line source operand).rows
+      ++ (rest_of w line next source operand).rows)
+      ≡ after
+  pub met : AreMet code facts
+      ((opened_source w next line source operand).rows
+      ++ (rest_of w line next source operand).rows)
+  pub kept : KeepsBelow code next.slots facts after
+  pub over_stays : Stays (slotted_at w.currents (source_rank w source operand)).slot
+  pub stays : Stays (opened_source w next line source operand).slot
+  pub deep : IsDeep code Stays w.numbers line (opened_source w next line source operand).slot
+      (rest_of w line next source operand).slate
+  pub usable : AllUsable code Stays
+      (next.slots + length ((opened_source w next line source operand).slots
+      ++ (rest_of w line next source operand).slots)) after
+      (over_reference w.numbers (slotted_at w.currents (source_rank w source operand))
+      ++ referred w.numbers (rest_of w line next source operand).slate)
+
+module _ (code : Tables) (Stays : ℕ → Type 0) (base : Tables) where
+  -- nothing stands in front of it
+  still_settles : (numbers : Numbers) (line : ℕ) (next : Next) (slot : ℕ) (facts : List Fact)
+      (one : Slate) → IsDeep code Stays numbers line slot one
+      → AllUsable code Stays (next.slots + 0) facts (referred numbers one)
+      → Settles code Stays numbers line next slot facts (alone one)
+  still_settles numbers line next slot facts one deep usable = record {
+    after = facts;
+    is = refl;
+    met = tt;
+    kept = none_below code next.slots facts;
+    deep = deep;
+    usable = usable;
+  }
+
+  module _ (w : Where) (currents : Currents) (line : ℕ) (next : Next) (rank : Rank) (slot : ℕ)
+      (facts : List Fact) (served : IsServed code Stays w currents next.slots facts)
+      (here : HasCurrent currents rank → (slotted_at w.currents rank).slot ≡ slot) where
+    over_here : (m : ℕ) → next.slots ≤ m → HasCurrent currents rank
+        → IsUsable code Stays m facts (slotted_at w.currents rank).slot
+    over_here m less has =
+        usable_kept code Stays next.slots m facts facts (none_below code next.slots facts) less
+        (slotted_at w.currents rank).slot
+        (hold_at (IsUsable code Stays next.slots facts) currents w.currents rank served.held has)
+
+    element_settles : (place : ℕ) (shift : List ℤ) → HasCurrent currents rank → IsVector shift
+        → Settles code Stays w.numbers line next slot facts
+        (alone (slate.Element (slotted_at w.currents rank).slot place shift))
+    element_settles place shift has vector =
+        still_settles w.numbers line next slot facts
+        (slate.Element (slotted_at w.currents rank).slot place shift) (here has, vector)
+        (refer_usable code Stays (next.slots + 0) facts (slotted_at w.currents rank).slot shift
+        (slice_get w.numbers.arrays place) (over_here (next.slots + 0) (omega arith) has))
+
+    named_settles : (thing : Option Thing) → IsRead currents rank thing
+        → Settles code Stays w.numbers line next slot facts
+        (alone (named_slate (slotted_at w.currents rank) thing))
+    named_settles None read = absurd read
+    named_settles (Some (Scalar place)) read =
+        still_settles w.numbers line next slot facts (slate.Variable place) tt tt
+    named_settles (Some (Fixed value)) read =
+        still_settles w.numbers line next slot facts (slate.Constant value) tt tt
+    named_settles (Some (ArrayAt place home)) read = element_settles place [] read tt
+
+    shifted_settles : (shift : List ℤ) (thing : Option Thing) → IsArrayRead currents rank thing
+        → IsVector shift
+        → Settles code Stays w.numbers line next slot facts
+        (alone (shifted_slate (slotted_at w.currents rank) shift thing))
+    shifted_settles shift None read vector = absurd read.0
+    shifted_settles shift (Some (Scalar place)) read vector = absurd read.0
+    shifted_settles shift (Some (Fixed value)) read vector = absurd read.0
+    shifted_settles shift (Some (ArrayAt place home)) read vector =
+        element_settles place shift read.1 vector
+
+    around_settles : (r : ℕ) (shift : List ℤ) (thing : Option Thing)
+        → IsArrayRead currents rank thing
+        → FitsSlate base w.numbers r
+        (around_slate next (slotted_at w.currents rank) shift thing).slate
+        → AreWrapped code Stays w.numbers line
+        (around_slate next (slotted_at w.currents rank) shift thing).slate
+        → Settles code Stays w.numbers line next slot facts
+        (around_slate next (slotted_at w.currents rank) shift thing)
+    around_settles r shift None read fits wraps = absurd read.0
+    around_settles r shift (Some (Scalar place)) read fits wraps = absurd read.0
+    around_settles r shift (Some (Fixed value)) read fits wraps = absurd read.0
+    around_settles r shift (Some (ArrayAt place home)) read fits wraps =
+        let done = around_slate next (slotted_at w.currents rank) shift (Some (ArrayAt place home)) in
+        let usable = over_here (next.slots + length done.slots) (omega arith) read.1 in
+        record {
+          after = facts;
+          is = refl;
+          met = tt;
+          kept = none_below code next.slots facts;
+          deep = (here read.1, fits.3.1, wraps);
+          usable = (usable, (usable, tt));
+        }
+
+    remap_settles : (r : ℕ) (thing : Option Thing) (inside : Settled Slates)
+        → IsArrayRead currents rank thing
+        → FitsSlate base w.numbers r (remap_slate (slotted_at w.currents rank) thing inside.slate)
+        → SettlesAll code Stays w.numbers line next (slotted_at w.currents rank).slot facts inside
+        → Settles code Stays w.numbers line next slot facts
+        (mapped (remap_slate (slotted_at w.currents rank) thing) inside)
+    remap_settles r None inside read fits done = absurd read.0
+    remap_settles r (Some (Scalar place)) inside read fits done = absurd read.0
+    remap_settles r (Some (Fixed value)) inside read fits done = absurd read.0
+    remap_settles r (Some (ArrayAt place home)) inside read fits done =
+        let over = slotted_at w.currents rank in
+        let m : ℕ = next.slots + length inside.slots in
+        let first = hold_at (IsUsable code Stays next.slots facts) currents w.currents rank
+        served.held read.1 in
+        let usable = usable_kept code Stays next.slots m facts done.after done.kept (omega arith)
+        over.slot first in
+        record {
+          after = done.after;
+          is = done.is;
+          met = done.met;
+          kept = done.kept;
+          deep = (
+            here read.1,
+            first.1,
+            subst (λ n. HasIndices n (slice_get w.numbers.arrays place))
+                (sym (count_same inside.slate))
+                (indices_are (slates_count inside.slate) (slice_get w.numbers.arrays place) fits.1),
+            done.deep,
+          );
+          usable = usable_both code Stays m done.after (over_reference w.numbers over)
+              (all_referred w.numbers inside.slate)
+              (over_usable code Stays m done.after w.numbers over usable) done.usable;
+        }
+
+  -- ---- one behind the other
+  both_met : (facts between : List Fact) (xs ys : List Row) → behind_rows code facts xs ≡ between
+      → AreMet code facts xs → AreMet code between ys → AreMet code facts (xs ++ ys)
+  both_met facts between xs ys is first rest =
+      met_both code facts xs ys first (subst (λ f. AreMet code f ys) (sym is) rest)
+
+  both_are : (facts between after : List Fact) (xs ys : List Row)
+      → behind_rows code facts xs ≡ between → behind_rows code between ys ≡ after
+      → behind_rows code facts (xs ++ ys) ≡ after
+  both_are facts between after xs ys is also =
+      behind_both code facts xs ys ∙ ap (λ f. behind_rows code f ys) is ∙ also
+
+  long_both : (n : ℕ) (xs ys : List ℕ) → (n + length xs) + length ys ≡ n + length (xs ++ ys)
+  long_both n xs ys = let long = length-append xs ys in omega (arith, long)
+
+  opened_settles : (w : Where) (result : ℕ) (currents : Currents) (edge : Option Edge) (line : ℕ)
+      (next : Next) (source : Inner) (operand : Expr) (facts : List Fact)
+      → IsServed code Stays w currents next.slots facts
+      → IsProperRegion (place_at w result currents edge) (own_rank w.scope w.prefix operand) source
+      → IsRegionOf (place_at w result currents edge) (own_rank w.scope w.prefix operand) source
+      → AreOf code (opened_source w next line source operand).rows
+      → ((k : ℕ) → In (filled_by (opened_source w next line source operand).rows) k → Stays k)
+      → OpensWell code next.slots facts (opened_source w next line source operand)
+      × Stays (opened_source w next line source operand).slot
+  opened_settles w result currents edge line next source operand facts served proper ranked of
+      filled =
+      let current = slotted_at w.currents (source_rank w source operand) in
+      let stands = stands_usable code Stays next.slots facts w result currents edge
+      (own_rank w.scope w.prefix operand) source served proper ranked in (
+        bracket_well code w next.slots line current source facts stands.0 of,
+        bracket_stays code Stays w next.slots line current source stands.1 filled,
+      )
+
+  mutual
+    pub settled_well : (w : Where) (result : ℕ) (currents : Currents) (edge : Option Edge)
+        (line : ℕ) (next : Next) (rank : Rank) (slot : ℕ) (r : ℕ) (one : Expr) (facts : List Fact)
+        → IsServed code Stays w currents next.slots facts
+        → (HasCurrent currents rank → (slotted_at w.currents rank).slot ≡ slot)
+        → IsProper (place_at w result currents edge) rank one
+        → IsOfRank (place_at w result currents edge) rank one
+        → FitsSlate base w.numbers r (settled w line next rank one).slate
+        → AreWrapped code Stays w.numbers line (settled w line next rank one).slate
+        → AreOf code (settled w line next rank one).rows
+        → ((k : ℕ) → In (filled_by (settled w line next rank one).rows) k → Stays k)
+        → Settles code Stays w.numbers line next slot facts (settled w line next rank one)
+    settled_well w result currents edge line next rank slot r (Number at value) facts served here
+        proper ranked fits wraps of filled =
+        still_settles w.numbers line next slot facts _ tt tt
+    settled_well w result currents edge line next rank slot r (Truth at value) facts served here
+        proper ranked fits wraps of filled =
+        still_settles w.numbers line next slot facts _ tt tt
+    settled_well w result currents edge line next rank slot r (Coord at k) facts served here proper
+        ranked fits wraps of filled =
+        still_settles w.numbers line next slot facts (slate.Coordinate k) tt tt
+    settled_well w result currents edge line next rank slot r (Named at name) facts served here
+        proper ranked fits wraps of filled =
+        named_settles w currents line next rank slot facts served here
+        (thing_of w.environment name.text) proper
+    settled_well w result currents edge line next rank slot r (Shifted at name shift) facts served
+        here proper ranked fits wraps of filled =
+        shifted_settles w currents line next rank slot facts served here
+        (vector_in w.setup.known shift) (thing_of w.environment name.text) proper
+        (vector_is (vector_in w.setup.known shift) (served.vectors shift))
+    settled_well w result currents edge line next rank slot r (Around at name shift) facts served
+        here proper ranked fits wraps of filled =
+        around_settles w currents line next rank slot facts served here r
+        (vector_in w.setup.known shift) (thing_of w.environment name.text) proper fits wraps
+    settled_well w result currents edge line next rank slot r (Remap at name indices) facts served
+        here proper ranked fits wraps of filled =
+        remap_all w result currents edge line next rank slot r indices
+        (thing_of w.environment name.text) facts served here proper.0 proper.1 ranked.1 fits wraps of
+        filled
+    settled_well w result currents edge line next rank slot r (Call at name actuals) facts served
+        here proper ranked fits wraps of filled = absurd proper
+    settled_well w result currents edge line next rank slot r (Paren at inside) facts served here
+        proper ranked fits wraps of filled =
+        settled_well w result currents edge line next rank slot r inside facts served here proper
+        ranked fits wraps of filled
+    settled_well w result currents edge line next rank slot r (Neg at operand) facts served here
+        proper ranked fits wraps of filled =
+        let inner = settled_well w result currents edge line next rank slot r operand facts served
+        here proper ranked fits wraps of filled in
+        record {
+          after = inner.after;
+          is = inner.is;
+          met = inner.met;
+          kept = inner.kept;
+          deep = inner.deep;
+          usable = inner.usable;
+        }
+    settled_well w result currents edge line next rank slot r (Not at operand) facts served here
+        proper ranked fits wraps of filled =
+        let inner = settled_well w result currents edge line next rank slot r operand facts served
+        here proper ranked fits wraps of filled in
+        record {
+          after = inner.after;
+          is = inner.is;
+          met = inner.met;
+          kept = inner.kept;
+          deep = inner.deep;
+          usable = inner.usable;
+        }
+    settled_well w result currents edge line next rank slot r (Abs at operand) facts served here
+        proper ranked fits wraps of filled =
+        let inner = settled_well w result currents edge line next rank slot r operand facts served
+        here proper ranked fits wraps of filled in
+        record {
+          after = inner.after;
+          is = inner.is;
+          met = inner.met;
+          kept = inner.kept;
+          deep = inner.deep;
+          usable = inner.usable;
+        }
+    settled_well w result currents edge line next rank slot r (Pair at op left right) facts served
+        here proper ranked fits wraps of filled =
+        let first : Settled Slate = settled w line next rank left in
+        let rest : Settled Slate = settled w line (behind next first) rank right in
+        let k : ℕ = next.slots + length first.slots in
+        let m : ℕ = next.slots + length (first.slots ++ rest.slots) in
+        let one = settled_well w result currents edge line next rank slot r left facts served here
+        proper.0 ranked.0 fits.0 wraps.0 (of_left code first.rows rest.rows of)
+        (λ n h. filled n (filled_left first.rows rest.rows n h)) in
+        let other = settled_well w result currents edge line (behind next first) rank slot r right
+        one.after
+        (served_more code Stays w currents next.slots k facts one.after one.kept (omega arith) served)
+        here proper.1 ranked.1 fits.1 wraps.1 (of_right code first.rows rest.rows of)
+        (λ n h. filled n (filled_right first.rows rest.rows n h)) in
+        let long = long_both next.slots first.slots rest.slots in
+        record {
+          after = other.after;
+          is = both_are facts one.after other.after first.rows rest.rows one.is other.is;
+          met = both_met facts one.after first.rows rest.rows one.is one.met other.met;
+          kept = below_more code next.slots k facts one.after other.after (omega arith) one.kept
+              other.kept;
+          deep = (one.deep, other.deep);
+          usable = usable_both code Stays m other.after (referred w.numbers first.slate)
+              (referred w.numbers rest.slate)
+              (all_usable_kept code Stays k m one.after other.after other.kept (omega (arith, long))
+              (referred w.numbers first.slate) one.usable)
+              (all_usable_kept code Stays (k + length rest.slots) m other.after other.after
+              (none_below code (k + length rest.slots) other.after) (omega (arith, long))
+              (referred w.numbers rest.slate) other.usable);
+        }
+    settled_well w result currents edge line next rank slot r (Reduce at operator NoBracket operand)
+        facts served here proper ranked fits wraps of filled =
+        let under : Rank = operand_rank w.scope w.prefix operand in
+        let over : Slotted = slotted_at w.currents under in
+        let done : Settled Slate = settled w line next under operand in
+        let m : ℕ = next.slots + length done.slots in
+        let inner = settled_well w result currents edge line next under over.slot fits.0 operand facts
+        served (λ has. refl) proper.1 ranked fits.1.1 wraps of filled in
+        let usable = usable_kept code Stays next.slots m facts inner.after inner.kept (omega arith)
+        over.slot
+        (hold_at (IsUsable code Stays next.slots facts) currents w.currents under served.held proper.0)
+        in
+        record {
+          after = inner.after;
+          is = inner.is;
+          met = inner.met;
+          kept = inner.kept;
+          deep = inner.deep;
+          usable = usable_both code Stays m inner.after (referred w.numbers done.slate)
+              (over_reference w.numbers over) inner.usable
+              (over_usable code Stays m inner.after w.numbers over usable);
+        }
+    settled_well w result currents edge line next rank slot r
+        (Reduce at operator (Bracketed source) operand) facts served here proper ranked fits wraps of
+        filled =
+        let inner = source_well w result currents edge line next r source operand facts served
+        proper.0 proper.1 (proper.2 no_region) ranked.1 (ranked.2 no_region) fits.2 wraps of filled in
+        record {
+          after = inner.after;
+          is = inner.is;
+          met = inner.met;
+          kept = inner.kept;
+          deep = (
+            subst (λ o. HasCurrent currents o → (slotted_at w.currents o).slot ≡ slot)
+                (sym ranked.0) here proper.0,
+            inner.over_stays,
+            inner.stays,
+            inner.deep,
+          );
+          usable = inner.usable;
+        }
+    settled_well w result currents edge line next rank slot r (Scan at operator along operand) facts
+        served here proper ranked fits wraps of filled =
+        let over : Slotted = slotted_at w.currents rank in
+        let done : Settled Slate = settled w line next rank operand in
+        let m : ℕ = next.slots + length done.slots in
+        let inner = settled_well w result currents edge line next rank over.slot r operand facts
+        served (λ has. refl) proper.1 ranked.1 fits.2 wraps of filled in
+        let first = hold_at (IsUsable code Stays next.slots facts) currents w.currents rank
+        served.held proper.0 in
+        let usable = usable_kept code Stays next.slots m facts inner.after inner.kept (omega arith)
+        over.slot first in
+        record {
+          after = inner.after;
+          is = inner.is;
+          met = inner.met;
+          kept = inner.kept;
+          deep = (
+            here proper.0,
+            first.1,
+            numbered_is w.numbers r over.mask fits.0.masked,
+            inner.deep,
+          );
+          usable = usable_both code Stays m inner.after (referred w.numbers done.slate)
+              (over_reference w.numbers over) inner.usable
+              (over_usable code Stays m inner.after w.numbers over usable);
+        }
+    settled_well w result currents edge line next rank slot r (Flood at source operand) facts served
+        here proper ranked fits wraps of filled =
+        let inner = source_well w result currents edge line next r source operand facts served
+        proper.0 proper.1 (proper.2 no_region) ranked.1 (ranked.2 no_region) fits.2 wraps of filled in
+        record {
+          after = inner.after;
+          is = inner.is;
+          met = inner.met;
+          kept = inner.kept;
+          deep = (
+            subst (λ o. HasCurrent currents o → (slotted_at w.currents o).slot ≡ slot)
+                (sym ranked.0) here proper.0,
+            inner.over_stays,
+            inner.stays,
+            inner.deep,
+          );
+          usable = inner.usable;
+        }
+
+    -- an operator's region, and its operand under it
+    source_well : (w : Where) (result : ℕ) (currents : Currents) (edge : Option Edge) (line : ℕ)
+        (next : Next) (r : ℕ) (source : Inner) (operand : Expr) (facts : List Fact)
+        → IsServed code Stays w currents next.slots facts
+        → HasCurrent currents (source_rank w source operand)
+        → IsProperRegion (place_at w result currents edge) (own_rank w.scope w.prefix operand) source
+        → IsProper
+        (place_at (under_of w line next source operand) result (currents_of w currents source operand)
+        edge) (source_rank w source operand) operand
+        → IsRegionOf (place_at w result currents edge) (own_rank w.scope w.prefix operand) source
+        → IsOfRank
+        (place_at (under_of w line next source operand) result (currents_of w currents source operand)
+        edge) (source_rank w source operand) operand
+        → FitsSlate base w.numbers r (rest_of w line next source operand).slate
+        → AreWrapped code Stays w.numbers line (rest_of w line next source operand).slate
+        → AreOf code
+        ((opened_source w next line source operand).rows ++ (rest_of w line next source operand).rows)
+        → ((k : ℕ)
+        → In (filled_by ((opened_source w next line source operand).rows
+        ++ (rest_of w line next source operand).rows)) k → Stays k)
+        → SourceSettles code Stays w line next source operand facts
+    source_well w result currents edge line next r source operand facts served has proper inside
+        ranked also fits wraps of filled =
+        let rank : Rank = source_rank w source operand in
+        let over : Slotted = slotted_at w.currents rank in
+        let opened : Opened = opened_source w next line source operand in
+        let under : Where = under_of w line next source operand in
+        let rest : Settled Slate = rest_of w line next source operand in
+        let k : ℕ = next.slots + length opened.slots in
+        let m : ℕ = next.slots + length (opened.slots ++ rest.slots) in
+        let well = opened_settles w result currents edge line next source operand facts served proper
+        ranked (of_left code opened.rows rest.rows of)
+        (λ n h. filled n (filled_left opened.rows rest.rows n h)) in
+        let between : List Fact = behind_rows code facts opened.rows in
+        let first = hold_at (IsUsable code Stays next.slots facts) currents w.currents rank
+        served.held has in
+        let more = served_more code Stays w currents next.slots k facts between well.0.kept
+        (omega arith) served in
+        let inner = settled_well under result (currents_of w currents source operand) edge line
+        (after_source w line next source operand) rank opened.slot r operand between
+        (served_under code Stays w currents k between rank
+        (record { region = no_region; mask = None }) (source_of opened) more
+        (well.0.ready, well.1))
+        (λ now. ap (λ (s : Slotted). s.slot)
+        (slotted_with currents w.currents rank (record { region = no_region; mask = None })
+        (source_of opened) now has)) inside also fits wraps (of_right code opened.rows rest.rows of)
+        (λ n h. filled n (filled_right opened.rows rest.rows n h)) in
+        let long = long_both next.slots opened.slots rest.slots in
+        let kept : KeepsBelow code next.slots facts inner.after =
+        below_more code next.slots k facts between inner.after (omega arith) well.0.kept inner.kept in
+        record {
+          after = inner.after;
+          is = both_are facts between inner.after opened.rows rest.rows refl inner.is;
+          met = both_met facts between opened.rows rest.rows refl well.0.met inner.met;
+          kept = kept;
+          over_stays = first.1;
+          stays = well.1;
+          deep = inner.deep;
+          usable = usable_both code Stays m inner.after (over_reference w.numbers over)
+              (referred w.numbers rest.slate)
+              (over_usable code Stays m inner.after w.numbers over
+              (usable_kept code Stays next.slots m facts inner.after kept (omega arith) over.slot
+              first))
+              (all_usable_kept code Stays (k + length rest.slots) m inner.after inner.after
+              (none_below code (k + length rest.slots) inner.after) (omega (arith, long))
+              (referred w.numbers rest.slate) inner.usable);
+        }
+
+    remap_all : (w : Where) (result : ℕ) (currents : Currents) (edge : Option Edge) (line : ℕ)
+        (next : Next) (rank : Rank) (slot : ℕ) (r : ℕ) (indices : Exprs) (thing : Option Thing)
+        (facts : List Fact) → IsServed code Stays w currents next.slots facts
+        → (HasCurrent currents rank → (slotted_at w.currents rank).slot ≡ slot)
+        → IsArrayRead currents rank thing
+        → AreProper (place_at w result currents edge) rank indices
+        → AreOfRank (place_at w result currents edge) rank indices
+        → FitsSlate base w.numbers r
+        (remap_slate (slotted_at w.currents rank) thing (settled_all w line next rank indices).slate)
+        → AreWrapped code Stays w.numbers line
+        (remap_slate (slotted_at w.currents rank) thing (settled_all w line next rank indices).slate)
+        → AreOf code (settled_all w line next rank indices).rows
+        → ((k : ℕ) → In (filled_by (settled_all w line next rank indices).rows) k → Stays k)
+        → Settles code Stays w.numbers line next slot facts
+        (mapped (remap_slate (slotted_at w.currents rank) thing)
+        (settled_all w line next rank indices))
+    remap_all w result currents edge line next rank slot r indices None facts served here read proper
+        ranked fits wraps of filled = absurd read.0
+    remap_all w result currents edge line next rank slot r indices (Some (Scalar place)) facts served
+        here read proper ranked fits wraps of filled = absurd read.0
+    remap_all w result currents edge line next rank slot r indices (Some (Fixed value)) facts served
+        here read proper ranked fits wraps of filled = absurd read.0
+    remap_all w result currents edge line next rank slot r indices (Some (ArrayAt place home)) facts
+        served here read proper ranked fits wraps of filled =
+        remap_settles w currents line next rank slot facts served here r (Some (ArrayAt place home))
+        (settled_all w line next rank indices) read fits
+        (settled_all_well w result currents edge line next rank (slotted_at w.currents rank).slot r
+        indices facts served (λ has. refl) proper ranked fits.2 wraps of filled)
+
+    settled_all_well : (w : Where) (result : ℕ) (currents : Currents) (edge : Option Edge)
+        (line : ℕ) (next : Next) (rank : Rank) (slot : ℕ) (r : ℕ) (all : Exprs)
+        (facts : List Fact) → IsServed code Stays w currents next.slots facts
+        → (HasCurrent currents rank → (slotted_at w.currents rank).slot ≡ slot)
+        → AreProper (place_at w result currents edge) rank all
+        → AreOfRank (place_at w result currents edge) rank all
+        → FitsSlates base w.numbers r (settled_all w line next rank all).slate
+        → AllWrapped code Stays w.numbers line (settled_all w line next rank all).slate
+        → AreOf code (settled_all w line next rank all).rows
+        → ((k : ℕ) → In (filled_by (settled_all w line next rank all).rows) k → Stays k)
+        → SettlesAll code Stays w.numbers line next slot facts (settled_all w line next rank all)
+    settled_all_well w result currents edge line next rank slot r NoExpr facts served here proper
+        ranked fits wraps of filled =
+        record {
+          after = facts;
+          is = refl;
+          met = tt;
+          kept = none_below code next.slots facts;
+          deep = tt;
+          usable = tt;
+        }
+    settled_all_well w result currents edge line next rank slot r (ThenExpr left right) facts served
+        here proper ranked fits wraps of filled =
+        let first : Settled Slate = settled w line next rank left in
+        let rest : Settled Slates = settled_all w line (behind next first) rank right in
+        let k : ℕ = next.slots + length first.slots in
+        let m : ℕ = next.slots + length (first.slots ++ rest.slots) in
+        let one = settled_well w result currents edge line next rank slot r left facts served here
+        proper.0 ranked.0 fits.0 wraps.0 (of_left code first.rows rest.rows of)
+        (λ n h. filled n (filled_left first.rows rest.rows n h)) in
+        let other = settled_all_well w result currents edge line (behind next first) rank slot r right
+        one.after
+        (served_more code Stays w currents next.slots k facts one.after one.kept (omega arith) served)
+        here proper.1 ranked.1 fits.1 wraps.1 (of_right code first.rows rest.rows of)
+        (λ n h. filled n (filled_right first.rows rest.rows n h)) in
+        let long = long_both next.slots first.slots rest.slots in
+        record {
+          after = other.after;
+          is = both_are facts one.after other.after first.rows rest.rows one.is other.is;
+          met = both_met facts one.after first.rows rest.rows one.is one.met other.met;
+          kept = below_more code next.slots k facts one.after other.after (omega arith) one.kept
+              other.kept;
+          deep = (one.deep, other.deep);
+          usable = usable_both code Stays m other.after (referred w.numbers first.slate)
+              (all_referred w.numbers rest.slate)
+              (all_usable_kept code Stays k m one.after other.after other.kept (omega (arith, long))
+              (referred w.numbers first.slate) one.usable)
+              (all_usable_kept code Stays (k + length rest.slots) m other.after other.after
+              (none_below code (k + length rest.slots) other.after) (omega (arith, long))
+              (all_referred w.numbers rest.slate) other.usable);
+        }
