@@ -14,3 +14,4 @@ pub mod PhaseLemmas
 mod Examples
 pub mod WalkLemmas
 pub mod SettledLemmas
+pub mod StatementLemmas

@@ -15,6 +15,7 @@ use Rattle.code_parts.specs.of_zpl_region.declared.dims.Dim.{Dim}
 use Rattle.code_parts.specs.of_zpl_region.declared.dims.Dim.TheVariants as dim
 use Rattle.code_parts.specs.of_zpl_region.declared.regions.Region.{Region}
 use Rattle.zpl_meaning.specs.Context.{Mask}
+use Rattle.zpl_lowering.specs.of_node_form.declared.instructions.Instr.{Instr}
 use Rattle.zpl_lowering.specs.of_node_form.declared.instructions.Instr.TheVariants as instr
 use Rattle.zpl_lowering.specs.of_node_form.declared.instructions.SameKind.TheVariants as kind
 use Rattle.zpl_lowering.specs.of_node_form.declared.tables.Tables.{Tables}
@@ -304,7 +305,7 @@ module _ (code : Tables) (Stays : ℕ → Type 0) where
 
     -- A temporary is filled over a slot, and another one is made of it by one row.
     temp_made : (line n m from under over slot : ℕ) (facts : List Fact) (left : Expression)
-        (mask : Option Words) (one : _)
+        (mask : Option Words) (one : Instr)
         → (let rows = row.Plain (instr.Room from under)
         ∷ row.Loop under (row.Put from (words_of left) mask line ∷ [])
         ∷ row.Plain (instr.Room (suc from) over) ∷ row.Plain one ∷ [] in

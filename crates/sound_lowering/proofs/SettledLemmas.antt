@@ -3,12 +3,15 @@
 use Rattle.std.proofs.Common.{◌≡◌, ◌⊎◌, inl, inr, ℕ, zero, suc, ◌+◌, ◌<◌, ◌≤◌, Bool, true, false, if◌then◌else◌, ℤ, List, [], ◌∷◌, ◌++◌, length, take, refl, sym, ap, ◌∙◌, subst, arith, length-append}
 use Rattle.std.specs.Prelude.{Option, Some, None, IsSome, option_map, slice_get}
 use Rattle.std.specs.Option.{IsSomeAnd}
+use Rattle.code_parts.specs.of_zpl_nums.Integer.{truth}
 use Rattle.code_parts.specs.of_zpl_region.declared.regions.Region.{Region}
 use Rattle.zpl_lowering.specs.of_zpl_tree.Syntax.{Name, Expr, Number, Truth, Coord, Named, Shifted, Around, Remap, Call, Paren, Neg, Not, Abs, Pair, Reduce, Scan, Flood, Exprs, NoExpr, ThenExpr, Dir, NamedRegion, Ditto, Inner, Rexpr, Dims, NoBracket, Bracketed}
-use Rattle.zpl_lowering.specs.of_zpl_names.Kinds.{Rank}
+use Rattle.zpl_lowering.specs.of_zpl_names.Kinds.{Rank, Shape}
 use Rattle.zpl_lowering.specs.of_zpl_names.Scope.{kind_of}
-use Rattle.zpl_lowering.specs.of_zpl_names.Ranks.{inner_rank, is_index, operand_rank, own_rank, region_shape}
+use Rattle.zpl_lowering.specs.of_zpl_names.Ranks.{array_rank, array_shape, exprs_count, inner_rank, is_index, operand_rank, own_rank, region_shape}
 use Rattle.zpl_binding.specs.Regions.{no_region}
+use Rattle.code_parts.specs.of_zpl_arrays.Around.{copy_shift, each_rest, zeros}
+use Rattle.code_parts.specs.of_zpl_region.Ends.{has_none}
 use Rattle.zpl_meaning.specs.Store.{Thing, Scalar, ArrayAt, Fixed, thing_of}
 use Rattle.zpl_meaning.specs.Context.{Currents, Edge, Mask, Over, with_over}
 use Rattle.zpl_meaning.specs.Regions.{vector_in}
@@ -21,18 +24,17 @@ use Rattle.zpl_lowering.specs.of_flat_form.Row as row
 use Rattle.zpl_lowering.specs.of_flat_form.Row.{Row}
 use Rattle.zpl_lowering.specs.of_node_form.declared.instructions.Instr.TheVariants as instr
 use Rattle.zpl_lowering.specs.Where.{Next, Numbers, SlotCurrents, Slotted, Stored, Where, slotted_at, slotted_or, with_slotted}
-use Rattle.zpl_lowering.specs.Bracket.{Form, Opened, bracket, computed, constant_region, filled, fixed_or, formed, forms_of, name_opened, named_region, one_row, region_slot, standing}
+use Rattle.zpl_lowering.specs.Bracket.{Form, Opened, bracket, computed, constant_region, fixed_or, formed, forms_of, name_opened, named_region, one_row, region_slot, standing}
 use Rattle.zpl_lowering.specs.Reference.{Reference, all_referred, at_place, mask_reference, over_reference, refer_to, referred}
 use Rattle.zpl_lowering.specs.Slate as slate
 use Rattle.zpl_lowering.specs.Slate.{NoSlate, Placed, Settled, Slate, Slates, ThenSlate, alone, around_slate, behind, mapped, named_slate, of_opened, opened_source, remap_slate, settled, settled_all, settled_each, shifted_slate, source_of, source_rank, under_source}
-use Rattle.lowering_fits.specs.Reach.{place_at}
-use Rattle.lowering_fits.specs.Slates.{FitsSlate, FitsSlates, IsMaskOf, IsRemapOf, slates_count}
+use Rattle.lowering_fits.specs.Reach.{IsStoredAs, place_at}
 use Rattle.node_check.specs.declared.facts.Fact.{Fact}
 use Rattle.sound_lowering.specs.Goes.{AreMet, behind_rows}
 use Rattle.sound_lowering.specs.Steady.{KeepsBelow}
 use Rattle.sound_lowering.specs.Tells.{IsReady}
 use Rattle.sound_lowering.specs.Deep.{AreDeep, AreDeepAt, AreOf, HasIndices, IsDeep, IsNumbered, IsVector, count_of}
-use Rattle.sound_lowering.specs.Served.{AllHold, AllUsable, AllWrapped, AreWrapped, Holds, IsServed, IsUsable, filled_by}
+use Rattle.sound_lowering.specs.Served.{AllHold, AllUsable, AllWrapped, AreWrapped, Holds, IsServed, IsUsable, Serves, filled_by}
 use Rattle.sound_lowering.proofs.OldLemmas.{behind_both, below_more, met_both}
 use Rattle.sound_lowering.proofs.RoomLemmas.{of_left, of_right}
 use Rattle.sound_lowering.proofs.BracketLemmas.{OpensWell, StandsOn, bracket_well, ready_kept}
@@ -63,14 +65,14 @@ filled_right (row.Dims own parts line ∷ xs) ys slot h = inr (filled_right xs y
 filled_right (one ∷ xs) ys slot h = filled_right xs ys slot h
 
 -- ---- current regions
-module _ (Has : ℕ → Type 0) where
+module _ (Has : Slotted → Type 0) where
   there_holds : (over : Option Over) (slotted : Option Slotted) → IsSome over
-      → Holds Has over slotted → Has (slotted_or slotted).slot
+      → Holds Has over slotted → Has (slotted_or slotted)
   there_holds None slotted is holds = let no : ⊥ = cc in absurd no
   there_holds (Some over) slotted is holds = holds
 
   pub hold_at : (currents : Currents) (slots : SlotCurrents) (rank : Rank)
-      → AllHold Has currents slots → HasCurrent currents rank → Has (slotted_at slots rank).slot
+      → AllHold Has currents slots → HasCurrent currents rank → Has (slotted_at slots rank)
   hold_at currents slots None hold has = absurd has
   hold_at currents slots (Some zero) hold has = absurd has
   hold_at currents slots (Some (suc zero)) hold has =
@@ -82,7 +84,7 @@ module _ (Has : ℕ → Type 0) where
   hold_at currents slots (Some (suc (suc (suc (suc rank))))) hold has = absurd has
 
   pub hold_with : (currents : Currents) (slots : SlotCurrents) (rank : Rank) (over : Over)
-      (slotted : Slotted) → AllHold Has currents slots → Has slotted.slot
+      (slotted : Slotted) → AllHold Has currents slots → Has slotted
       → AllHold Has (with_over currents rank over) (with_slotted slots rank slotted)
   hold_with currents slots None over slotted hold has = hold
   hold_with currents slots (Some zero) over slotted hold has = hold
@@ -94,13 +96,13 @@ module _ (Has : ℕ → Type 0) where
       record { one = hold.one; two = hold.two; three = has }
   hold_with currents slots (Some (suc (suc (suc (suc rank))))) over slotted hold has = hold
 
-module _ (Has More : ℕ → Type 0) (so : (slot : ℕ) → Has slot → More slot) where
+module _ (Has More : Slotted → Type 0) (so : (over : Slotted) → Has over → More over) where
   one_so : (over : Option Over) (slotted : Option Slotted) → Holds Has over slotted
       → Holds More over slotted
   one_so None slotted hold = tt
-  one_so (Some over) slotted hold = so (slotted_or slotted).slot hold
+  one_so (Some over) slotted hold = so (slotted_or slotted) hold
 
-  hold_so : (currents : Currents) (slots : SlotCurrents) → AllHold Has currents slots
+  pub hold_so : (currents : Currents) (slots : SlotCurrents) → AllHold Has currents slots
       → AllHold More currents slots
   hold_so currents slots hold = record {
     one = one_so currents.one slots.one hold.one;
@@ -124,42 +126,53 @@ vector_is : (shift : List ℤ) → length shift ≡ 3 → IsVector shift
 vector_is [] three = tt
 vector_is (d ∷ shift) three = three
 
-numbered_is : (numbers : Numbers) (rank : ℕ) (mask : Option Mask) → IsMaskOf numbers rank mask
-    → IsNumbered numbers mask
-numbered_is numbers rank None is = tt
-numbered_is numbers rank (Some mask) is = by (slice_get numbers.arrays mask.array) refl is
-  where
-    by : (stored : Option Stored) → slice_get numbers.arrays mask.array ≡ stored
-        → IsSomeAnd stored (λ stored. stored.storage.rank ≡ rank)
-        → (one : Stored) × (slice_get numbers.arrays mask.array ≡ Some one)
-    by None same is = absurd is
-    by (Some one) same is = (one, same)
-
 take_few : {X : Type 0} (n : ℕ) (xs : List X) → length (take n xs) ≤ n
-take_few zero xs = omega arith
+take_few zero [] = omega arith
+take_few zero (x ∷ xs) = omega arith
 take_few (suc n) [] = omega arith
 take_few (suc n) (x ∷ xs) = let few = take_few n xs in omega (arith, few)
 
-indices_are : (count : ℕ) (stored : Option Stored) → IsRemapOf count stored
+-- an array has as many dimensions as the text says
+indices_are : (count : ℕ) (shape : Option Shape) (stored : Option Stored)
+    → option_map length shape ≡ Some count → IsSomeAnd stored (IsStoredAs shape)
     → HasIndices count stored
-indices_are count None is = tt
-indices_are count (Some stored) is =
+indices_are count shape None is has = tt
+indices_are count shape (Some stored) is has =
     let few = take_few stored.storage.rank stored.storage.dims in
-    let same = is.0 in
-    omega (arith, few, same)
+    let same : Some count ≡ Some stored.storage.rank = sym is ∙ has.rank in
+    let ranks : count ≡ stored.storage.rank = some_same count stored.storage.rank same in
+    omega (arith, few, ranks)
+  where
+    some_same : (a b : ℕ) → Some a ≡ Some b → a ≡ b
+    some_same a b e = cc
 
-count_same : (all : Slates) → count_of all ≡ slates_count all
-count_same NoSlate = refl
-count_same (ThenSlate one rest) = ap suc (count_same rest)
+-- ---- the shift with which a copy is read
+zeros_long : (v : List ℤ) → length (zeros v) ≡ length v
+zeros_long [] = refl
+zeros_long (d ∷ v) = ap suc (zeros_long v)
+
+rest_long : (v : List ℤ) (dims : List Dim) → length dims ≡ length v
+    → length (each_rest v dims) ≡ length v
+rest_long [] dims same = refl
+rest_long (d ∷ v) [] same = same
+rest_long (d ∷ v) (one ∷ dims) same = ap suc (rest_long v dims (omega (arith, same)))
+
+copy_long : (home : Region) (shift : List ℤ) → length home.dims ≡ 3 → length shift ≡ 3
+    → length (copy_shift home shift) ≡ 3
+copy_long home shift three long = by (has_none home)
+  where
+    by : (b : Bool) → length (if b then zeros shift else each_rest shift home.dims) ≡ 3
+    by true = zeros_long shift ∙ long
+    by false = rest_long shift home.dims (three ∙ sym long) ∙ long
 
 module _ (code : Tables) (Stays : ℕ → Type 0) where
   -- ---- more is known later
-  usable_kept : (n m : ℕ) (facts after : List Fact) → KeepsBelow code n facts after → n ≤ m
+  pub usable_kept : (n m : ℕ) (facts after : List Fact) → KeepsBelow code n facts after → n ≤ m
       → (slot : ℕ) → IsUsable code Stays n facts slot → IsUsable code Stays m after slot
   usable_kept n m facts after kept less slot usable =
       (ready_kept code n m facts after slot kept less usable.0, usable.1)
 
-  all_usable_kept : (n m : ℕ) (facts after : List Fact) → KeepsBelow code n facts after → n ≤ m
+  pub all_usable_kept : (n m : ℕ) (facts after : List Fact) → KeepsBelow code n facts after → n ≤ m
       → (refs : List Reference) → AllUsable code Stays n facts refs
       → AllUsable code Stays m after refs
   all_usable_kept n m facts after kept less [] all = tt
@@ -168,13 +181,13 @@ module _ (code : Tables) (Stays : ℕ → Type 0) where
     all_usable_kept n m facts after kept less refs all.1,
   )
 
-  usable_both : (n : ℕ) (facts : List Fact) (xs ys : List Reference)
+  pub usable_both : (n : ℕ) (facts : List Fact) (xs ys : List Reference)
       → AllUsable code Stays n facts xs → AllUsable code Stays n facts ys
       → AllUsable code Stays n facts (xs ++ ys)
   usable_both n facts [] ys first rest = rest
   usable_both n facts (x ∷ xs) ys first rest = (first.0, usable_both n facts xs ys first.1 rest)
 
-  refer_usable : (n : ℕ) (facts : List Fact) (slot : ℕ) (shift : List ℤ) (stored : Option Stored)
+  pub refer_usable : (n : ℕ) (facts : List Fact) (slot : ℕ) (shift : List ℤ) (stored : Option Stored)
       → IsUsable code Stays n facts slot → AllUsable code Stays n facts (refer_to slot shift stored)
   refer_usable n facts slot shift None usable = tt
   refer_usable n facts slot shift (Some stored) usable = (usable, tt)
@@ -198,19 +211,22 @@ module _ (code : Tables) (Stays : ℕ → Type 0) where
     regions = λ rank name is.
         usable_kept n m facts after kept less (region_slot w.setup.known name)
         (served.regions rank name is);
-    held = hold_so (IsUsable code Stays n facts) (IsUsable code Stays m after)
-        (usable_kept n m facts after kept less) currents w.currents served.held;
+    held = hold_so (Serves code Stays w.numbers n facts) (Serves code Stays w.numbers m after)
+        (λ over serves. (usable_kept n m facts after kept less over.slot serves.0, serves.1))
+        currents w.currents served.held;
+    names = served.names;
   }
 
   served_under : (w : Where) (currents : Currents) (n : ℕ) (facts : List Fact) (rank : Rank)
       (over : Over) (source : Slotted) → IsServed code Stays w currents n facts
-      → IsUsable code Stays n facts source.slot
+      → Serves code Stays w.numbers n facts source
       → IsServed code Stays (under_source w rank source) (with_over currents rank over) n facts
-  served_under w currents n facts rank over source served usable = record {
+  served_under w currents n facts rank over source served serves = record {
     vectors = served.vectors;
     regions = served.regions;
-    held = hold_with (IsUsable code Stays n facts) currents w.currents rank over source served.held
-        usable;
+    held = hold_with (Serves code Stays w.numbers n facts) currents w.currents rank over source
+        served.held serves;
+    names = served.names;
   }
 
   -- ---- brackets
@@ -306,9 +322,6 @@ module _ (code : Tables) (Stays : ℕ → Type 0) where
       proper ranked =
       ((λ is. (usable is).0), (λ is. (usable is).1))
     where
-      rank : Rank
-      rank = option_map length (region_shape (kind_of w.scope name))
-
       number : (r : Rank) → IsArrayRank r → (k : ℕ) × (r ≡ Some k)
       number None is = absurd is
       number (Some k) is = (k, refl)
@@ -316,14 +329,15 @@ module _ (code : Tables) (Stays : ℕ → Type 0) where
       usable : is_index w.scope pre name post ≡ false
           → IsUsable code Stays n facts (region_slot w.setup.known name)
       usable not_index =
+          let rank : Rank = option_map length (region_shape (kind_of w.scope name)) in
           let is : IsArrayRank rank =
           subst (λ b. IsArrayRank (if b then Some 1 else rank)) not_index ranked.0 in
           let found = number rank is in
           served.regions found.0 name found.1
   stands_usable n facts w result currents edge hint (Rexpr pre (Ditto at) post) served proper
       ranked =
-      hold_at (IsUsable code Stays n facts) currents w.currents
-      (inner_rank w.scope hint w.prefix (Rexpr pre (Ditto at) post)) served.held proper
+      (hold_at (Serves code Stays w.numbers n facts) currents w.currents
+      (inner_rank w.scope hint w.prefix (Rexpr pre (Ditto at) post)) served.held proper).0
   stands_usable n facts w result currents edge hint (Dims dims) served proper ranked = (tt, tt)
 
 -- ---- expressions
@@ -341,11 +355,12 @@ pub record Settles (code : Tables) (Stays : ℕ → Type 0) (numbers : Numbers) 
       (referred numbers done.slate)
 
 pub record SettlesAll (code : Tables) (Stays : ℕ → Type 0) (numbers : Numbers) (line : ℕ)
-    (next : Next) (slot : ℕ) (facts : List Fact) (done : Settled Slates) : Type 0 where
+    (next : Next) (slot count : ℕ) (facts : List Fact) (done : Settled Slates) : Type 0 where
   pub after : List Fact
   pub is : behind_rows code facts done.rows ≡ after
   pub met : AreMet code facts done.rows
   pub kept : KeepsBelow code next.slots facts after
+  pub counted : count_of done.slate ≡ count
   pub deep : AreDeep code Stays numbers line slot done.slate
   pub usable : AllUsable code Stays (next.slots + length done.slots) after
       (all_referred numbers done.slate)
@@ -391,7 +406,7 @@ pub record SourceSettles (code : Tables) (Stays : ℕ → Type 0) (w : Where) (l
       (over_reference w.numbers (slotted_at w.currents (source_rank w source operand))
       ++ referred w.numbers (rest_of w line next source operand).slate)
 
-module _ (code : Tables) (Stays : ℕ → Type 0) (base : Tables) where
+module _ (code : Tables) (Stays : ℕ → Type 0) where
   -- nothing stands in front of it
   still_settles : (numbers : Numbers) (line : ℕ) (next : Next) (slot : ℕ) (facts : List Fact)
       (one : Slate) → IsDeep code Stays numbers line slot one
@@ -414,7 +429,8 @@ module _ (code : Tables) (Stays : ℕ → Type 0) (base : Tables) where
     over_here m less has =
         usable_kept code Stays next.slots m facts facts (none_below code next.slots facts) less
         (slotted_at w.currents rank).slot
-        (hold_at (IsUsable code Stays next.slots facts) currents w.currents rank served.held has)
+        (hold_at (Serves code Stays w.numbers next.slots facts) currents w.currents rank served.held
+        has).0
 
     element_settles : (place : ℕ) (shift : List ℤ) → HasCurrent currents rank → IsVector shift
         → Settles code Stays w.numbers line next slot facts
@@ -445,18 +461,17 @@ module _ (code : Tables) (Stays : ℕ → Type 0) (base : Tables) where
     shifted_settles shift (Some (ArrayAt place home)) read vector =
         element_settles place shift read.1 vector
 
-    around_settles : (r : ℕ) (shift : List ℤ) (thing : Option Thing)
-        → IsArrayRead currents rank thing
-        → FitsSlate base w.numbers r
-        (around_slate next (slotted_at w.currents rank) shift thing).slate
+    around_settles : (name : Name) (shift : List ℤ) (thing : Option Thing)
+        → thing_of w.environment name.text ≡ thing → IsArrayRead currents rank thing
+        → length shift ≡ 3
         → AreWrapped code Stays w.numbers line
         (around_slate next (slotted_at w.currents rank) shift thing).slate
         → Settles code Stays w.numbers line next slot facts
         (around_slate next (slotted_at w.currents rank) shift thing)
-    around_settles r shift None read fits wraps = absurd read.0
-    around_settles r shift (Some (Scalar place)) read fits wraps = absurd read.0
-    around_settles r shift (Some (Fixed value)) read fits wraps = absurd read.0
-    around_settles r shift (Some (ArrayAt place home)) read fits wraps =
+    around_settles name shift None is read three wraps = absurd read.0
+    around_settles name shift (Some (Scalar place)) is read three wraps = absurd read.0
+    around_settles name shift (Some (Fixed value)) is read three wraps = absurd read.0
+    around_settles name shift (Some (ArrayAt place home)) is read three wraps =
         let done = around_slate next (slotted_at w.currents rank) shift (Some (ArrayAt place home)) in
         let usable = over_here (next.slots + length done.slots) (omega arith) read.1 in
         record {
@@ -464,24 +479,25 @@ module _ (code : Tables) (Stays : ℕ → Type 0) (base : Tables) where
           is = refl;
           met = tt;
           kept = none_below code next.slots facts;
-          deep = (here read.1, fits.3.1, wraps);
+          deep = (here read.1, copy_long home shift (served.names name place home is).box.1 three, wraps);
           usable = (usable, (usable, tt));
         }
 
-    remap_settles : (r : ℕ) (thing : Option Thing) (inside : Settled Slates)
-        → IsArrayRead currents rank thing
-        → FitsSlate base w.numbers r (remap_slate (slotted_at w.currents rank) thing inside.slate)
-        → SettlesAll code Stays w.numbers line next (slotted_at w.currents rank).slot facts inside
+    remap_settles : (name : Name) (thing : Option Thing) (inside : Settled Slates)
+        → thing_of w.environment name.text ≡ thing → IsArrayRead currents rank thing
+        → array_rank (kind_of w.scope name) ≡ Some (count_of inside.slate) 
+        → SettlesAll code Stays w.numbers line next (slotted_at w.currents rank).slot
+        (count_of inside.slate) facts inside
         → Settles code Stays w.numbers line next slot facts
         (mapped (remap_slate (slotted_at w.currents rank) thing) inside)
-    remap_settles r None inside read fits done = absurd read.0
-    remap_settles r (Some (Scalar place)) inside read fits done = absurd read.0
-    remap_settles r (Some (Fixed value)) inside read fits done = absurd read.0
-    remap_settles r (Some (ArrayAt place home)) inside read fits done =
+    remap_settles name None inside is read counted done = absurd read.0
+    remap_settles name (Some (Scalar place)) inside is read counted done = absurd read.0
+    remap_settles name (Some (Fixed value)) inside is read counted done = absurd read.0
+    remap_settles name (Some (ArrayAt place home)) inside is read counted done =
         let over = slotted_at w.currents rank in
         let m : ℕ = next.slots + length inside.slots in
-        let first = hold_at (IsUsable code Stays next.slots facts) currents w.currents rank
-        served.held read.1 in
+        let first = (hold_at (Serves code Stays w.numbers next.slots facts) currents w.currents rank
+        served.held read.1).0 in
         let usable = usable_kept code Stays next.slots m facts done.after done.kept (omega arith)
         over.slot first in
         record {
@@ -492,9 +508,8 @@ module _ (code : Tables) (Stays : ℕ → Type 0) (base : Tables) where
           deep = (
             here read.1,
             first.1,
-            subst (λ n. HasIndices n (slice_get w.numbers.arrays place))
-                (sym (count_same inside.slate))
-                (indices_are (slates_count inside.slate) (slice_get w.numbers.arrays place) fits.1),
+            indices_are (count_of inside.slate) (array_shape (kind_of w.scope name))
+                (slice_get w.numbers.arrays place) counted (served.names name place home is).has,
             done.deep,
           );
           usable = usable_both code Stays m done.after (over_reference w.numbers over)
@@ -537,53 +552,53 @@ module _ (code : Tables) (Stays : ℕ → Type 0) (base : Tables) where
 
   mutual
     pub settled_well : (w : Where) (result : ℕ) (currents : Currents) (edge : Option Edge)
-        (line : ℕ) (next : Next) (rank : Rank) (slot : ℕ) (r : ℕ) (one : Expr) (facts : List Fact)
+        (line : ℕ) (next : Next) (rank : Rank) (slot : ℕ) (one : Expr) (facts : List Fact)
         → IsServed code Stays w currents next.slots facts
         → (HasCurrent currents rank → (slotted_at w.currents rank).slot ≡ slot)
         → IsProper (place_at w result currents edge) rank one
         → IsOfRank (place_at w result currents edge) rank one
-        → FitsSlate base w.numbers r (settled w line next rank one).slate
         → AreWrapped code Stays w.numbers line (settled w line next rank one).slate
         → AreOf code (settled w line next rank one).rows
         → ((k : ℕ) → In (filled_by (settled w line next rank one).rows) k → Stays k)
         → Settles code Stays w.numbers line next slot facts (settled w line next rank one)
-    settled_well w result currents edge line next rank slot r (Number at value) facts served here
-        proper ranked fits wraps of filled =
-        still_settles w.numbers line next slot facts _ tt tt
-    settled_well w result currents edge line next rank slot r (Truth at value) facts served here
-        proper ranked fits wraps of filled =
-        still_settles w.numbers line next slot facts _ tt tt
-    settled_well w result currents edge line next rank slot r (Coord at k) facts served here proper
-        ranked fits wraps of filled =
+    settled_well w result currents edge line next rank slot (Number at value) facts served here
+        proper ranked wraps of filled =
+        still_settles w.numbers line next slot facts (slate.Constant value) tt tt
+    settled_well w result currents edge line next rank slot (Truth at value) facts served here
+        proper ranked wraps of filled =
+        still_settles w.numbers line next slot facts (slate.Constant (truth value)) tt tt
+    settled_well w result currents edge line next rank slot (Coord at k) facts served here proper
+        ranked wraps of filled =
         still_settles w.numbers line next slot facts (slate.Coordinate k) tt tt
-    settled_well w result currents edge line next rank slot r (Named at name) facts served here
-        proper ranked fits wraps of filled =
+    settled_well w result currents edge line next rank slot (Named at name) facts served here
+        proper ranked wraps of filled =
         named_settles w currents line next rank slot facts served here
         (thing_of w.environment name.text) proper
-    settled_well w result currents edge line next rank slot r (Shifted at name shift) facts served
-        here proper ranked fits wraps of filled =
+    settled_well w result currents edge line next rank slot (Shifted at name shift) facts served
+        here proper ranked wraps of filled =
         shifted_settles w currents line next rank slot facts served here
         (vector_in w.setup.known shift) (thing_of w.environment name.text) proper
         (vector_is (vector_in w.setup.known shift) (served.vectors shift))
-    settled_well w result currents edge line next rank slot r (Around at name shift) facts served
-        here proper ranked fits wraps of filled =
-        around_settles w currents line next rank slot facts served here r
-        (vector_in w.setup.known shift) (thing_of w.environment name.text) proper fits wraps
-    settled_well w result currents edge line next rank slot r (Remap at name indices) facts served
-        here proper ranked fits wraps of filled =
-        remap_all w result currents edge line next rank slot r indices
-        (thing_of w.environment name.text) facts served here proper.0 proper.1 ranked.1 fits wraps of
-        filled
-    settled_well w result currents edge line next rank slot r (Call at name actuals) facts served
-        here proper ranked fits wraps of filled = absurd proper
-    settled_well w result currents edge line next rank slot r (Paren at inside) facts served here
-        proper ranked fits wraps of filled =
-        settled_well w result currents edge line next rank slot r inside facts served here proper
-        ranked fits wraps of filled
-    settled_well w result currents edge line next rank slot r (Neg at operand) facts served here
-        proper ranked fits wraps of filled =
-        let inner = settled_well w result currents edge line next rank slot r operand facts served
-        here proper ranked fits wraps of filled in
+    settled_well w result currents edge line next rank slot (Around at name shift) facts served
+        here proper ranked wraps of filled =
+        around_settles w currents line next rank slot facts served here name
+        (vector_in w.setup.known shift) (thing_of w.environment name.text) refl proper
+        (served.vectors shift) wraps
+    settled_well w result currents edge line next rank slot (Remap at name indices) facts served
+        here proper ranked wraps of filled =
+        remap_all w result currents edge line next rank slot name indices
+        (thing_of w.environment name.text) facts refl served here proper.0 proper.1 ranked.0 ranked.1
+        wraps of filled
+    settled_well w result currents edge line next rank slot (Call at name actuals) facts served
+        here proper ranked wraps of filled = absurd proper
+    settled_well w result currents edge line next rank slot (Paren at inside) facts served here
+        proper ranked wraps of filled =
+        settled_well w result currents edge line next rank slot inside facts served here proper
+        ranked wraps of filled
+    settled_well w result currents edge line next rank slot (Neg at operand) facts served here
+        proper ranked wraps of filled =
+        let inner = settled_well w result currents edge line next rank slot operand facts served
+        here proper ranked wraps of filled in
         record {
           after = inner.after;
           is = inner.is;
@@ -592,10 +607,10 @@ module _ (code : Tables) (Stays : ℕ → Type 0) (base : Tables) where
           deep = inner.deep;
           usable = inner.usable;
         }
-    settled_well w result currents edge line next rank slot r (Not at operand) facts served here
-        proper ranked fits wraps of filled =
-        let inner = settled_well w result currents edge line next rank slot r operand facts served
-        here proper ranked fits wraps of filled in
+    settled_well w result currents edge line next rank slot (Not at operand) facts served here
+        proper ranked wraps of filled =
+        let inner = settled_well w result currents edge line next rank slot operand facts served
+        here proper ranked wraps of filled in
         record {
           after = inner.after;
           is = inner.is;
@@ -604,10 +619,10 @@ module _ (code : Tables) (Stays : ℕ → Type 0) (base : Tables) where
           deep = inner.deep;
           usable = inner.usable;
         }
-    settled_well w result currents edge line next rank slot r (Abs at operand) facts served here
-        proper ranked fits wraps of filled =
-        let inner = settled_well w result currents edge line next rank slot r operand facts served
-        here proper ranked fits wraps of filled in
+    settled_well w result currents edge line next rank slot (Abs at operand) facts served here
+        proper ranked wraps of filled =
+        let inner = settled_well w result currents edge line next rank slot operand facts served
+        here proper ranked wraps of filled in
         record {
           after = inner.after;
           is = inner.is;
@@ -616,19 +631,19 @@ module _ (code : Tables) (Stays : ℕ → Type 0) (base : Tables) where
           deep = inner.deep;
           usable = inner.usable;
         }
-    settled_well w result currents edge line next rank slot r (Pair at op left right) facts served
-        here proper ranked fits wraps of filled =
+    settled_well w result currents edge line next rank slot (Pair at op left right) facts served
+        here proper ranked wraps of filled =
         let first : Settled Slate = settled w line next rank left in
         let rest : Settled Slate = settled w line (behind next first) rank right in
         let k : ℕ = next.slots + length first.slots in
         let m : ℕ = next.slots + length (first.slots ++ rest.slots) in
-        let one = settled_well w result currents edge line next rank slot r left facts served here
-        proper.0 ranked.0 fits.0 wraps.0 (of_left code first.rows rest.rows of)
+        let one = settled_well w result currents edge line next rank slot left facts served here
+        proper.0 ranked.0 wraps.0 (of_left code first.rows rest.rows of)
         (λ n h. filled n (filled_left first.rows rest.rows n h)) in
-        let other = settled_well w result currents edge line (behind next first) rank slot r right
+        let other = settled_well w result currents edge line (behind next first) rank slot right
         one.after
         (served_more code Stays w currents next.slots k facts one.after one.kept (omega arith) served)
-        here proper.1 ranked.1 fits.1 wraps.1 (of_right code first.rows rest.rows of)
+        here proper.1 ranked.1 wraps.1 (of_right code first.rows rest.rows of)
         (λ n h. filled n (filled_right first.rows rest.rows n h)) in
         let long = long_both next.slots first.slots rest.slots in
         record {
@@ -646,18 +661,18 @@ module _ (code : Tables) (Stays : ℕ → Type 0) (base : Tables) where
               (none_below code (k + length rest.slots) other.after) (omega (arith, long))
               (referred w.numbers rest.slate) other.usable);
         }
-    settled_well w result currents edge line next rank slot r (Reduce at operator NoBracket operand)
-        facts served here proper ranked fits wraps of filled =
+    settled_well w result currents edge line next rank slot (Reduce at operator NoBracket operand)
+        facts served here proper ranked wraps of filled =
         let under : Rank = operand_rank w.scope w.prefix operand in
         let over : Slotted = slotted_at w.currents under in
         let done : Settled Slate = settled w line next under operand in
         let m : ℕ = next.slots + length done.slots in
-        let inner = settled_well w result currents edge line next under over.slot fits.0 operand facts
-        served (λ has. refl) proper.1 ranked fits.1.1 wraps of filled in
+        let inner = settled_well w result currents edge line next under over.slot operand facts
+        served (λ has. refl) proper.1 ranked wraps of filled in
         let usable = usable_kept code Stays next.slots m facts inner.after inner.kept (omega arith)
         over.slot
-        (hold_at (IsUsable code Stays next.slots facts) currents w.currents under served.held proper.0)
-        in
+        (hold_at (Serves code Stays w.numbers next.slots facts) currents w.currents under served.held
+        proper.0).0 in
         record {
           after = inner.after;
           is = inner.is;
@@ -668,11 +683,11 @@ module _ (code : Tables) (Stays : ℕ → Type 0) (base : Tables) where
               (over_reference w.numbers over) inner.usable
               (over_usable code Stays m inner.after w.numbers over usable);
         }
-    settled_well w result currents edge line next rank slot r
-        (Reduce at operator (Bracketed source) operand) facts served here proper ranked fits wraps of
+    settled_well w result currents edge line next rank slot
+        (Reduce at operator (Bracketed source) operand) facts served here proper ranked wraps of
         filled =
-        let inner = source_well w result currents edge line next r source operand facts served
-        proper.0 proper.1 (proper.2 no_region) ranked.1 (ranked.2 no_region) fits.2 wraps of filled in
+        let inner = source_well w result currents edge line next source operand facts served
+        proper.0 proper.1 (proper.2 no_region) ranked.1 (ranked.2 no_region) wraps of filled in
         record {
           after = inner.after;
           is = inner.is;
@@ -687,17 +702,17 @@ module _ (code : Tables) (Stays : ℕ → Type 0) (base : Tables) where
           );
           usable = inner.usable;
         }
-    settled_well w result currents edge line next rank slot r (Scan at operator along operand) facts
-        served here proper ranked fits wraps of filled =
+    settled_well w result currents edge line next rank slot (Scan at operator along operand) facts
+        served here proper ranked wraps of filled =
         let over : Slotted = slotted_at w.currents rank in
         let done : Settled Slate = settled w line next rank operand in
         let m : ℕ = next.slots + length done.slots in
-        let inner = settled_well w result currents edge line next rank over.slot r operand facts
-        served (λ has. refl) proper.1 ranked.1 fits.2 wraps of filled in
-        let first = hold_at (IsUsable code Stays next.slots facts) currents w.currents rank
+        let inner = settled_well w result currents edge line next rank over.slot operand facts
+        served (λ has. refl) proper.1 ranked.1 wraps of filled in
+        let serves = hold_at (Serves code Stays w.numbers next.slots facts) currents w.currents rank
         served.held proper.0 in
         let usable = usable_kept code Stays next.slots m facts inner.after inner.kept (omega arith)
-        over.slot first in
+        over.slot serves.0 in
         record {
           after = inner.after;
           is = inner.is;
@@ -705,18 +720,18 @@ module _ (code : Tables) (Stays : ℕ → Type 0) (base : Tables) where
           kept = inner.kept;
           deep = (
             here proper.0,
-            first.1,
-            numbered_is w.numbers r over.mask fits.0.masked,
+            serves.0.1,
+            serves.1,
             inner.deep,
           );
           usable = usable_both code Stays m inner.after (referred w.numbers done.slate)
               (over_reference w.numbers over) inner.usable
               (over_usable code Stays m inner.after w.numbers over usable);
         }
-    settled_well w result currents edge line next rank slot r (Flood at source operand) facts served
-        here proper ranked fits wraps of filled =
-        let inner = source_well w result currents edge line next r source operand facts served
-        proper.0 proper.1 (proper.2 no_region) ranked.1 (ranked.2 no_region) fits.2 wraps of filled in
+    settled_well w result currents edge line next rank slot (Flood at source operand) facts served
+        here proper ranked wraps of filled =
+        let inner = source_well w result currents edge line next source operand facts served
+        proper.0 proper.1 (proper.2 no_region) ranked.1 (ranked.2 no_region) wraps of filled in
         record {
           after = inner.after;
           is = inner.is;
@@ -734,7 +749,7 @@ module _ (code : Tables) (Stays : ℕ → Type 0) (base : Tables) where
 
     -- an operator's region, and its operand under it
     source_well : (w : Where) (result : ℕ) (currents : Currents) (edge : Option Edge) (line : ℕ)
-        (next : Next) (r : ℕ) (source : Inner) (operand : Expr) (facts : List Fact)
+        (next : Next) (source : Inner) (operand : Expr) (facts : List Fact)
         → IsServed code Stays w currents next.slots facts
         → HasCurrent currents (source_rank w source operand)
         → IsProperRegion (place_at w result currents edge) (own_rank w.scope w.prefix operand) source
@@ -745,7 +760,6 @@ module _ (code : Tables) (Stays : ℕ → Type 0) (base : Tables) where
         → IsOfRank
         (place_at (under_of w line next source operand) result (currents_of w currents source operand)
         edge) (source_rank w source operand) operand
-        → FitsSlate base w.numbers r (rest_of w line next source operand).slate
         → AreWrapped code Stays w.numbers line (rest_of w line next source operand).slate
         → AreOf code
         ((opened_source w next line source operand).rows ++ (rest_of w line next source operand).rows)
@@ -753,8 +767,8 @@ module _ (code : Tables) (Stays : ℕ → Type 0) (base : Tables) where
         → In (filled_by ((opened_source w next line source operand).rows
         ++ (rest_of w line next source operand).rows)) k → Stays k)
         → SourceSettles code Stays w line next source operand facts
-    source_well w result currents edge line next r source operand facts served has proper inside
-        ranked also fits wraps of filled =
+    source_well w result currents edge line next source operand facts served has proper inside
+        ranked also wraps of filled =
         let rank : Rank = source_rank w source operand in
         let over : Slotted = slotted_at w.currents rank in
         let opened : Opened = opened_source w next line source operand in
@@ -766,18 +780,18 @@ module _ (code : Tables) (Stays : ℕ → Type 0) (base : Tables) where
         ranked (of_left code opened.rows rest.rows of)
         (λ n h. filled n (filled_left opened.rows rest.rows n h)) in
         let between : List Fact = behind_rows code facts opened.rows in
-        let first = hold_at (IsUsable code Stays next.slots facts) currents w.currents rank
-        served.held has in
+        let first = (hold_at (Serves code Stays w.numbers next.slots facts) currents w.currents rank
+        served.held has).0 in
         let more = served_more code Stays w currents next.slots k facts between well.0.kept
         (omega arith) served in
         let inner = settled_well under result (currents_of w currents source operand) edge line
-        (after_source w line next source operand) rank opened.slot r operand between
+        (after_source w line next source operand) rank opened.slot operand between
         (served_under code Stays w currents k between rank
         (record { region = no_region; mask = None }) (source_of opened) more
-        (well.0.ready, well.1))
+        ((well.0.ready, well.1), tt))
         (λ now. ap (λ (s : Slotted). s.slot)
         (slotted_with currents w.currents rank (record { region = no_region; mask = None })
-        (source_of opened) now has)) inside also fits wraps (of_right code opened.rows rest.rows of)
+        (source_of opened) now has)) inside also wraps (of_right code opened.rows rest.rows of)
         (λ n h. filled n (filled_right opened.rows rest.rows n h)) in
         let long = long_both next.slots opened.slots rest.slots in
         let kept : KeepsBelow code next.slots facts inner.after =
@@ -801,14 +815,14 @@ module _ (code : Tables) (Stays : ℕ → Type 0) (base : Tables) where
         }
 
     remap_all : (w : Where) (result : ℕ) (currents : Currents) (edge : Option Edge) (line : ℕ)
-        (next : Next) (rank : Rank) (slot : ℕ) (r : ℕ) (indices : Exprs) (thing : Option Thing)
-        (facts : List Fact) → IsServed code Stays w currents next.slots facts
+        (next : Next) (rank : Rank) (slot : ℕ) (name : Name) (indices : Exprs)
+        (thing : Option Thing) (facts : List Fact) → thing_of w.environment name.text ≡ thing
+        → IsServed code Stays w currents next.slots facts
         → (HasCurrent currents rank → (slotted_at w.currents rank).slot ≡ slot)
         → IsArrayRead currents rank thing
         → AreProper (place_at w result currents edge) rank indices
+        → array_rank (kind_of w.scope name) ≡ Some (exprs_count indices)
         → AreOfRank (place_at w result currents edge) rank indices
-        → FitsSlate base w.numbers r
-        (remap_slate (slotted_at w.currents rank) thing (settled_all w line next rank indices).slate)
         → AreWrapped code Stays w.numbers line
         (remap_slate (slotted_at w.currents rank) thing (settled_all w line next rank indices).slate)
         → AreOf code (settled_all w line next rank indices).rows
@@ -816,53 +830,58 @@ module _ (code : Tables) (Stays : ℕ → Type 0) (base : Tables) where
         → Settles code Stays w.numbers line next slot facts
         (mapped (remap_slate (slotted_at w.currents rank) thing)
         (settled_all w line next rank indices))
-    remap_all w result currents edge line next rank slot r indices None facts served here read proper
-        ranked fits wraps of filled = absurd read.0
-    remap_all w result currents edge line next rank slot r indices (Some (Scalar place)) facts served
-        here read proper ranked fits wraps of filled = absurd read.0
-    remap_all w result currents edge line next rank slot r indices (Some (Fixed value)) facts served
-        here read proper ranked fits wraps of filled = absurd read.0
-    remap_all w result currents edge line next rank slot r indices (Some (ArrayAt place home)) facts
-        served here read proper ranked fits wraps of filled =
-        remap_settles w currents line next rank slot facts served here r (Some (ArrayAt place home))
-        (settled_all w line next rank indices) read fits
-        (settled_all_well w result currents edge line next rank (slotted_at w.currents rank).slot r
-        indices facts served (λ has. refl) proper ranked fits.2 wraps of filled)
+    remap_all w result currents edge line next rank slot name indices None facts is
+        served here read proper counted ranked wraps of filled = absurd read.0
+    remap_all w result currents edge line next rank slot name indices (Some (Scalar place)) facts is
+        served here read proper counted ranked wraps of filled = absurd read.0
+    remap_all w result currents edge line next rank slot name indices (Some (Fixed value)) facts is
+        served here read proper counted ranked wraps of filled = absurd read.0
+    remap_all w result currents edge line next rank slot name indices (Some (ArrayAt place home))
+        facts is served here read proper counted ranked wraps of filled =
+        let done = settled_all_well w result currents edge line next rank
+        (slotted_at w.currents rank).slot indices facts served (λ has. refl) proper ranked wraps of
+        filled in
+        remap_settles w currents line next rank slot facts served here name
+        (Some (ArrayAt place home)) (settled_all w line next rank indices) is read
+        (counted ∙ ap Some (sym done.counted))
+        (subst (λ n. SettlesAll code Stays w.numbers line next (slotted_at w.currents rank).slot n
+        facts (settled_all w line next rank indices)) (sym done.counted) done)
 
     settled_all_well : (w : Where) (result : ℕ) (currents : Currents) (edge : Option Edge)
-        (line : ℕ) (next : Next) (rank : Rank) (slot : ℕ) (r : ℕ) (all : Exprs)
+        (line : ℕ) (next : Next) (rank : Rank) (slot : ℕ) (all : Exprs)
         (facts : List Fact) → IsServed code Stays w currents next.slots facts
         → (HasCurrent currents rank → (slotted_at w.currents rank).slot ≡ slot)
         → AreProper (place_at w result currents edge) rank all
         → AreOfRank (place_at w result currents edge) rank all
-        → FitsSlates base w.numbers r (settled_all w line next rank all).slate
         → AllWrapped code Stays w.numbers line (settled_all w line next rank all).slate
         → AreOf code (settled_all w line next rank all).rows
         → ((k : ℕ) → In (filled_by (settled_all w line next rank all).rows) k → Stays k)
-        → SettlesAll code Stays w.numbers line next slot facts (settled_all w line next rank all)
-    settled_all_well w result currents edge line next rank slot r NoExpr facts served here proper
-        ranked fits wraps of filled =
+        → SettlesAll code Stays w.numbers line next slot (exprs_count all) facts
+        (settled_all w line next rank all)
+    settled_all_well w result currents edge line next rank slot NoExpr facts served here proper
+        ranked wraps of filled =
         record {
           after = facts;
           is = refl;
           met = tt;
           kept = none_below code next.slots facts;
+          counted = refl;
           deep = tt;
           usable = tt;
         }
-    settled_all_well w result currents edge line next rank slot r (ThenExpr left right) facts served
-        here proper ranked fits wraps of filled =
+    settled_all_well w result currents edge line next rank slot (ThenExpr left right) facts served
+        here proper ranked wraps of filled =
         let first : Settled Slate = settled w line next rank left in
         let rest : Settled Slates = settled_all w line (behind next first) rank right in
         let k : ℕ = next.slots + length first.slots in
         let m : ℕ = next.slots + length (first.slots ++ rest.slots) in
-        let one = settled_well w result currents edge line next rank slot r left facts served here
-        proper.0 ranked.0 fits.0 wraps.0 (of_left code first.rows rest.rows of)
+        let one = settled_well w result currents edge line next rank slot left facts served here
+        proper.0 ranked.0 wraps.0 (of_left code first.rows rest.rows of)
         (λ n h. filled n (filled_left first.rows rest.rows n h)) in
-        let other = settled_all_well w result currents edge line (behind next first) rank slot r right
+        let other = settled_all_well w result currents edge line (behind next first) rank slot right
         one.after
         (served_more code Stays w currents next.slots k facts one.after one.kept (omega arith) served)
-        here proper.1 ranked.1 fits.1 wraps.1 (of_right code first.rows rest.rows of)
+        here proper.1 ranked.1 wraps.1 (of_right code first.rows rest.rows of)
         (λ n h. filled n (filled_right first.rows rest.rows n h)) in
         let long = long_both next.slots first.slots rest.slots in
         record {
@@ -871,6 +890,7 @@ module _ (code : Tables) (Stays : ℕ → Type 0) (base : Tables) where
           met = both_met facts one.after first.rows rest.rows one.is one.met other.met;
           kept = below_more code next.slots k facts one.after other.after (omega arith) one.kept
               other.kept;
+          counted = ap suc other.counted;
           deep = (one.deep, other.deep);
           usable = usable_both code Stays m other.after (referred w.numbers first.slate)
               (all_referred w.numbers rest.slate)
@@ -880,3 +900,79 @@ module _ (code : Tables) (Stays : ℕ → Type 0) (base : Tables) where
               (none_below code (k + length rest.slots) other.after) (omega (arith, long))
               (all_referred w.numbers rest.slate) other.usable);
         }
+
+-- ---- the expressions of a statement, each over a slot of its own
+module _ (w : Where) (result : ℕ) (currents : Currents) (edge : Option Edge) where
+  abbrev pub AreGiven : List ℕ → List Placed → Type 0
+  AreGiven [] [] = Unit {0}
+  AreGiven [] (one ∷ rest) = ⊥
+  AreGiven (slot ∷ slots) [] = ⊥
+  AreGiven (slot ∷ slots) (one ∷ rest) =
+      (HasCurrent currents one.rank → (slotted_at w.currents one.rank).slot ≡ slot)
+      × IsProper (place_at w result currents edge) one.rank one.expr
+      × IsOfRank (place_at w result currents edge) one.rank one.expr
+      × AreGiven slots rest
+
+pub record SettlesEach (code : Tables) (Stays : ℕ → Type 0) (numbers : Numbers) (line : ℕ)
+    (next : Next) (slots : List ℕ) (facts : List Fact) (done : Settled Slates) : Type 0 where
+  pub after : List Fact
+  pub is : behind_rows code facts done.rows ≡ after
+  pub met : AreMet code facts done.rows
+  pub kept : KeepsBelow code next.slots facts after
+  pub deep : AreDeepAt code Stays numbers line slots done.slate
+  pub usable : AllUsable code Stays (next.slots + length done.slots) after
+      (all_referred numbers done.slate)
+
+pub settled_each_well : (code : Tables) (Stays : ℕ → Type 0) (w : Where)
+    (result : ℕ) (currents : Currents) (edge : Option Edge) (line : ℕ) (next : Next)
+    (slots : List ℕ) (all : List Placed) (facts : List Fact)
+    → IsServed code Stays w currents next.slots facts
+    → AreGiven w result currents edge slots all
+    → AllWrapped code Stays w.numbers line (settled_each w line next all).slate
+    → AreOf code (settled_each w line next all).rows
+    → ((k : ℕ) → In (filled_by (settled_each w line next all).rows) k → Stays k)
+    → SettlesEach code Stays w.numbers line next slots facts (settled_each w line next all)
+settled_each_well code Stays w result currents edge line next [] [] facts served given wraps of filled =
+    record {
+      after = facts;
+      is = refl;
+      met = tt;
+      kept = none_below code next.slots facts;
+      deep = tt;
+      usable = tt;
+    }
+settled_each_well code Stays w result currents edge line next [] (placed ∷ others) facts served
+    given wraps of filled = absurd given
+settled_each_well code Stays w result currents edge line next (slot ∷ slots) [] facts served
+    given wraps of filled = absurd given
+settled_each_well code Stays w result currents edge line next (slot ∷ slots)
+    (placed ∷ others) facts served given wraps of filled =
+    let first : Settled Slate = settled w line next placed.rank placed.expr in
+    let rest : Settled Slates = settled_each w line (behind next first) others in
+    let k : ℕ = next.slots + length first.slots in
+    let m : ℕ = next.slots + length (first.slots ++ rest.slots) in
+    let one = settled_well code Stays w result currents edge line next placed.rank slot
+    placed.expr facts served given.0 given.1 given.2 wraps.0
+    (of_left code first.rows rest.rows of)
+    (λ n h. filled n (filled_left first.rows rest.rows n h)) in
+    let other = settled_each_well code Stays w result currents edge line (behind next first)
+    slots others one.after
+    (served_more code Stays w currents next.slots k facts one.after one.kept (omega arith) served)
+    given.3 wraps.1 (of_right code first.rows rest.rows of)
+    (λ n h. filled n (filled_right first.rows rest.rows n h)) in
+    let long = long_both code Stays next.slots first.slots rest.slots in
+    record {
+      after = other.after;
+      is = both_are code Stays facts one.after other.after first.rows rest.rows one.is other.is;
+      met = both_met code Stays facts one.after first.rows rest.rows one.is one.met other.met;
+      kept = below_more code next.slots k facts one.after other.after (omega arith) one.kept
+          other.kept;
+      deep = (one.deep, other.deep);
+      usable = usable_both code Stays m other.after (referred w.numbers first.slate)
+          (all_referred w.numbers rest.slate)
+          (all_usable_kept code Stays k m one.after other.after other.kept (omega (arith, long))
+          (referred w.numbers first.slate) one.usable)
+          (all_usable_kept code Stays (k + length rest.slots) m other.after other.after
+          (none_below code (k + length rest.slots) other.after) (omega (arith, long))
+          (all_referred w.numbers rest.slate) other.usable);
+    }

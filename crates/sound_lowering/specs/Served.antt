@@ -1,5 +1,5 @@
 -- What is in reach of a statement that is lowered, and known of the slots of its regions.
-use Rattle.std.specs.Prelude.{◌≡◌, ◌++◌, ℕ, List, [], ◌∷◌, Option, Some, None, option_map, length, slice_get}
+use Rattle.std.specs.Prelude.{◌≡◌, ◌⊎◌, ◌++◌, ℕ, ◌<◌, List, [], ◌∷◌, Option, Some, None, option_map, length, slice_get}
 use Rattle.zpl_lowering.specs.of_zpl_tree.Syntax.{Dir, Name}
 use Rattle.zpl_lowering.specs.of_zpl_names.Scope.{kind_of}
 use Rattle.zpl_lowering.specs.of_zpl_names.Ranks.{region_shape}
@@ -7,6 +7,7 @@ use Rattle.zpl_meaning.specs.Context.{Currents, Over}
 use Rattle.zpl_meaning.specs.Regions.{vector_in}
 use Rattle.zpl_lowering.specs.of_node_form.declared.tables.Tables.{Tables}
 use Rattle.code_parts.specs.Uses.{written_slots}
+use Rattle.code_parts.proofs.ListLemmas.{In}
 use Rattle.zpl_lowering.specs.of_flat_form.Row as row
 use Rattle.zpl_lowering.specs.of_flat_form.Row.{Row}
 use Rattle.zpl_lowering.specs.Where.{Numbers, SlotCurrents, Slotted, Where, slotted_or}
@@ -14,9 +15,10 @@ use Rattle.zpl_lowering.specs.Bracket.{region_slot}
 use Rattle.zpl_lowering.specs.Reference.{Reference}
 use Rattle.zpl_lowering.specs.Slate as slate
 use Rattle.zpl_lowering.specs.Slate.{Slate, Slates, NoSlate, ThenSlate}
+use Rattle.lowering_fits.specs.Reach.{FitNames}
 use Rattle.node_check.specs.declared.facts.Fact.{Fact}
 use Rattle.sound_lowering.specs.Tells.{IsReady}
-use Rattle.sound_lowering.specs.Deep.{WrapsWell}
+use Rattle.sound_lowering.specs.Deep.{IsNumbered, WrapsWell}
 
 -- the slots that rows fill
 abbrev pub filled_by : List Row → List ℕ
@@ -25,11 +27,11 @@ filled_by (row.Plain one ∷ rows) = written_slots one ++ filled_by rows
 filled_by (row.Dims slot parts line ∷ rows) = slot ∷ filled_by rows
 filled_by (one ∷ rows) = filled_by rows
 
--- ---- current regions: where the meaning has one of a rank, this holds of its slot
-module _ (Has : ℕ → Type 0) where
+-- ---- current regions: where the meaning has one of a rank, this holds of its slot and its mask
+module _ (Has : Slotted → Type 0) where
   abbrev pub Holds : Option Over → Option Slotted → Type 0
   Holds None slotted = Unit {0}
-  Holds (Some over) slotted = Has (slotted_or slotted).slot
+  Holds (Some over) slotted = Has (slotted_or slotted)
 
   pub record AllHold (currents : Currents) (slots : SlotCurrents) : Type 0 where
     pub one : Holds currents.one slots.one
@@ -45,14 +47,20 @@ AllUsable code Stays n facts [] = Unit {0}
 AllUsable code Stays n facts (one ∷ refs) =
     IsUsable code Stays n facts one.slot × AllUsable code Stays n facts refs
 
--- so the slots of declared regions and of current ones are
+-- a current region: its slot is so, and its mask has a number
+abbrev pub Serves : Tables → (ℕ → Type 0) → Numbers → ℕ → List Fact → Slotted → Type 0
+Serves code Stays numbers n facts over =
+    IsUsable code Stays n facts over.slot × IsNumbered numbers over.mask
+
+-- The slots of declared regions and of current ones are so; and arrays have numbers.
 pub record IsServed (code : Tables) (Stays : ℕ → Type 0) (w : Where) (currents : Currents) (n : ℕ)
     (facts : List Fact) : Type 0 where
   pub vectors : (dir : Dir) → length (vector_in w.setup.known dir) ≡ 3
   pub regions : (rank : ℕ) (name : Name)
       → option_map length (region_shape (kind_of w.scope name)) ≡ Some rank
       → IsUsable code Stays n facts (region_slot w.setup.known name)
-  pub held : AllHold (IsUsable code Stays n facts) currents w.currents
+  pub held : AllHold (Serves code Stays w.numbers n facts) currents w.currents
+  pub names : FitNames w.scope w.environment w.numbers
 
 -- ---- the copies of an expression for reads that wrap round are filled well
 module _ (code : Tables) (Stays : ℕ → Type 0) (numbers : Numbers) (line : ℕ) where
@@ -75,3 +83,8 @@ module _ (code : Tables) (Stays : ℕ → Type 0) (numbers : Numbers) (line : �
     pub AllWrapped : Slates → Type 0
     AllWrapped NoSlate = Unit {0}
     AllWrapped (ThenSlate first rest) = AreWrapped first × AllWrapped rest
+
+-- ---- slots that stay through the rows of a statement's operators: those that are old, and those
+-- that the rows of its brackets fill
+abbrev pub Staying : ℕ → List Row → ℕ → Type 0
+Staying n rows slot = (slot < n) ⊎ In (filled_by rows) slot
