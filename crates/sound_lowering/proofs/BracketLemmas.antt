@@ -102,10 +102,10 @@ module _ (code : Tables) where
       by false is passing = absurd (true≢false (sym is))
 
   never : (slot : ℕ) (b : Bool) → b ≡ true → not b ≡ true → ⊥
-  never slot true is no = true≢false (sym no)
+  never slot true is not_so = true≢false (sym not_so)
   never slot false is _ = true≢false (sym is)
 
-  formed_tells : (facts : List Fact) (form : RegionForm) (slot from : ℕ) (shift : List ℤ) (line : ℕ)
+  pub formed_tells : (facts : List Fact) (form : RegionForm) (slot from : ℕ) (shift : List ℤ) (line : ℕ)
       → In (all_inlined code) (row.Plain (instr.Formed form slot from shift line))
       → Tells code facts slot
   formed_tells facts form slot from shift line of array vector decided =

@@ -15,3 +15,5 @@ mod Examples
 pub mod WalkLemmas
 pub mod SettledLemmas
 pub mod StatementLemmas
+pub mod BorderLemmas
+pub mod PrefixLemmas

@@ -843,10 +843,7 @@ module _ (code : Tables) (Stays : ℕ → Type 0) where
                   → AreReferred Stays code facts (refer_to over.slot [] stored)
                   → IsHere code facts over.slot (number_of stored) unmoved
                   × (is_stored code (number_of stored) ≡ true)
-              found None no refs = absurd (none no)
-                where
-                  none : None ≡ Some numbered.0 → ⊥
-                  none e = cc
+              found None is refs = let none : ⊥ = cc in absurd none
               found (Some stored) is refs = (refs.0, refs.2)
 
           by : (b : Bool) (array : ℕ) → IsHere code facts over.slot array unmoved

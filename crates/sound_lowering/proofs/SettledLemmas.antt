@@ -4,6 +4,7 @@ use Rattle.std.proofs.Common.{◌≡◌, ◌⊎◌, inl, inr, ℕ, zero, suc, �
 use Rattle.std.specs.Prelude.{Option, Some, None, IsSome, option_map, slice_get}
 use Rattle.std.specs.Option.{IsSomeAnd}
 use Rattle.code_parts.specs.of_zpl_nums.Integer.{truth}
+use Rattle.code_parts.specs.of_zpl_region.declared.dims.Dim.{Dim}
 use Rattle.code_parts.specs.of_zpl_region.declared.regions.Region.{Region}
 use Rattle.zpl_lowering.specs.of_zpl_tree.Syntax.{Name, Expr, Number, Truth, Coord, Named, Shifted, Around, Remap, Call, Paren, Neg, Not, Abs, Pair, Reduce, Scan, Flood, Exprs, NoExpr, ThenExpr, Dir, NamedRegion, Ditto, Inner, Rexpr, Dims, NoBracket, Bracketed}
 use Rattle.zpl_lowering.specs.of_zpl_names.Kinds.{Rank, Shape}
@@ -45,13 +46,14 @@ pub filled_left : (xs ys : List Row) (slot : ℕ) → In (filled_by xs) slot
     → In (filled_by (xs ++ ys)) slot
 filled_left [] ys slot h = absurd h
 filled_left (row.Plain one ∷ xs) ys slot h =
-    by (in_append (written_slots one) (filled_by xs) slot h)
+    by (filled_left xs ys slot) (in_append (written_slots one) (filled_by xs) slot h)
   where
-    by : In (written_slots one) slot ⊎ In (filled_by xs) slot
+    by : (In (filled_by xs) slot → In (filled_by (xs ++ ys)) slot)
+        → In (written_slots one) slot ⊎ In (filled_by xs) slot
         → In (written_slots one ++ filled_by (xs ++ ys)) slot
-    by (inl here) = in_front (written_slots one) (filled_by (xs ++ ys)) slot here
-    by (inr later) =
-        in_back (written_slots one) (filled_by (xs ++ ys)) slot (filled_left xs ys slot later)
+    by later (inl here) = in_front (written_slots one) (filled_by (xs ++ ys)) slot here
+    by later (inr there) =
+        in_back (written_slots one) (filled_by (xs ++ ys)) slot (later there)
 filled_left (row.Dims own parts line ∷ xs) ys slot (inl same) = inl same
 filled_left (row.Dims own parts line ∷ xs) ys slot (inr h) = inr (filled_left xs ys slot h)
 filled_left (one ∷ xs) ys slot h = filled_left xs ys slot h
@@ -311,7 +313,7 @@ module _ (code : Tables) (Stays : ℕ → Type 0) where
       by (Some region) opened first filled =
           which opened _ opened.rows refl first (λ own. own n (inl refl)) filled
 
-  stands_usable : (n : ℕ) (facts : List Fact) (w : Where) (result : ℕ) (currents : Currents)
+  pub stands_usable : (n : ℕ) (facts : List Fact) (w : Where) (result : ℕ) (currents : Currents)
       (edge : Option Edge) (hint : Rank) (inner : Inner)
       → IsServed code Stays w currents n facts
       → IsProperRegion (place_at w result currents edge) hint inner
@@ -550,6 +552,83 @@ module _ (code : Tables) (Stays : ℕ → Type 0) where
         bracket_stays code Stays w next.slots line current source stands.1 filled,
       )
 
+  -- an operator's region, and its operand under it
+  source_well : (w : Where) (result : ℕ) (currents : Currents) (edge : Option Edge) (line : ℕ)
+      (next : Next) (source : Inner) (operand : Expr) (facts : List Fact)
+      → IsServed code Stays w currents next.slots facts
+      → HasCurrent currents (source_rank w source operand)
+      → IsProperRegion (place_at w result currents edge) (own_rank w.scope w.prefix operand) source
+      → IsRegionOf (place_at w result currents edge) (own_rank w.scope w.prefix operand) source
+      → AreOf code
+      ((opened_source w next line source operand).rows ++ (rest_of w line next source operand).rows)
+      → ((k : ℕ)
+      → In (filled_by ((opened_source w next line source operand).rows
+      ++ (rest_of w line next source operand).rows)) k → Stays k)
+      → ((between : List Fact)
+      → IsServed code Stays (under_of w line next source operand)
+      (currents_of w currents source operand) (after_source w line next source operand).slots between
+      → (HasCurrent (currents_of w currents source operand) (source_rank w source operand)
+      → (slotted_at (under_of w line next source operand).currents (source_rank w source operand)).slot
+      ≡ (opened_source w next line source operand).slot)
+      → Settles code Stays w.numbers line (after_source w line next source operand)
+      (opened_source w next line source operand).slot between (rest_of w line next source operand))
+      → SourceSettles code Stays w line next source operand facts
+  source_well w result currents edge line next source operand facts served has proper ranked
+      of filled inside =
+      let rank : Rank = source_rank w source operand in
+      let over : Slotted = slotted_at w.currents rank in
+      let opened : Opened = opened_source w next line source operand in
+      let rest : Settled Slate = rest_of w line next source operand in
+      let k : ℕ = next.slots + length opened.slots in
+      let m : ℕ = next.slots + length (opened.slots ++ rest.slots) in
+      let well = opened_settles w result currents edge line next source operand facts served proper
+      ranked (of_left code opened.rows rest.rows of)
+      (λ n h. filled n (filled_left opened.rows rest.rows n h)) in
+      let between : List Fact = behind_rows code facts opened.rows in
+      let first = (hold_at (Serves code Stays w.numbers next.slots facts) currents w.currents rank
+      served.held has).0 in
+      let more = served_more code Stays w currents next.slots k facts between well.0.kept
+      (omega arith) served in
+      let inner = inside between
+      (served_under code Stays w currents k between rank
+      (record { region = no_region; mask = None }) (source_of opened) more
+      ((well.0.ready, well.1), tt))
+      (λ now. ap (λ (s : Slotted). s.slot)
+      (slotted_with currents w.currents rank (record { region = no_region; mask = None })
+      (source_of opened) now has)) in
+      let long = long_both next.slots opened.slots rest.slots in
+      let kept : KeepsBelow code next.slots facts inner.after =
+      below_more code next.slots k facts between inner.after (omega arith) well.0.kept inner.kept in
+      record {
+        after = inner.after;
+        is = both_are facts between inner.after opened.rows rest.rows refl inner.is;
+        met = both_met facts between opened.rows rest.rows refl well.0.met inner.met;
+        kept = kept;
+        over_stays = first.1;
+        stays = well.1;
+        deep = inner.deep;
+        usable = usable_both code Stays m inner.after (over_reference w.numbers over)
+            (referred w.numbers rest.slate)
+            (over_usable code Stays m inner.after w.numbers over
+            (usable_kept code Stays next.slots m facts inner.after kept (omega arith) over.slot
+            first))
+            (all_usable_kept code Stays (k + length rest.slots) m inner.after inner.after
+            (none_below code (k + length rest.slots) inner.after) (omega (arith, long))
+            (referred w.numbers rest.slate) inner.usable);
+      }
+
+  -- the copies of the indices of a remap read
+  wrapped_inside : (numbers : Numbers) (line : ℕ) (currents : Currents) (rank : Rank)
+      (over : Slotted) (thing : Option Thing) (all : Slates) → IsArrayRead currents rank thing
+      → AreWrapped code Stays numbers line (remap_slate over thing all)
+      → AllWrapped code Stays numbers line all
+  wrapped_inside numbers line currents rank over None all read wraps = absurd read.0
+  wrapped_inside numbers line currents rank over (Some (Scalar place)) all read wraps =
+      absurd read.0
+  wrapped_inside numbers line currents rank over (Some (Fixed value)) all read wraps =
+      absurd read.0
+  wrapped_inside numbers line currents rank over (Some (ArrayAt place home)) all read wraps = wraps
+
   mutual
     pub settled_well : (w : Where) (result : ℕ) (currents : Currents) (edge : Option Edge)
         (line : ℕ) (next : Next) (rank : Rank) (slot : ℕ) (one : Expr) (facts : List Fact)
@@ -586,9 +665,17 @@ module _ (code : Tables) (Stays : ℕ → Type 0) where
         (served.vectors shift) wraps
     settled_well w result currents edge line next rank slot (Remap at name indices) facts served
         here proper ranked wraps of filled =
-        remap_all w result currents edge line next rank slot name indices
-        (thing_of w.environment name.text) facts refl served here proper.0 proper.1 ranked.0 ranked.1
-        wraps of filled
+        let thing : Option Thing = thing_of w.environment name.text in
+        let over : Slotted = slotted_at w.currents rank in
+        let inside : Settled Slates = settled_all w line next rank indices in
+        let done = settled_all_well w result currents edge line next rank over.slot indices facts served
+        (λ has. refl) proper.1 ranked.1
+        (wrapped_inside w.numbers line currents rank over thing inside.slate proper.0 wraps) of filled
+        in
+        remap_settles w currents line next rank slot facts served here name thing inside refl proper.0
+        (ranked.0 ∙ ap Some (sym done.counted))
+        (subst (λ n. SettlesAll code Stays w.numbers line next over.slot n facts inside)
+        (sym done.counted) done)
     settled_well w result currents edge line next rank slot (Call at name actuals) facts served
         here proper ranked wraps of filled = absurd proper
     settled_well w result currents edge line next rank slot (Paren at inside) facts served here
@@ -686,8 +773,15 @@ module _ (code : Tables) (Stays : ℕ → Type 0) where
     settled_well w result currents edge line next rank slot
         (Reduce at operator (Bracketed source) operand) facts served here proper ranked wraps of
         filled =
-        let inner = source_well w result currents edge line next source operand facts served
-        proper.0 proper.1 (proper.2 no_region) ranked.1 (ranked.2 no_region) wraps of filled in
+        let opened : Opened = opened_source w next line source operand in
+        let rest : Settled Slate = rest_of w line next source operand in
+        let inner = source_well w result currents edge line next source operand facts served proper.0
+        proper.1 ranked.1 of filled
+        (λ between under same. settled_well (under_of w line next source operand) result
+        (currents_of w currents source operand) edge line (after_source w line next source operand)
+        (source_rank w source operand) opened.slot operand between under same (proper.2 no_region)
+        (ranked.2 no_region) wraps (of_right code opened.rows rest.rows of)
+        (λ n h. filled n (filled_right opened.rows rest.rows n h))) in
         record {
           after = inner.after;
           is = inner.is;
@@ -730,8 +824,15 @@ module _ (code : Tables) (Stays : ℕ → Type 0) where
         }
     settled_well w result currents edge line next rank slot (Flood at source operand) facts served
         here proper ranked wraps of filled =
-        let inner = source_well w result currents edge line next source operand facts served
-        proper.0 proper.1 (proper.2 no_region) ranked.1 (ranked.2 no_region) wraps of filled in
+        let opened : Opened = opened_source w next line source operand in
+        let rest : Settled Slate = rest_of w line next source operand in
+        let inner = source_well w result currents edge line next source operand facts served proper.0
+        proper.1 ranked.1 of filled
+        (λ between under same. settled_well (under_of w line next source operand) result
+        (currents_of w currents source operand) edge line (after_source w line next source operand)
+        (source_rank w source operand) opened.slot operand between under same (proper.2 no_region)
+        (ranked.2 no_region) wraps (of_right code opened.rows rest.rows of)
+        (λ n h. filled n (filled_right opened.rows rest.rows n h))) in
         record {
           after = inner.after;
           is = inner.is;
@@ -746,106 +847,6 @@ module _ (code : Tables) (Stays : ℕ → Type 0) where
           );
           usable = inner.usable;
         }
-
-    -- an operator's region, and its operand under it
-    source_well : (w : Where) (result : ℕ) (currents : Currents) (edge : Option Edge) (line : ℕ)
-        (next : Next) (source : Inner) (operand : Expr) (facts : List Fact)
-        → IsServed code Stays w currents next.slots facts
-        → HasCurrent currents (source_rank w source operand)
-        → IsProperRegion (place_at w result currents edge) (own_rank w.scope w.prefix operand) source
-        → IsProper
-        (place_at (under_of w line next source operand) result (currents_of w currents source operand)
-        edge) (source_rank w source operand) operand
-        → IsRegionOf (place_at w result currents edge) (own_rank w.scope w.prefix operand) source
-        → IsOfRank
-        (place_at (under_of w line next source operand) result (currents_of w currents source operand)
-        edge) (source_rank w source operand) operand
-        → AreWrapped code Stays w.numbers line (rest_of w line next source operand).slate
-        → AreOf code
-        ((opened_source w next line source operand).rows ++ (rest_of w line next source operand).rows)
-        → ((k : ℕ)
-        → In (filled_by ((opened_source w next line source operand).rows
-        ++ (rest_of w line next source operand).rows)) k → Stays k)
-        → SourceSettles code Stays w line next source operand facts
-    source_well w result currents edge line next source operand facts served has proper inside
-        ranked also wraps of filled =
-        let rank : Rank = source_rank w source operand in
-        let over : Slotted = slotted_at w.currents rank in
-        let opened : Opened = opened_source w next line source operand in
-        let under : Where = under_of w line next source operand in
-        let rest : Settled Slate = rest_of w line next source operand in
-        let k : ℕ = next.slots + length opened.slots in
-        let m : ℕ = next.slots + length (opened.slots ++ rest.slots) in
-        let well = opened_settles w result currents edge line next source operand facts served proper
-        ranked (of_left code opened.rows rest.rows of)
-        (λ n h. filled n (filled_left opened.rows rest.rows n h)) in
-        let between : List Fact = behind_rows code facts opened.rows in
-        let first = (hold_at (Serves code Stays w.numbers next.slots facts) currents w.currents rank
-        served.held has).0 in
-        let more = served_more code Stays w currents next.slots k facts between well.0.kept
-        (omega arith) served in
-        let inner = settled_well under result (currents_of w currents source operand) edge line
-        (after_source w line next source operand) rank opened.slot operand between
-        (served_under code Stays w currents k between rank
-        (record { region = no_region; mask = None }) (source_of opened) more
-        ((well.0.ready, well.1), tt))
-        (λ now. ap (λ (s : Slotted). s.slot)
-        (slotted_with currents w.currents rank (record { region = no_region; mask = None })
-        (source_of opened) now has)) inside also wraps (of_right code opened.rows rest.rows of)
-        (λ n h. filled n (filled_right opened.rows rest.rows n h)) in
-        let long = long_both next.slots opened.slots rest.slots in
-        let kept : KeepsBelow code next.slots facts inner.after =
-        below_more code next.slots k facts between inner.after (omega arith) well.0.kept inner.kept in
-        record {
-          after = inner.after;
-          is = both_are facts between inner.after opened.rows rest.rows refl inner.is;
-          met = both_met facts between opened.rows rest.rows refl well.0.met inner.met;
-          kept = kept;
-          over_stays = first.1;
-          stays = well.1;
-          deep = inner.deep;
-          usable = usable_both code Stays m inner.after (over_reference w.numbers over)
-              (referred w.numbers rest.slate)
-              (over_usable code Stays m inner.after w.numbers over
-              (usable_kept code Stays next.slots m facts inner.after kept (omega arith) over.slot
-              first))
-              (all_usable_kept code Stays (k + length rest.slots) m inner.after inner.after
-              (none_below code (k + length rest.slots) inner.after) (omega (arith, long))
-              (referred w.numbers rest.slate) inner.usable);
-        }
-
-    remap_all : (w : Where) (result : ℕ) (currents : Currents) (edge : Option Edge) (line : ℕ)
-        (next : Next) (rank : Rank) (slot : ℕ) (name : Name) (indices : Exprs)
-        (thing : Option Thing) (facts : List Fact) → thing_of w.environment name.text ≡ thing
-        → IsServed code Stays w currents next.slots facts
-        → (HasCurrent currents rank → (slotted_at w.currents rank).slot ≡ slot)
-        → IsArrayRead currents rank thing
-        → AreProper (place_at w result currents edge) rank indices
-        → array_rank (kind_of w.scope name) ≡ Some (exprs_count indices)
-        → AreOfRank (place_at w result currents edge) rank indices
-        → AreWrapped code Stays w.numbers line
-        (remap_slate (slotted_at w.currents rank) thing (settled_all w line next rank indices).slate)
-        → AreOf code (settled_all w line next rank indices).rows
-        → ((k : ℕ) → In (filled_by (settled_all w line next rank indices).rows) k → Stays k)
-        → Settles code Stays w.numbers line next slot facts
-        (mapped (remap_slate (slotted_at w.currents rank) thing)
-        (settled_all w line next rank indices))
-    remap_all w result currents edge line next rank slot name indices None facts is
-        served here read proper counted ranked wraps of filled = absurd read.0
-    remap_all w result currents edge line next rank slot name indices (Some (Scalar place)) facts is
-        served here read proper counted ranked wraps of filled = absurd read.0
-    remap_all w result currents edge line next rank slot name indices (Some (Fixed value)) facts is
-        served here read proper counted ranked wraps of filled = absurd read.0
-    remap_all w result currents edge line next rank slot name indices (Some (ArrayAt place home))
-        facts is served here read proper counted ranked wraps of filled =
-        let done = settled_all_well w result currents edge line next rank
-        (slotted_at w.currents rank).slot indices facts served (λ has. refl) proper ranked wraps of
-        filled in
-        remap_settles w currents line next rank slot facts served here name
-        (Some (ArrayAt place home)) (settled_all w line next rank indices) is read
-        (counted ∙ ap Some (sym done.counted))
-        (subst (λ n. SettlesAll code Stays w.numbers line next (slotted_at w.currents rank).slot n
-        facts (settled_all w line next rank indices)) (sym done.counted) done)
 
     settled_all_well : (w : Where) (result : ℕ) (currents : Currents) (edge : Option Edge)
         (line : ℕ) (next : Next) (rank : Rank) (slot : ℕ) (all : Exprs)

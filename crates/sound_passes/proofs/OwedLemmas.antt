@@ -14,7 +14,7 @@ use Rattle.sound_passes.specs.Owed.{FlatPassesAreFlat, FlatPassesKeep, IsMetAnyw
 
 module _ (keep : FlatPassesKeep) (flat : FlatPassesAreFlat) (code : Tables) (is : IsFlat code)
     (sound : IsUndecidedSound code) where
-  before : Tables
+  abbrev before : Tables
   before = checked (normalised code)
 
   before_flat : IsFlat before
