@@ -17,3 +17,4 @@ pub mod SettledLemmas
 pub mod StatementLemmas
 pub mod BorderLemmas
 pub mod PrefixLemmas
+pub mod LawLemmas

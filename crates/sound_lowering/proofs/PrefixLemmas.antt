@@ -22,16 +22,16 @@ use Rattle.zpl_lowering.specs.Lowered.{Lowered, behind}
 use Rattle.zpl_lowering.specs.Statement.{Calling, Lowering, current_for, is_last, lowered_under, of_opened, prefix_opened, under_prefix}
 use Rattle.lowering_fits.specs.Reach.{FitNames, IsStoredAs, place_at}
 use Rattle.node_check.specs.declared.facts.Fact.{Fact}
-use Rattle.sound_lowering.specs.Goes.{behind_rows}
+use Rattle.sound_lowering.specs.Goes.{RowsGo, behind_rows}
 use Rattle.sound_lowering.specs.Steady.{KeepsBelow}
 use Rattle.sound_lowering.specs.Tells.{IsReady}
 use Rattle.sound_lowering.specs.Deep.{AreOf, IsNumbered, IsOf}
 use Rattle.sound_lowering.specs.Served.{Serves}
+use Rattle.sound_lowering.specs.Statements.{AnySlot, IsKnown}
 use Rattle.sound_lowering.specs.Walks.{GoesFrom}
 use Rattle.sound_lowering.proofs.BracketLemmas.{OpensWell, bracket_well, computed_well}
 use Rattle.sound_lowering.proofs.SettledLemmas.{hold_with, served_more, stands_usable}
-use Rattle.sound_lowering.proofs.StatementLemmas.{AnySlot, IsKnown}
-use Rattle.sound_lowering.proofs.WalkLemmas.{rows_from, then_from}
+use Rattle.sound_lowering.proofs.WalkLemmas.{then_from}
 
 -- a mask that is an array has a number
 mask_numbered : (w : Where) (mask : Option MaskText) → FitNames w.scope w.environment w.numbers
@@ -129,7 +129,7 @@ module _ (code : Tables) where
       let between : List Fact = behind_rows code facts opened.rows in
       then_from code next.slots after.slots facts (piece.Rows opened.rows)
       (lowered_under borders (record { place = inner; call = call }) after prefixes rest).code
-      (omega arith) (rows_from code next.slots facts opened.rows well.met well.kept)
+      (omega arith) (record { after = between; goes = RowsGo well.met; kept = well.kept })
       (under_from call borders form rest prefixes inner result (with_over currents rank over)
       (edge_in w.setup.known
       (region_for (place_at w result currents edge) (mask_rank w.scope prefix.mask) prefix.region)

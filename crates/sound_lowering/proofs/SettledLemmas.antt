@@ -36,6 +36,7 @@ use Rattle.sound_lowering.specs.Steady.{KeepsBelow}
 use Rattle.sound_lowering.specs.Tells.{IsReady}
 use Rattle.sound_lowering.specs.Deep.{AreDeep, AreDeepAt, AreOf, HasIndices, IsDeep, IsNumbered, IsVector, count_of}
 use Rattle.sound_lowering.specs.Served.{AllHold, AllUsable, AllWrapped, AreWrapped, Holds, IsServed, IsUsable, Serves, filled_by}
+use Rattle.sound_lowering.specs.Statements.{AreGiven}
 use Rattle.sound_lowering.proofs.OldLemmas.{behind_both, below_more, met_both}
 use Rattle.sound_lowering.proofs.RoomLemmas.{of_left, of_right}
 use Rattle.sound_lowering.proofs.BracketLemmas.{OpensWell, StandsOn, bracket_well, ready_kept}
@@ -903,17 +904,6 @@ module _ (code : Tables) (Stays : ℕ → Type 0) where
         }
 
 -- ---- the expressions of a statement, each over a slot of its own
-module _ (w : Where) (result : ℕ) (currents : Currents) (edge : Option Edge) where
-  abbrev pub AreGiven : List ℕ → List Placed → Type 0
-  AreGiven [] [] = Unit {0}
-  AreGiven [] (one ∷ rest) = ⊥
-  AreGiven (slot ∷ slots) [] = ⊥
-  AreGiven (slot ∷ slots) (one ∷ rest) =
-      (HasCurrent currents one.rank → (slotted_at w.currents one.rank).slot ≡ slot)
-      × IsProper (place_at w result currents edge) one.rank one.expr
-      × IsOfRank (place_at w result currents edge) one.rank one.expr
-      × AreGiven slots rest
-
 pub record SettlesEach (code : Tables) (Stays : ℕ → Type 0) (numbers : Numbers) (line : ℕ)
     (next : Next) (slots : List ℕ) (facts : List Fact) (done : Settled Slates) : Type 0 where
   pub after : List Fact

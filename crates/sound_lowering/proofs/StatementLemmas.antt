@@ -31,20 +31,14 @@ use Rattle.sound_lowering.specs.Steady.{HasTree, IsSteady, Keeps, KeepsBelow}
 use Rattle.sound_lowering.specs.Tells.{AllTell, IsReady}
 use Rattle.sound_lowering.specs.Deep.{AreOf, AreReferred, IsOf}
 use Rattle.sound_lowering.specs.Served.{AllUsable, AllWrapped, IsServed, IsUsable, Serves, Staying, filled_by}
+use Rattle.sound_lowering.specs.Statements.{AnySlot, AreGiven, IsKnown}
 use Rattle.sound_lowering.specs.Walks.{GoesFrom}
 use Rattle.sound_lowering.proofs.OldLemmas.{below_more, filter_keeps, keeps_fewer, keeps_so, tree_so, tree_words}
 use Rattle.sound_lowering.proofs.RoomLemmas.{of_left, of_right}
 use Rattle.sound_lowering.proofs.OperatorLemmas.{TreesAt, mask_has, referred_left, referred_right}
 use Rattle.sound_lowering.proofs.PhaseLemmas.{HasPhases, phases_go}
 use Rattle.sound_lowering.proofs.WalkLemmas.{rows_from, then_from}
-use Rattle.sound_lowering.proofs.SettledLemmas.{AreGiven, all_usable_kept, hold_so, over_usable, refer_usable, settled_each_well, usable_both}
-
-abbrev AnySlot : ℕ → Type 0
-AnySlot slot = Unit {0}
-
--- what is in reach, and known of its slots, whatever rows fill
-abbrev pub IsKnown : Tables → Where → Currents → ℕ → List Fact → Type 0
-IsKnown code w currents n facts = IsServed code AnySlot w currents n facts
+use Rattle.sound_lowering.proofs.SettledLemmas.{all_usable_kept, hold_so, over_usable, refer_usable, settled_each_well, usable_both}
 
 module _ (code : Tables) where
   staying_usable : (n : ℕ) (facts : List Fact) (rows : List Row) (slot : ℕ)

@@ -6,3 +6,4 @@ pub mod Steady
 pub mod Deep
 pub mod Walks
 pub mod Served
+pub mod Statements
