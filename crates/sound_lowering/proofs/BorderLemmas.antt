@@ -5,7 +5,7 @@ use Rattle.std.proofs.lemmas.Bool.Decides.{Decides-eqb}
 use Rattle.code_parts.specs.of_zpl_nums.declared.ends.Border.{Border as BorderKind}
 use Rattle.code_parts.specs.of_zpl_nums.declared.ends.Border.TheVariants as border
 use Rattle.zpl_lowering.specs.of_zpl_tree.Syntax.{Name}
-use Rattle.zpl_meaning.specs.Store.{Thing, Scalar, ArrayAt, Fixed, thing_of}
+use Rattle.lowering_fits.specs.of_zpl_meaning.Store.{Thing, Scalar, ArrayAt, Fixed, thing_of}
 use Rattle.zpl_lowering.specs.of_node_form.declared.instructions.Instr.TheVariants as instr
 use Rattle.zpl_lowering.specs.of_node_form.declared.instructions.RegionForm.TheVariants as form
 use Rattle.zpl_lowering.specs.of_node_form.declared.tables.Tables.{Tables}

@@ -4,7 +4,7 @@ use Rattle.std.specs.Prelude.{Option, Some, None}
 use Rattle.zpl_lowering.specs.of_zpl_tree.Syntax.{Form, Program}
 use Rattle.zpl_lowering.specs.of_zpl_names.Kinds.{Rank}
 use Rattle.zpl_lowering.specs.of_zpl_names.Sites.{tests_rank}
-use Rattle.zpl_binding.specs.Settings.{Setting}
+use Rattle.lowering_fits.specs.of_zpl_binding.Settings.{Setting}
 use Rattle.zpl_lowering.specs.of_node_form.declared.instructions.Instr.TheVariants as instr
 use Rattle.zpl_lowering.specs.of_node_form.Expression.{Expression, Element, words_of}
 use Rattle.zpl_lowering.specs.of_row_runs.Code.{Jump, Unless}

@@ -3,7 +3,7 @@ use Rattle.std.proofs.Common.{◌≡◌, ℕ, List, [], ◌∷◌, ◌<◌}
 use Rattle.std.specs.Prelude.{Option}
 use Rattle.code_parts.specs.of_zpl_nums.declared.ends.Border.{Border as BorderKind}
 use Rattle.zpl_lowering.specs.of_zpl_tree.Syntax.{Name}
-use Rattle.zpl_meaning.specs.Context.{Currents, Edge}
+use Rattle.lowering_fits.specs.of_zpl_meaning.Context.{Currents, Edge}
 use Rattle.zpl_lowering.specs.of_node_form.declared.instructions.RegionForm.TheVariants as form
 use Rattle.zpl_lowering.specs.of_node_form.declared.tables.Tables.{Tables}
 use Rattle.code_parts.proofs.ListLemmas.{In}

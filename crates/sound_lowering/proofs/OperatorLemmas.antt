@@ -14,7 +14,7 @@ use Rattle.code_parts.specs.of_zpl_nums.Fold.{unit_of}
 use Rattle.code_parts.specs.of_zpl_region.declared.dims.Dim.{Dim}
 use Rattle.code_parts.specs.of_zpl_region.declared.dims.Dim.TheVariants as dim
 use Rattle.code_parts.specs.of_zpl_region.declared.regions.Region.{Region}
-use Rattle.zpl_meaning.specs.Context.{Mask}
+use Rattle.lowering_fits.specs.of_zpl_meaning.Context.{Mask}
 use Rattle.zpl_lowering.specs.of_node_form.declared.instructions.Instr.{Instr}
 use Rattle.zpl_lowering.specs.of_node_form.declared.instructions.Instr.TheVariants as instr
 use Rattle.zpl_lowering.specs.of_node_form.declared.instructions.SameKind.TheVariants as kind

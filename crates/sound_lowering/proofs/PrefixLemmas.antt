@@ -7,13 +7,13 @@ use Rattle.zpl_lowering.specs.of_zpl_names.Kinds.{Rank}
 use Rattle.zpl_lowering.specs.of_zpl_names.Scope.{kind_of}
 use Rattle.zpl_lowering.specs.of_zpl_names.Ranks.{array_shape, mask_rank}
 use Rattle.zpl_lowering.specs.of_zpl_names.Shapes.{prefix_rank}
-use Rattle.zpl_binding.specs.Regions.{no_region}
-use Rattle.zpl_meaning.specs.Store.{Thing, Scalar, ArrayAt, Fixed, thing_of}
-use Rattle.zpl_meaning.specs.Context.{Currents, Edge, Over, with_over}
-use Rattle.zpl_meaning.specs.Regions.{current_for as region_for, edge_in, mask_in, mask_thing}
-use Rattle.zpl_meaning.specs.Proper.{IsArray, IsProperForm, IsProperMask, IsProperPrefix, IsProperUnder}
-use Rattle.zpl_meaning.specs.Visited.{Behind, IsUnder, Itself}
-use Rattle.meaning_ranks.specs.Ranked.{IsRankedForm, IsRankedPrefix, IsRankedUnder}
+use Rattle.lowering_fits.specs.of_zpl_binding.Regions.{no_region}
+use Rattle.lowering_fits.specs.of_zpl_meaning.Store.{Thing, Scalar, ArrayAt, Fixed, thing_of}
+use Rattle.lowering_fits.specs.of_zpl_meaning.Context.{Currents, Edge, Over, with_over}
+use Rattle.lowering_fits.specs.of_zpl_meaning.Regions.{current_for as region_for, edge_in, mask_in, mask_thing}
+use Rattle.lowering_fits.specs.of_zpl_meaning.Proper.{IsArray, IsProperForm, IsProperMask, IsProperPrefix, IsProperUnder}
+use Rattle.lowering_fits.specs.of_zpl_meaning.Visited.{Behind, IsUnder, Itself}
+use Rattle.lowering_fits.specs.of_meaning_ranks.Ranked.{IsRankedForm, IsRankedPrefix, IsRankedUnder}
 use Rattle.zpl_lowering.specs.of_node_form.declared.tables.Tables.{Tables}
 use Rattle.zpl_lowering.specs.of_row_runs.Structured as piece
 use Rattle.zpl_lowering.specs.Where.{Next, Slotted, Stored, Where, line_of}

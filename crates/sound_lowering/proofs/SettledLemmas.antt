@@ -10,14 +10,14 @@ use Rattle.zpl_lowering.specs.of_zpl_tree.Syntax.{Name, Expr, Number, Truth, Coo
 use Rattle.zpl_lowering.specs.of_zpl_names.Kinds.{Rank, Shape}
 use Rattle.zpl_lowering.specs.of_zpl_names.Scope.{kind_of}
 use Rattle.zpl_lowering.specs.of_zpl_names.Ranks.{array_rank, array_shape, exprs_count, inner_rank, is_index, operand_rank, own_rank, region_shape}
-use Rattle.zpl_binding.specs.Regions.{no_region}
+use Rattle.lowering_fits.specs.of_zpl_binding.Regions.{no_region}
 use Rattle.code_parts.specs.of_zpl_arrays.Around.{copy_shift, each_rest, zeros}
 use Rattle.code_parts.specs.of_zpl_region.Ends.{has_none}
-use Rattle.zpl_meaning.specs.Store.{Thing, Scalar, ArrayAt, Fixed, thing_of}
-use Rattle.zpl_meaning.specs.Context.{Currents, Edge, Mask, Over, with_over}
-use Rattle.zpl_meaning.specs.Regions.{vector_in}
-use Rattle.zpl_meaning.specs.Proper.{AreProper, HasCurrent, IsArrayRank, IsArrayRead, IsProper, IsProperRegion, IsRead}
-use Rattle.meaning_ranks.specs.Ranked.{AreOfRank, IsOfRank, IsRegionOf}
+use Rattle.lowering_fits.specs.of_zpl_meaning.Store.{Thing, Scalar, ArrayAt, Fixed, thing_of}
+use Rattle.lowering_fits.specs.of_zpl_meaning.Context.{Currents, Edge, Mask, Over, with_over}
+use Rattle.lowering_fits.specs.of_zpl_meaning.Regions.{vector_in}
+use Rattle.lowering_fits.specs.of_zpl_meaning.Proper.{AreProper, HasCurrent, IsArrayRank, IsArrayRead, IsProper, IsProperRegion, IsRead}
+use Rattle.lowering_fits.specs.of_meaning_ranks.Ranked.{AreOfRank, IsOfRank, IsRegionOf}
 use Rattle.zpl_lowering.specs.of_node_form.declared.tables.Tables.{Tables}
 use Rattle.code_parts.specs.Uses.{written_slots}
 use Rattle.code_parts.proofs.ListLemmas.{In, in_append, in_back, in_front}

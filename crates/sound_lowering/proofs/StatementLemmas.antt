@@ -5,8 +5,8 @@ use Rattle.std.specs.Prelude.{Option, Some, None, filter, option_map, slice_get}
 use Rattle.zpl_lowering.specs.of_zpl_tree.Syntax.{Dir, Name}
 use Rattle.zpl_lowering.specs.of_zpl_names.Scope.{kind_of}
 use Rattle.zpl_lowering.specs.of_zpl_names.Ranks.{region_shape}
-use Rattle.zpl_meaning.specs.Context.{Currents, Edge}
-use Rattle.zpl_meaning.specs.Regions.{vector_in}
+use Rattle.lowering_fits.specs.of_zpl_meaning.Context.{Currents, Edge}
+use Rattle.lowering_fits.specs.of_zpl_meaning.Regions.{vector_in}
 use Rattle.zpl_lowering.specs.of_node_form.declared.instructions.Instr.TheVariants as instr
 use Rattle.zpl_lowering.specs.of_node_form.declared.tables.Tables.{Tables}
 use Rattle.zpl_lowering.specs.of_node_form.Expression.{Expression, words_of}

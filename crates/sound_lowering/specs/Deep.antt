@@ -5,7 +5,7 @@
 --   IsDeep       each element is read under the slot over which it is computed
 use Rattle.std.specs.Prelude.{◌≡◌, ℕ, suc, ◌+◌, ◌≤◌, true, ℤ, List, [], ◌∷◌, Option, Some, None, slice_get, length, take}
 use Rattle.code_parts.specs.of_zpl_region.declared.regions.Region.{Region}
-use Rattle.zpl_meaning.specs.Context.{Mask}
+use Rattle.lowering_fits.specs.of_zpl_meaning.Context.{Mask}
 use Rattle.zpl_lowering.specs.of_node_form.declared.instructions.Instr.TheVariants as instr
 use Rattle.zpl_lowering.specs.of_node_form.declared.tables.Tables.{Tables}
 use Rattle.code_parts.proofs.ListLemmas.{In}

@@ -3,8 +3,8 @@ use Rattle.std.specs.Prelude.{◌≡◌, ◌⊎◌, ◌++◌, ℕ, ◌<◌, List
 use Rattle.zpl_lowering.specs.of_zpl_tree.Syntax.{Dir, Name}
 use Rattle.zpl_lowering.specs.of_zpl_names.Scope.{kind_of}
 use Rattle.zpl_lowering.specs.of_zpl_names.Ranks.{region_shape}
-use Rattle.zpl_meaning.specs.Context.{Currents, Over}
-use Rattle.zpl_meaning.specs.Regions.{vector_in}
+use Rattle.lowering_fits.specs.of_zpl_meaning.Context.{Currents, Over}
+use Rattle.lowering_fits.specs.of_zpl_meaning.Regions.{vector_in}
 use Rattle.zpl_lowering.specs.of_node_form.declared.tables.Tables.{Tables}
 use Rattle.code_parts.specs.Uses.{written_slots}
 use Rattle.code_parts.proofs.ListLemmas.{In}

@@ -4,9 +4,9 @@
 --   IsKnown   the slots of declared regions and of current ones are known well enough
 --   AreGiven  expressions with the slots over which they are computed: proper, and of their ranks
 use Rattle.std.specs.Prelude.{◌≡◌, ℕ, List, [], ◌∷◌, Option}
-use Rattle.zpl_meaning.specs.Context.{Currents, Edge}
-use Rattle.zpl_meaning.specs.Proper.{HasCurrent, IsProper}
-use Rattle.meaning_ranks.specs.Ranked.{IsOfRank}
+use Rattle.lowering_fits.specs.of_zpl_meaning.Context.{Currents, Edge}
+use Rattle.lowering_fits.specs.of_zpl_meaning.Proper.{HasCurrent, IsProper}
+use Rattle.lowering_fits.specs.of_meaning_ranks.Ranked.{IsOfRank}
 use Rattle.zpl_lowering.specs.of_node_form.declared.tables.Tables.{Tables}
 use Rattle.zpl_lowering.specs.Where.{Where, slotted_at}
 use Rattle.zpl_lowering.specs.Slate.{Placed}

@@ -6,7 +6,7 @@
 
 ghost use Rattle.std.specs.Prelude.{◌≡◌, ◌++◌, ◌∷◌, ℕ, List, [], Some, slice_get, true};
 ghost use Rattle.zpl_lowering.specs.of_zpl_tree.Syntax.{Program};
-ghost use Rattle.zpl_binding.specs.Settings.{Setting};
+ghost use Rattle.lowering_fits.specs.of_zpl_binding.Settings.{Setting};
 ghost use Rattle.zpl_lowering.specs.of_node_form.declared.instructions.Instr.{Instr};
 ghost use Rattle.zpl_lowering.specs.of_node_form.declared.instructions.Instr.TheVariants as instr;
 ghost use Rattle.zpl_lowering.specs.of_node_form.declared.tables.Tables.{Tables as Code};
@@ -28,7 +28,7 @@ ghost use Rattle.sound_lowering.specs.Uniform.{AreFolded, AreTaken, asks_scalars
 ghost use Rattle.std.specs.Prelude.{◌<◌, ◌≤◌, Option};
 ghost use Rattle.code_parts.specs.of_zpl_nums.declared.ends.Border.{Border as BorderKind};
 ghost use Rattle.zpl_lowering.specs.of_zpl_tree.Syntax.{Name};
-ghost use Rattle.zpl_meaning.specs.Context.{Currents, Edge};
+ghost use Rattle.lowering_fits.specs.of_zpl_meaning.Context.{Currents, Edge};
 ghost use Rattle.zpl_lowering.specs.of_node_form.declared.instructions.RegionForm.TheVariants as form;
 ghost use Rattle.code_parts.proofs.ListLemmas.{In};
 ghost use Rattle.zpl_lowering.specs.of_row_runs.Structured as piece;
